@@ -1,0 +1,9 @@
+-- `Canon`: canonical words, piece by piece. `Powers`: the powers of a word list, and the list of given powers. `Walks`: what a walk knows of the rest.
+pub mod Canon
+pub mod Powers
+pub mod Walks
+pub mod Sums
+pub mod Orders
+pub mod Divisions
+pub mod Lawful
+pub mod Laws

@@ -1,0 +1,82 @@
+use native.Mathlib.Omega.{arith}
+use mathlib.Core.Path.{_≡_, refl, sym, ap, _∙_}
+use Prim.Native.Nat.{_+_, _-_, _*_}
+use lib.ListN.{take, drop}
+use Rattle.words.specs.Words.{words}
+use Rattle.words.proofs.Laws.{length-words}
+use Rattle.monomial.specs.Monomial.{found}
+use Rattle.monomial.proofs.Canon.{front-within}
+use borrow.Author.Needs.{needs}
+use Rattle.monomial.proofs.canonical_at.Statement.{statement}
+use Rattle.monomial.proofs.canonical_at.Tie as tie
+use Rattle.monomial.proofs.canonical_at.Reads as reads
+use Rattle.monomial.proofs.canonical_at.Lts as lts
+use Rattle.monomial.proofs.canonical_words.Reads as canonical-words-reads
+
+-- src/lib.rt:95:9
+canonical-words-requires : tie.Need-canonical-words-requires
+canonical-words-requires c κs = search needs
+
+-- src/lib.rt:97:16
+sub-result : tie.Need-sub-result
+sub-result c = search needs
+
+-- src/lib.rt:97:16
+part-result-start : tie.Need-part-result-start
+part-result-start c = search needs
+
+-- src/lib.rt:97:16
+part-result-end : tie.Need-part-result-end
+part-result-end c = search needs
+
+-- src/lib.rt:97:9
+returns : tie.Need-returns
+unfolding found
+returns c = rw (← (c .before .before .canonical-words .ensures), c .before .if1 .taken)
+
+-- src/lib.rt:99:13
+mul-a : tie.Need-mul-a
+mul-a c = omega (arith, front-within _ _ (c .before .before .before .args .at) (c .before .canonical-words .result) (words (c .before .before .before .args .s .now)) (c .before .canonical-words .ensures) (c .if1 .left), length-words (c .before .before .before .args .s .now))
+
+-- src/lib.rt:100:17
+mul-e : tie.Need-mul-e
+mul-e c = omega (arith, front-within _ _ (c .before .before .before .args .at) (c .before .canonical-words .result) (words (c .before .before .before .args .s .now)) (c .before .canonical-words .ensures) (c .if1 .left), length-words (c .before .before .before .args .s .now))
+
+-- src/lib.rt:100:13
+add-e : tie.Need-add-e
+add-e c = omega (arith, front-within _ _ (c .before .before .before .args .at) (c .before .canonical-words .result) (words (c .before .before .before .args .s .now)) (c .before .canonical-words .ensures) (c .if1 .left), length-words (c .before .before .before .args .s .now))
+
+-- src/lib.rt:101:5
+sub-result-2 : tie.Need-sub-result-2
+sub-result-2 c = search needs
+
+-- src/lib.rt:101:5
+part-result-start-2 : tie.Need-part-result-start-2
+part-result-start-2 c = search needs
+
+-- src/lib.rt:101:5
+part-result-end-2 : tie.Need-part-result-end-2
+part-result-end-2 c = omega (arith, front-within _ _ (c .before .before .before .args .at) (c .before .canonical-words .result) (words (c .before .before .before .args .s .now)) (c .before .canonical-words .ensures) (c .if1 .left), length-words (c .before .before .before .args .s .now))
+
+-- src/lib.rt:91:1
+returns-2 : tie.Need-returns-2
+unfolding found
+returns-2 c = let e : 4 * (c .before .before .before .before .args .at) + 4 * (c .before .before .canonical-words .result) - 4 * (c .before .before .before .before .args .at) ≡ 4 * (c .before .before .canonical-words .result) = omega arith in
+    rw (e, ← (c .before .before .canonical-words .ensures))
+
+pub canonical-at-spec : {M : Type 1} → statement M
+canonical-at-spec =
+    tie.close
+    (tie.spec
+    canonical-words-requires
+    sub-result
+    part-result-start
+    part-result-end
+    returns
+    mul-a
+    mul-e
+    add-e
+    sub-result-2
+    part-result-start-2
+    part-result-end-2
+    returns-2)

@@ -1,0 +1,72 @@
+use native.Mathlib.Omega.{arith}
+use borrow.Author.Needs.{needs}
+use mathlib.Core.Path.{_≡_, refl, sym, _∙_}
+use Prim.Native.Nat.{_-_, _≤_}
+use lib.ListN.{length, drop}
+use Rattle.words.specs.Words.{words}
+use Rattle.words.proofs.Laws.{length-words}
+use Rattle.monomial.specs.Operations.{equal}
+use Rattle.monomial.proofs.Divisions.{equal-at, differ-at, equal-end, other-length}
+use Rattle.monomial.proofs.eq.Statement.{statement}
+use Rattle.monomial.proofs.eq.Tie as tie
+use Rattle.monomial.proofs.eq.Reads as reads
+use Rattle.monomial.proofs.eq.Lts as lts
+use Rattle.words.proofs.get.Reads as get-reads
+
+abbrev Inv-loop : tie.InvT-loop
+Inv-loop a b n i₀ i = (i ≤ n) × (equal (words a) (words b) ≡ equal (drop i (words a)) (drop i (words b)))
+
+abbrev μ-loop : tie.MeasureT-loop
+μ-loop a b n i₀ i = n - i
+
+-- src/lib.rt:176:9
+returns : tie.Need-returns Inv-loop μ-loop
+returns c = sym (other-length (words (c .before .before .before .args .a .now)) (words (c .before .before .before .args .b .now)) (λ e. (c .if1 .taken) (omega (arith, length-words (c .before .before .before .args .a .now), length-words (c .before .before .before .args .b .now)))))
+
+-- src/lib.rt:179:5
+loop-holds : tie.Need-loop-holds Inv-loop μ-loop
+loop-holds c = (omega arith, refl)
+
+-- src/lib.rt:180:12
+get-requires : tie.Need-get-requires Inv-loop μ-loop
+get-requires c κs = search needs
+
+-- src/lib.rt:180:32
+get-requires-2 : tie.Need-get-requires-2 Inv-loop μ-loop
+get-requires-2 c κs = search needs
+
+-- src/lib.rt:181:13
+returns-2 : tie.Need-returns-2 Inv-loop μ-loop
+returns-2 c = sym (c .before .before .before .before .loop .inv .1 ∙ differ-at (words (c .before .before .before .before .before .before .before .before .args .a .now)) (words (c .before .before .before .before .before .before .before .before .args .b .now)) (c .before .before .before .before .loop .i) (omega (arith, length-words (c .before .before .before .before .before .before .before .before .args .a .now), length-words (c .before .before .before .before .before .before .before .before .args .b .now))) (omega (arith, length-words (c .before .before .before .before .before .before .before .before .args .a .now), length-words (c .before .before .before .before .before .before .before .before .args .b .now))) (λ e. (c .if2 .taken) (c .before .before .get .ensures ∙ e ∙ sym (c .before .get2 .ensures))))
+
+-- src/lib.rt:183:9
+add-i : tie.Need-add-i Inv-loop μ-loop
+add-i c = search needs
+
+-- src/lib.rt:179:5
+loop-less : tie.Need-loop-less Inv-loop μ-loop
+loop-less c = search needs
+
+-- src/lib.rt:179:5
+loop-again : tie.Need-loop-again Inv-loop μ-loop
+loop-again c = (omega arith, c .before .before .before .before .loop .inv .1 ∙ equal-at (words (c .before .before .before .before .before .before .before .before .args .a .now)) (words (c .before .before .before .before .before .before .before .before .args .b .now)) (c .before .before .before .before .loop .i) (omega (arith, length-words (c .before .before .before .before .before .before .before .before .args .a .now), length-words (c .before .before .before .before .before .before .before .before .args .b .now))) (omega (arith, length-words (c .before .before .before .before .before .before .before .before .args .a .now), length-words (c .before .before .before .before .before .before .before .before .args .b .now))) (sym (c .before .before .get .ensures) ∙ c .if2 .left ∙ c .before .get2 .ensures))
+
+-- src/lib.rt:171:1
+returns-3 : tie.Need-returns-3 Inv-loop μ-loop
+returns-3 c = sym (c .before .loop .inv .1 ∙ equal-end (words (c .before .before .before .before .before .args .a .now)) (words (c .before .before .before .before .before .args .b .now)) (c .before .loop .i) (omega (arith, length-words (c .before .before .before .before .before .args .a .now), length-words (c .before .before .before .before .before .args .b .now))) (omega (arith, length-words (c .before .before .before .before .before .args .a .now), length-words (c .before .before .before .before .before .args .b .now))))
+
+pub eq-spec : {M : Type 1} → statement M
+eq-spec =
+    tie.close
+    (tie.spec
+    Inv-loop
+    μ-loop
+    returns
+    loop-holds
+    get-requires
+    get-requires-2
+    returns-2
+    add-i
+    loop-less
+    loop-again
+    returns-3)

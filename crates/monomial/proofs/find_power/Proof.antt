@@ -1,0 +1,71 @@
+use native.Mathlib.Omega.{arith}
+use borrow.Author.Needs.{needs}
+use Prim.Native.Nat.{_-_}
+use lib.ListN.{length}
+use Rattle.words.specs.Words.{words}
+use Rattle.words.proofs.Laws.{length-words}
+use Rattle.monomial.proofs.Walks.{start, within}
+use Rattle.monomial.proofs.Divisions.{Finding, absent-here, found-here, found-later}
+use Rattle.monomial.proofs.find_power.Statement.{statement}
+use Rattle.monomial.proofs.find_power.Tie as tie
+use Rattle.monomial.proofs.find_power.Reads as reads
+use Rattle.monomial.proofs.find_power.Lts as lts
+use Rattle.words.proofs.get.Reads as get-reads
+
+abbrev Inv-loop : tie.InvT-loop
+Inv-loop m kind v upper i₀ i = Finding kind (words m) v i
+
+abbrev μ-loop : tie.MeasureT-loop
+μ-loop m kind v upper i₀ i = length (words m) - i
+
+-- src/lib.rt:122:17
+mul-upper : tie.Need-mul-upper Inv-loop μ-loop
+mul-upper c = search needs
+
+-- src/lib.rt:122:17
+add-upper : tie.Need-add-upper Inv-loop μ-loop
+add-upper c = search needs
+
+-- src/lib.rt:124:5
+loop-holds : tie.Need-loop-holds Inv-loop μ-loop
+loop-holds c = record { b = 4096; below = c .before .pre .0 .1 .1; ra = start (c .before .pre .1) }
+
+-- src/lib.rt:125:13
+get-requires : tie.Need-get-requires Inv-loop μ-loop
+get-requires c κs = omega (arith, within (c .loop .inv .ra), length-words (c .before .before .args .m .now))
+
+-- src/lib.rt:127:13
+returns : tie.Need-returns Inv-loop μ-loop
+returns c = absent-here (c .before .before .before .before .args .kind) (c .before .before .before .before .pre .0 .0) (words (c .before .before .before .before .args .m .now)) (c .before .before .before .before .pre .1) (c .before .before .before .before .args .v) (c .before .before .loop .i) (c .before .before .loop .inv) (c .before .get .result) (c .before .get .ensures) (c .if1 .taken)
+
+-- src/lib.rt:130:13
+returns-2 : tie.Need-returns-2 Inv-loop μ-loop
+returns-2 c = found-here (c .before .before .before .before .before .args .kind) (c .before .before .before .before .before .pre .0 .0) (words (c .before .before .before .before .before .args .m .now)) (c .before .before .before .before .before .pre .1) (c .before .before .before .before .before .args .v) (c .before .before .before .loop .i) (c .before .before .before .loop .inv) (c .before .before .get .result) (c .before .before .get .ensures) (c .if2 .taken)
+
+-- src/lib.rt:132:9
+add-i : tie.Need-add-i Inv-loop μ-loop
+add-i c = omega (arith, within (c .before .before .before .loop .inv .ra), length-words (c .before .before .before .before .before .args .m .now))
+
+-- src/lib.rt:124:5
+loop-less : tie.Need-loop-less Inv-loop μ-loop
+loop-less c = omega (arith, within (c .before .before .before .loop .inv .ra))
+
+-- src/lib.rt:124:5
+loop-again : tie.Need-loop-again Inv-loop μ-loop
+loop-again c = found-later (c .before .before .before .before .before .args .kind) (c .before .before .before .before .before .pre .0 .0) (words (c .before .before .before .before .before .args .m .now)) (c .before .before .before .before .before .pre .1) (c .before .before .before .before .before .args .v) (c .before .before .before .loop .i) (c .before .before .before .loop .inv) (c .before .before .get .result) (c .before .before .get .ensures) (omega arith)
+
+pub find-power-spec : {M : Type 1} → statement M
+find-power-spec =
+    tie.close
+    (tie.spec
+    Inv-loop
+    μ-loop
+    mul-upper
+    add-upper
+    loop-holds
+    get-requires
+    returns
+    returns-2
+    add-i
+    loop-less
+    loop-again)

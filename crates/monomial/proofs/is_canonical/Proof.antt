@@ -1,0 +1,34 @@
+use native.Mathlib.Omega.{arith}
+use borrow.Author.Tests.{lt-ltb, le-ltb}
+use lib.ListN.{length}
+use Rattle.words.specs.Words.{words}
+use Rattle.words.proofs.Laws.{length-words}
+use Rattle.monomial.specs.Monomial.{lent}
+use Rattle.monomial.proofs.Canon.{front-short}
+use borrow.Author.Needs.{needs}
+use Rattle.monomial.proofs.is_canonical.Statement.{statement}
+use Rattle.monomial.proofs.is_canonical.Tie as tie
+use Rattle.monomial.proofs.is_canonical.Reads as reads
+use Rattle.monomial.proofs.is_canonical.Lts as lts
+use Rattle.monomial.proofs.canonical_words.Reads as canonical-words-reads
+
+-- src/lib.rt:84:9
+returns : tie.Need-returns
+unfolding lent
+returns c = simp (le-ltb 0 (length (c .before .before .args .s .now)) (omega arith))
+
+-- src/lib.rt:86:9
+canonical-words-requires : tie.Need-canonical-words-requires
+canonical-words-requires c κs = search needs
+
+-- src/lib.rt:87:5
+mul-result : tie.Need-mul-result
+mul-result c = omega (arith, c .canonical-words .ensures, front-short (c .before .before .before .args .kind) (c .before .before .before .args .variables) 0 (words (c .before .before .before .args .s .now)), length-words (c .before .before .before .args .s .now))
+
+-- src/lib.rt:79:1
+returns-2 : tie.Need-returns-2
+unfolding lent
+returns-2 c = rw (c .canonical-words .ensures, lt-ltb 0 (length (c .before .before .before .args .s .now)) (omega arith))
+
+pub is-canonical-spec : {M : Type 1} → statement M
+is-canonical-spec = tie.close (tie.spec returns canonical-words-requires mul-result returns-2)

@@ -1,0 +1,75 @@
+use native.Mathlib.Omega.{arith}
+use borrow.Author.Tests.{eq-eqb, ne-eqb, lt-ltb, le-ltb, le-leb, lt-leb}
+use Rattle.monomial.specs.Monomial.{isVar}
+use Prim.Native.Nat.{_%_}
+use borrow.Author.Needs.{needs}
+use Rattle.monomial.proofs.is_variable.Statement.{statement}
+use Rattle.monomial.proofs.is_variable.Tie as tie
+use Rattle.monomial.proofs.is_variable.Reads as reads
+use Rattle.monomial.proofs.is_variable.Lts as lts
+
+-- src/lib.rt:33:9
+returns : tie.Need-returns
+unfolding isVar
+returns c = simp (ne-eqb _ _ (c .if1 .taken))
+
+-- src/lib.rt:36:9
+returns-2 : tie.Need-returns-2
+unfolding isVar
+returns-2 c = simp (eq-eqb _ _ (c .before .if1 .left), le-ltb _ _ (c .if2 .taken))
+
+-- src/lib.rt:40:9
+returns-3 : tie.Need-returns-3
+unfolding isVar
+returns-3 c = simp (eq-eqb _ _ (c .before .before .if1 .left), lt-ltb _ _ (c .before .if2 .left), le-ltb 0 ((c .before .before .before .args .w) % 65536) (omega arith))
+
+-- src/lib.rt:42:25
+sub-if4 : tie.Need-sub-if4
+sub-if4 c = search needs
+
+-- src/lib.rt:42:16
+mul-if4 : tie.Need-mul-if4
+mul-if4 c = search needs
+
+-- src/lib.rt:42:8
+add-if4 : tie.Need-add-if4
+add-if4 c = search needs
+
+-- src/lib.rt:43:9
+returns-4 : tie.Need-returns-4
+unfolding isVar
+returns-4 c = simp (eq-eqb _ _ (c .before .before .before .if1 .left), lt-ltb _ _ (c .before .before .if2 .left), lt-ltb 0 ((c .before .before .before .before .args .w) % 65536) (omega arith), lt-leb _ _ (c .if4 .taken))
+
+-- src/lib.rt:45:22
+sub-if5 : tie.Need-sub-if5
+sub-if5 c = search needs
+
+-- src/lib.rt:45:13
+mul-if5 : tie.Need-mul-if5
+mul-if5 c = search needs
+
+-- src/lib.rt:46:9
+returns-5 : tie.Need-returns-5
+unfolding isVar
+returns-5 c = simp (eq-eqb _ _ (c .before .before .before .before .if1 .left), lt-ltb _ _ (c .before .before .before .if2 .left), lt-ltb 0 ((c .before .before .before .before .before .args .w) % 65536) (omega arith), le-leb _ _ (c .before .if4 .left), eq-eqb _ _ (c .if5 .taken))
+
+-- src/lib.rt:28:1
+returns-6 : tie.Need-returns-6
+unfolding isVar
+returns-6 c = simp (eq-eqb _ _ (c .before .before .before .before .if1 .left), lt-ltb _ _ (c .before .before .before .if2 .left), lt-ltb 0 ((c .before .before .before .before .before .args .w) % 65536) (omega arith), le-leb _ _ (c .before .if4 .left), ne-eqb _ _ (c .if5 .left))
+
+pub is-variable-spec : {M : Type 1} → statement M
+is-variable-spec =
+    tie.close
+    (tie.spec
+    returns
+    returns-2
+    returns-3
+    sub-if4
+    mul-if4
+    add-if4
+    returns-4
+    sub-if5
+    mul-if5
+    returns-5
+    returns-6)

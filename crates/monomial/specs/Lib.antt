@@ -1,0 +1,4 @@
+pub mod Monomial
+pub mod Operations
+pub mod Order
+pub mod Walk
