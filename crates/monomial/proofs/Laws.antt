@@ -12,7 +12,7 @@ use lib.ListN.{length, take}
 use borrow.Author.Tests.{eqb-true, ltb-true, lt-ltb, eq-eqb}
 use Rattle.words.specs.Kinds.{kind, payload, ident}
 use Rattle.words.specs.Words.{words}
-use Rattle.words.proofs.Laws.{length-words}
+use Rattle.words.proofs.Laws.{length-words, Words}
 use Rattle.monomial.specs.Monomial.{bias, front, Canonical, lent, pow, monomialOf}
 use Rattle.monomial.specs.Operations.{met, kindOf, powers, result, Divides, divides}
 use Rattle.monomial.specs.Order.{compare, andThen, total, revlex, grevlex, order}
@@ -20,8 +20,8 @@ use Rattle.monomial.specs.declared.ordered_ops.Op.{Op}
 use Rattle.monomial.specs.declared.ordered_ops.Op.the-variants.{Gcd, Product, Quotient, Ratio}
 use Rattle.monomial.specs.declared.monomial_ordering.CmpOrd.{CmpOrd}
 use Rattle.monomial.specs.declared.monomial_ordering.CmpOrd.the-variants.{Less, Equal, Greater}
-use Rattle.monomial.proofs.Canon.{IsVar, IsEnd, Canon, both-true, front-none, front-cases, front-end, front-var, var-is, front-of-canon, canon-of, canonical-of}
-use Rattle.monomial.proofs.Powers.{InRange, pow-ids, powers-in-range, absent-above, pow-monomial, canonical-monomial, monomial-length, canonical-unique}
+use Rattle.monomial.proofs.Canon.{IsVar, IsEnd, Canon, both-true, front-none, front-cases, front-end, front-var, var-is, front-of-canon, canon-of, canonical-of, raise}
+use Rattle.monomial.proofs.Powers.{InRange, pow-ids, powers-in-range, absent-above, pow-monomial, canonical-monomial, monomial-length, monomial-small, canonical-unique}
 use Rattle.monomial.proofs.Divisions.{divides-by, at-most}
 use Rattle.monomial.proofs.Sums.{met-zero, met-small, kind-small}
 use Rattle.monomial.proofs.Orders.{Trichotomy, less, equal, greater, trichotomy, compare-equal, revlex-suc}
@@ -90,6 +90,11 @@ module _ (m : ℕ) (a b : List ℕ) (ca : Canonical 1 m a) (cb : Canonical 1 m b
   pub length-result : (o : Op) → m ≤ 4096 → length (result o a b) ≤ m + 1
   unfolding result powers
   length-result o l = monomial-length (kindOf o) m (λ v. met o (pow 1 a v) (pow 1 b v)) l (absent o)
+
+  pub result-small : (o : Op) → Words (result o a b)
+  unfolding result powers
+  result-small o =
+      monomial-small (kindOf o) (λ v. met o (pow 1 a v) (pow 1 b v)) (kind-small o .1) (λ v. met-small o _ _ (high a ca v) (high b cb v))
 
   -- a product is canonical exactly where no power is too large
   pub product-canonical : m ≤ 4096 → Canonical 1 m (result Product a b) ↔ ((v : ℕ) → pow 1 a v + pow 1 b v ≤ 32767)
@@ -204,3 +209,7 @@ lent-canonical k m s = (to, from)
     from (z, c) =
         let l = length-words s in
         simp (lt-ltb 0 (length s) (omega (arith, c .some)), eq-eqb (4 * front k m 0 (words s)) (length s) (omega (arith, c .whole)))
+
+-- canonical in some variables is canonical in more; an id has 12 bits
+pub canonical-more : {k m n : ℕ} {ws : List ℕ} → 0 < k → m ≤ n → Canonical k m ws → Canonical k n ws
+canonical-more {k} {m} {n} {ws} pos h c = canonical-of pos (raise k m 0 ws n h (canon-of c))

@@ -3,7 +3,7 @@ use mathlib.Core.Path.{_≡_, refl, sym, ap, _∙_}
 use mathlib.Core.Bool.{Bool, true, false, cond, _&&_}
 use mathlib.Core.List.{List, [], _∷_, _++_}
 use mathlib.Core.Logic.{_⊎_, inl, inr}
-use Prim.Native.Nat.{ℕ, zero, suc, _+_, _-_, _*_, _/_, _%_, _≤_, _<_}
+use Prim.Native.Nat.{ℕ, zero, suc, _+_, _-_, _*_, _/_, _%_, _^_, _≤_, _<_}
 use native.Mathlib.Omega.{arith}
 use native.Mathlib.Decide.{ℕ-discrete, decLe}
 use lib.Dec.{eqb}
@@ -11,7 +11,8 @@ use native.Mathlib.Nat.{zero-add}
 use lib.ListN.{length, length-append}
 use borrow.Author.Tests.{eq-eqb, ne-eqb}
 use Rattle.words.specs.Kinds.{kind, payload, ident, power, varWord, endWord}
-use Rattle.words.proofs.Fields.{kind-var, ident-var, power-var}
+use Rattle.words.proofs.Fields.{kind-var, ident-var, power-var, var-fits}
+use Rattle.words.proofs.Laws.{Words}
 use Rattle.monomial.specs.Monomial.{bias, Canonical, find, powerOf, pow, varsOf, monomialOf}
 use Rattle.monomial.specs.declared.Power.the-variants.{Found, Absent}
 use Rattle.monomial.proofs.Canon.{IsVar, IsEnd, Canon, canon-of, canonical-of, raise, lower}
@@ -228,3 +229,25 @@ absent-above k m ws v h c l = pow-above k h m 0 ws v (canon-of c) l
 
 pub powers-in-range : (k m : ℕ) (ws : List ℕ) (v : ℕ) → 0 < k → k ≤ 2 → Canonical k m ws → InRange k (pow k ws v)
 powers-in-range k m ws v h l c = in-range k m 0 ws v h l (canon-of c)
+
+-- each word fits 32 bits
+pub vars-small : (k b : ℕ) (p : ℕ → ℕ) → k ≤ 2 → b ≤ 4096 → ((v : ℕ) → p v < 65536) → (t : ℕ) → t < 2 ^ 32 → Words (varsOf k b p ++ (t ∷ []))
+vars-small k zero p l h f t u = rw (vars-nil k p) ends
+  where
+    ends : Words (t ∷ [])
+    ends zero = u
+    ends (suc i) = omega arith
+vars-small k (suc b) p l h f t u =
+    elim (ℕ-discrete (p b) (bias k)) [
+      | yes e ↦ rw (vars-none k b p e) (vars-small k b p l (omega arith) f t u)
+      | no e ↦ rw (vars-some k b p e) (more (vars-small k b p l (omega arith) f t u))
+    ]
+  where
+    more : Words (varsOf k b p ++ (t ∷ [])) → Words (varWord k b (p b) ∷ (varsOf k b p ++ (t ∷ [])))
+    more r zero = var-fits k b (p b) (omega arith) (omega arith) (f b)
+    more r (suc i) = r i
+
+pub monomial-small : (k : ℕ) (p : ℕ → ℕ) → k ≤ 2 → ((v : ℕ) → p v < 65536) → Words (monomialOf k p)
+unfolding monomialOf
+monomial-small k p l f =
+    vars-small k 4096 p l (omega arith) f (length (varsOf k 4096 p)) (omega (arith, vars-length k 4096 p))

@@ -3,7 +3,7 @@ use mathlib.Core.Path.{_≡_, refl, sym, ap, _∙_}
 use Prim.Native.Nat.{ℕ, zero, suc, _+_, _-_, _*_, _/_, _%_, _^_, _≤_, _<_}
 use native.Mathlib.Omega.{arith}
 use mathlib.Core.List.{List, [], _∷_, _++_, append-assoc}
-use native.Mathlib.Nat.{add-zero}
+use native.Mathlib.Nat.{add-zero, zero-add}
 use lib.ListN.{length, getD, set, take, drop, take-append-drop, length-append, length-set, length-take, length-drop}
 use native.Mathlib.Numerals.{add-one}
 use lib.Seq.{drop-cons, take-at, drop-at, drop-append-add, drop-append-le, drop-drop, take-add, take-take, getD-take, length-take-le}
@@ -215,3 +215,13 @@ pasteW-before bs at ws i h l =
 -- the word that was read at i, and those behind it
 pub word-and-rest : (ws : List ℕ) (i w : ℕ) → i < length ws → w ≡ getD ws i 0 → drop i ws ≡ w ∷ drop (i + 1) ws
 word-and-rest ws i w h e = rw (e, add-one) (drop-cons ws i 0 h)
+
+-- a store of a word is a paste of it
+pub putW-paste : (bs : List ℕ) (i w : ℕ) → 4 * i + 4 ≤ length bs → putW bs i w ≡ pasteW bs i (w ∷ [])
+putW-paste bs i w h =
+    ap (λ (l : List ℕ). putW l i w) (sym (pasteW-nil bs i)) ∙ pasteW-snoc bs i [] i w (omega arith) h
+
+-- the words that were pasted at the front, and the bytes behind them
+pub pasteW-front : (bs ws : List ℕ) → pasteW bs 0 ws ≡ bytes ws ++ drop (4 * length ws) bs
+unfolding pasteW
+pasteW-front bs ws = rw (zero-add (4 * length ws))

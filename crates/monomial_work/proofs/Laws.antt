@@ -1,0 +1,72 @@
+-- What the doors cite: room for every answer in at most 64 variables, and the questions one by one. Assumes nothing.
+use mathlib.Core.Path.{_≡_, refl, sym, ap, _∙_}
+use mathlib.Core.Bool.{Bool, true, false, cond, _&&_}
+use mathlib.Core.List.{List, [], _∷_, _++_}
+use mathlib.Core.Logic.{_↔_}
+use Prim.Native.Nat.{ℕ, _+_, _*_, _%_, _≤_, _<_}
+use native.Mathlib.Omega.{arith}
+use lib.Dec.{eqb, leb}
+use lib.ListN.{length, take, drop}
+use Rattle.words.specs.Words.{words, pasteW}
+use Rattle.monomial.specs.Monomial.{Canonical, lent, pow}
+use Rattle.monomial.specs.Operations.{result, divides, divided}
+use Rattle.monomial.specs.declared.Division.{Division}
+use Rattle.monomial.specs.declared.Division.the-variants.{Whole, NotDivisible}
+use Rattle.monomial.specs.declared.monomial_ordering.CmpOrd.{CmpOrd}
+use Rattle.monomial.specs.declared.monomial_ordering.CmpOrd.the-variants.{Less, Equal, Greater}
+use Rattle.monomial.specs.declared.ordered_ops.Op.{Op}
+use Rattle.monomial.proofs.Laws.{canonical-more, length-result}
+use Rattle.monomial_work.specs.Served.{lentKind, yes, number, answer, small, powersFit, variablesFit, verdict, Served}
+use Rattle.monomial_work.specs.declared.Work.{Work}
+use Rattle.monomial_work.specs.declared.Work.the-variants.{Gcd, Mul, WholeDivision, FractionDivision, Divides, Eq, Cmp, RatioEq, RatioCmp}
+
+pub wide : {k : ℕ} {a : List ℕ} → 0 < k → Canonical k 64 a → Canonical k 4096 a
+wide pos c = canonical-more pos (omega arith) c
+
+-- what each operation asks, for two monomials in at most 64 variables and room for 65 words
+pub ready : (o : Op) (a b out : List ℕ) → Canonical 1 64 a → Canonical 1 64 b → 260 ≤ length out
+    → Canonical 1 4096 a × (Canonical 1 4096 b × (4 * length (result o a b) ≤ length out))
+ready o a b out ca cb h =
+    (wide (omega arith) ca, (wide (omega arith) cb, omega (arith, length-result 64 a b ca cb o (omega arith))))
+
+pub answer-length : (w : Work) (a b : List ℕ) → Canonical (lentKind w) 64 a → Canonical (lentKind w) 64 b → length (answer w a b) ≤ 65
+unfolding answer
+answer-length Gcd a b ca cb = length-result 64 a b ca cb Op.Gcd (omega arith)
+answer-length Mul a b ca cb = length-result 64 a b ca cb Op.Product (omega arith)
+answer-length WholeDivision a b ca cb = go (divides b a)
+  where
+    go : (t : Bool) → length (cond t (result Op.Quotient a b) (1073741824 ∷ [])) ≤ 65
+    go true = length-result 64 a b ca cb Op.Quotient (omega arith)
+    go false = omega arith
+answer-length FractionDivision a b ca cb = length-result 64 a b ca cb Op.Ratio (omega arith)
+answer-length Divides a b ca cb = omega arith
+answer-length Eq a b ca cb = omega arith
+answer-length Cmp a b ca cb = omega arith
+answer-length RatioEq a b ca cb = omega arith
+answer-length RatioCmp a b ca cb = omega arith
+
+-- what whole division answered
+pub not-whole : (a b : List ℕ) → divided a b ≡ NotDivisible → divides b a ≡ false
+unfolding divided
+not-whole a b e = go (divides b a) refl e
+  where
+    go : (t : Bool) → divides b a ≡ t → cond t (Whole (length (result Op.Quotient a b))) NotDivisible ≡ NotDivisible → divides b a ≡ false
+    go true q r = absurd (let z : _≡_ {A = ℕ} 0 1 = cc in omega arith)
+    go false q r = q
+
+pub whole : (a b : List ℕ) (n : ℕ) → divided a b ≡ Whole n → (divides b a ≡ true) × (n ≡ length (result Op.Quotient a b))
+unfolding divided
+whole a b n e = go (divides b a) refl e
+  where
+    go : (t : Bool) → divides b a ≡ t → cond t (Whole (length (result Op.Quotient a b))) NotDivisible ≡ Whole n → (divides b a ≡ true) × (n ≡ length (result Op.Quotient a b))
+    go true q r = (q, cc)
+    go false q r = absurd (let z : _≡_ {A = ℕ} 0 1 = cc in omega arith)
+
+pub yes-small : (t : Bool) → yes t < 268435456
+yes-small true = omega arith
+yes-small false = omega arith
+
+pub number-small : (c : CmpOrd) → number c < 268435456
+number-small Less = omega arith
+number-small Equal = omega arith
+number-small Greater = omega arith

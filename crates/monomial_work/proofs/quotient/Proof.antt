@@ -1,0 +1,63 @@
+use mathlib.Core.List.{List, [], _∷_}
+use Prim.Native.Nat.{ℕ}
+use mathlib.Core.Path.{_≡_, refl, sym, ap, _∙_}
+use Rattle.words.specs.Words.{words, pasteW}
+use Rattle.monomial.specs.Operations.{divided, divides}
+use Rattle.monomial_work.specs.Served.{answer}
+use Rattle.monomial_work.proofs.Laws.{not-whole, whole}
+use borrow.Author.Needs.{needs}
+use Rattle.monomial_work.proofs.quotient.Statement.{statement}
+use Rattle.monomial_work.proofs.quotient.Tie as tie
+use Rattle.monomial_work.proofs.quotient.Reads as reads
+use Rattle.monomial_work.proofs.quotient.Lts as lts
+use Rattle.monomial.proofs.whole_division.Reads as whole-division-reads
+use Rattle.monomial_work.proofs.put_answer.Reads as put-answer-reads
+
+-- src/lib.rt:78:30
+whole-division-requires : tie.Need-whole-division-requires
+whole-division-requires c κs = search needs
+
+-- src/lib.rt:78:25
+enum-known-n : tie.Need-enum-known-n
+enum-known-n c = search needs
+
+-- src/lib.rt:79:27
+enum-told : tie.Need-enum-told
+enum-told c = search needs
+
+-- src/lib.rt:79:9
+put-answer-requires : tie.Need-put-answer-requires
+put-answer-requires c κs = search needs
+
+-- src/lib.rt:79:9
+same-length : tie.Need-same-length
+same-length c = search needs
+
+-- src/lib.rt:79:9
+returns : tie.Need-returns
+unfolding answer
+returns c = let e = not-whole (words (c .before .before .before .before .before .before .before .before .before .before .before .before .before .args .a .now)) (words (c .before .before .before .before .before .before .before .before .before .before .before .before .before .args .b .now)) (sym (c .before .before .before .before .before .before .before .before .whole-division .ensures .0) ∙ c .before .before .before .before .enum-told .given .1) in
+    rw e (c .before .before .put-answer .ensures .0, c .before .before .put-answer .ensures .1 ∙ ap (λ (l : List ℕ). pasteW l 0 (1073741824 ∷ [])) (c .before .before .before .before .before .before .before .before .whole-division .ensures .1 ∙ rw e))
+
+-- src/lib.rt:72:1
+same-length-2 : tie.Need-same-length-2
+same-length-2 c = search needs
+
+-- src/lib.rt:72:1
+returns-2 : tie.Need-returns-2
+unfolding answer
+returns-2 c = let e = whole (words (c .before .before .before .before .before .before .before .before .before .before .args .a .now)) (words (c .before .before .before .before .before .before .before .before .before .before .args .b .now)) (c .before .n .given .0 .0) (sym (c .before .before .before .before .before .whole-division .ensures .0) ∙ c .before .n .given .1) in
+    rw (e .0) (e .1, c .before .before .before .before .before .whole-division .ensures .1 ∙ rw (e .0))
+
+pub quotient-spec : {M : Type 1} → statement M
+quotient-spec =
+    tie.close
+    (tie.spec
+    whole-division-requires
+    enum-known-n
+    enum-told
+    put-answer-requires
+    same-length
+    returns
+    same-length-2
+    returns-2)

@@ -1,0 +1,90 @@
+-- The monomial work of document 01: what each door answers, which number it returns, and every byte after. Assumes nothing.
+use mathlib.Core.Path.{_≡_}
+use mathlib.Core.Bool.{Bool, true, false, cond, _&&_}
+use mathlib.Core.List.{List, [], _∷_}
+use Prim.Native.Nat.{ℕ, _+_, _*_}
+use lib.Dec.{eqb, leb}
+use lib.ListN.{length}
+use Rattle.words.specs.Kinds.{answerWord}
+use Rattle.words.specs.Words.{words, pasteW}
+use Rattle.monomial.specs.Monomial.{pow, lent}
+use Rattle.monomial.specs.Operations.{result, allBelow, divides, equal}
+use Rattle.monomial.specs.Order.{order}
+use Rattle.monomial.specs.declared.monomial_ordering.CmpOrd.{CmpOrd}
+use Rattle.monomial.specs.declared.monomial_ordering.CmpOrd.the-variants.{Less, Equal, Greater}
+use Rattle.monomial.specs.declared.ordered_ops.Op.{Op}
+use Rattle.monomial_work.specs.declared.Work.{Work}
+use Rattle.monomial_work.specs.declared.Work.the-variants.{Gcd, Mul, WholeDivision, FractionDivision, Divides, Eq, Cmp, RatioEq, RatioCmp}
+
+-- the kind of the two lists lent: monomials, or ratios
+abbrev pub lentKind : Work → ℕ
+lentKind Gcd = 1
+lentKind Mul = 1
+lentKind WholeDivision = 1
+lentKind FractionDivision = 1
+lentKind Divides = 1
+lentKind Eq = 1
+lentKind Cmp = 1
+lentKind RatioEq = 2
+lentKind RatioCmp = 2
+
+-- yes 1, no 0
+abbrev pub yes : Bool → ℕ
+yes true = 1
+yes false = 0
+
+-- less 0, equal 1, greater 2
+abbrev pub number : CmpOrd → ℕ
+number Less = 0
+number Equal = 1
+number Greater = 2
+
+abbrev pub one : ℕ → List ℕ
+one p = answerWord p ∷ []
+
+-- the words answered; no quotient is a kind 4 word, payload 0
+unfoldable pub answer : Work → List ℕ → List ℕ → List ℕ
+answer Gcd a b = result Op.Gcd a b
+answer Mul a b = result Op.Product a b
+answer WholeDivision a b = cond (divides b a) (result Op.Quotient a b) (one 0)
+answer FractionDivision a b = result Op.Ratio a b
+answer Divides a b = one (yes (divides a b))
+answer Eq a b = one (yes (equal a b))
+answer Cmp a b = one (number (order 1 a b))
+answer RatioEq a b = one (yes (equal a b))
+answer RatioCmp a b = one (number (order 2 a b))
+
+-- question 9: no power of a product is above 32,767
+unfoldable pub powersFit : List ℕ → List ℕ → Bool
+powersFit a b = allBelow 4096 (λ v. leb (pow 1 a v + pow 1 b v) 32767)
+
+unfoldable pub small : Work → List ℕ → List ℕ → Bool
+small Gcd a b = true
+small Mul a b = powersFit a b
+small WholeDivision a b = true
+small FractionDivision a b = true
+small Divides a b = true
+small Eq a b = true
+small Cmp a b = true
+small RatioEq a b = true
+small RatioCmp a b = true
+
+-- question 1, of the variables
+unfoldable pub variablesFit : ℕ → Bool
+variablesFit m = leb 1 m && leb m 64
+
+-- the questions in order: 1, 7, 9, 5; 0 is served
+unfoldable pub verdict : Work → ℕ → List ℕ → List ℕ → List ℕ → ℕ
+verdict w m a b out =
+    cond (variablesFit m)
+    (cond (lent (lentKind w) m a && lent (lentKind w) m b)
+    (cond (small w (words a) (words b))
+    (cond (leb (4 * length (answer w (words a) (words b))) (length out)) 0 5)
+    9)
+    7)
+    1
+
+-- the answer stands at the front of the buffer, and the rest is as it was; a refusal changes no byte
+pub record Served (w : Work) (m : ℕ) (a b out : List ℕ) (r : ℕ) (after : List ℕ) : Type 0 where
+  pub number-is : r ≡ verdict w m a b out
+  pub bytes-are : after ≡ cond (eqb (verdict w m a b out) 0) (pasteW out 0 (answer w (words a) (words b))) out
