@@ -1,0 +1,5 @@
+pub mod Bag
+pub mod Tree
+pub mod Bifurcate
+pub mod Queries
+pub mod Prune
