@@ -39,10 +39,10 @@ unfolding least greatest
 ends f [] h = absurd (omega arith)
 ends f (x ∷ xs) h = (leastOf-at f x xs, greatestOf-at f x xs)
 
-module _ (K : Keys) (key : ℕ → ℕ → ℕ) (mark : ℕ → ℕ → List ℕ → ℕ) (marks : Marks K key mark) where
-  cut-splits : (d : ℕ) (es : List ℕ) → All (K .good) es → least (key d) es < greatest (key d) es → SplitOf K es (cut key mark d (average (least (key d) es) (greatest (key d) es)) es)
+module _ (D : ℕ) (some-dim : 0 < D) (K : Keys) (key : ℕ → ℕ → ℕ) (mark : ℕ → ℕ → List ℕ → ℕ) (marks : Marks D K key mark) where
+  cut-splits : (d : ℕ) (es : List ℕ) → d < D → All (K .good) es → least (key d) es < greatest (key d) es → SplitOf K es (cut key mark d (average (least (key d) es) (greatest (key d) es)) es)
   unfolding cut
-  cut-splits d es good h =
+  cut-splits d es in-dims good h =
       let f = key d in
       let m = average (least f es) (greatest f es) in
       let lo = ends f es h .0 in
@@ -50,7 +50,7 @@ module _ (K : Keys) (key : ℕ → ℕ → ℕ) (mark : ℕ → ℕ → List ℕ
       let is-less : ltb (f (lo .0)) m ≡ true = omega (arith, lt-ltb, lo .2) in
       let is-other : ltb (f (hi .0)) m ≡ false = omega (arith, le-ltb, hi .2) in
       let others : Some (keep (λ e. not (ltb (f e) m)) es) = (hi .0, keep-in _ _ _ (rw is-other refl) (hi .1)) in
-      let told = marks d m es good others in
+      let told = marks d m es in-dims good others in
       record {
         same = λ n. rw occurs-append (keep-same (λ e. ltb (f e) m) n es);
         size = rw length-append (keep-length (λ e. ltb (f e) m) es);
@@ -63,10 +63,10 @@ module _ (K : Keys) (key : ℕ → ℕ → ℕ) (mark : ℕ → ℕ → List ℕ
         };
       }
 
-  try-splits : (D i n : ℕ) (es : List ℕ) → All (K .good) es → (s : Split) → tryFrom key mark D i n es ≡ some s → SplitOf K es s
+  try-splits : (i n : ℕ) (es : List ℕ) → All (K .good) es → (s : Split) → tryFrom key mark D i n es ≡ some s → SplitOf K es s
   unfolding tryFrom
-  try-splits D zero n es good s w = absurd (let z : _≡_ {A = ℕ} 0 1 = cc in omega arith)
-  try-splits D (suc i) n es good s w = go (ltb (least f es) (greatest f es)) refl w (try-splits D i (suc n) es good s)
+  try-splits zero n es good s w = absurd (let z : _≡_ {A = ℕ} 0 1 = cc in omega arith)
+  try-splits (suc i) n es good s w = go (ltb (least f es) (greatest f es)) refl w (try-splits i (suc n) es good s)
     where
       f : ℕ → ℕ
       f = key (n % D)
@@ -74,15 +74,15 @@ module _ (K : Keys) (key : ℕ → ℕ → ℕ) (mark : ℕ → ℕ → List ℕ
       go : (b : Bool) → ltb (least f es) (greatest f es) ≡ b
           → elim b [ true ↦ some (cut key mark (n % D) (average (least f es) (greatest f es)) es) | false ↦ tryFrom key mark D i (suc n) es ] ≡ some s
           → (tryFrom key mark D i (suc n) es ≡ some s → SplitOf K es s) → SplitOf K es s
-      go true v w ih = let q : cut key mark (n % D) (average (least f es) (greatest f es)) es ≡ s = cc in rw q at (cut-splits (n % D) es good (ltb-true _ _ v))
+      go true v w ih = let q : cut key mark (n % D) (average (least f es) (greatest f es)) es ≡ s = cc in rw q at (cut-splits (n % D) es (mod-lt n {m = D} some-dim) good (ltb-true _ _ v))
       go false v w ih = ih w
 
-  pub bifurcate-splits : (D : ℕ) → Splits K (bifurcate key mark D)
+  pub bifurcate-splits : Splits K (bifurcate key mark D)
   unfolding bifurcate
-  bifurcate-splits D n es good s w = try-splits D D n es good s w
+  bifurcate-splits n es good s w = try-splits D n es good s w
 
-pub numbers-mark : (good : ℕ → Type 0) (key : ℕ → ℕ → ℕ) → Marks (numbers good key) key markNumber
-numbers-mark good key d m es g h = (tt, λ e w. refl)
+pub numbers-mark : (D : ℕ) (good : ℕ → Type 0) (key : ℕ → ℕ → ℕ) → Marks D (numbers D good key) key markNumber
+numbers-mark D good key d m es l g h = (l, λ e w. refl)
 
 firstLeast-in : (f : ℕ → ℕ) (x : ℕ) (xs : List ℕ) → firstLeast f x xs ∈ (x ∷ xs)
 unfolding firstLeast
@@ -112,9 +112,9 @@ module _ (R : Ratios) (labelled : Labelled R) where
       let q = firstLeast-le (R .label) x xs in
       (firstLeast-in (R .label) x xs, at-cons (λ e. R .label (firstLeast (R .label) x xs) ≤ R .label e) x xs (q .0) (q .1))
 
-  pub ratios-mark : Marks (ratios R) (ratioKey R) (ratioMark R)
+  pub ratios-mark : (D : ℕ) → Marks D (ratios R D) (ratioKey R) (ratioMark R)
   unfolding ratioKey belowRatio ratioMark
-  ratios-mark zero m es g h = (g k (held .1), λ e w. labelled e k (g e w) (g k (held .1)) ∙ go e w (ltb (R .label e) m) refl)
+  ratios-mark D zero m es l g h = (g k (held .1), λ e w. labelled e k (g e w) (g k (held .1)) ∙ go e w (ltb (R .label e) m) refl)
     where
       k : ℕ
       k = ratioMark R zero m (keep (λ x. not (ltb (R .label x) m)) es)
@@ -128,7 +128,7 @@ module _ (R : Ratios) (labelled : Labelled R) where
       go : (e : ℕ) → e ∈ es → (b : Bool) → ltb (R .label e) m ≡ b → ltb (R .label e) (R .label k) ≡ ltb (R .label e) m
       go e w true v = lt-ltb (R .label e) (R .label k) (omega (arith, ltb-true, ltb-false (R .label k) m (not-true _ (held .0)))) ∙ sym v
       go e w false v = le-ltb (R .label e) (R .label k) (is .1 e (keep-in (λ x. not (ltb (R .label x) m)) e es (ap not v) w)) ∙ sym v
-  ratios-mark (suc v) m es g h = (tt, λ e w. refl)
+  ratios-mark D (suc v) m es l g h = (l, λ e w. refl)
 
 -- A leaf that cannot be split: its entries are equal in every dimension.
 leastOf-le : (f : ℕ → ℕ) (x : ℕ) (xs : List ℕ) → All (λ e. leastOf f x xs ≤ f e) (x ∷ xs)
@@ -140,6 +140,11 @@ greatestOf-le : (f : ℕ → ℕ) (x : ℕ) (xs : List ℕ) → All (λ e. f e �
 unfolding greatestOf
 greatestOf-le f x [] = at-cons (λ e. f e ≤ f x) x [] (omega arith) (λ e m. absurd (omega (arith, rw occurs-nil at m)))
 greatestOf-le f x (y ∷ ys) = at-cons (λ e. f e ≤ max (f x) (greatestOf f y ys)) x (y ∷ ys) (omega arith) (λ e m. omega (arith, greatestOf-le f y ys e m))
+
+pub least-le : (f : ℕ → ℕ) (es : List ℕ) (e : ℕ) → e ∈ es → least f es ≤ f e
+unfolding least
+least-le f [] e m = absurd (omega (arith, rw occurs-nil at m))
+least-le f (x ∷ xs) e m = leastOf-le f x xs e m
 
 all-equal : (f : ℕ → ℕ) (es : List ℕ) → greatest f es ≤ least f es → (e x : ℕ) → e ∈ es → x ∈ es → f e ≡ f x
 unfolding least greatest

@@ -114,14 +114,20 @@ module _ (p : ℕ → Bool) where
     reducer-same xs ys none s h = λ e m. h e (rw (s e) m)
     reducer-same xs ys (some b) s h = (rw (s b) at (h .0), h .1, λ e m. h .2 e (rw (s e) m))
 
--- e. the searches of a tree, in terms of its entries before the search
+-- a search keeps the entries and the order, whatever it leaves out
+pub search-keeps : (K : Keys) (split : ℕ → List ℕ → Option Split) → Splits K split → (disc : ℕ → ℕ → List ℕ → Path) (t : Tree) → Ordered K t
+    → {A : Type 0} (proc : A → ℕ → Step A) (a : A) → Kept K t (search split disc proc t a .tree)
+unfolding search searchAt
+search-keeps K split laws disc t ordered proc a = kept-search K split laws disc proc (suc (count t)) 0 t a ordered
+
+-- the searches of a tree, in terms of its entries before the search
 module _ (K : Keys) (split : ℕ → List ℕ → Option Split) (laws : Splits K split)
     (disc : ℕ → ℕ → List ℕ → Path) (p : ℕ → Bool) (safe : Safe K disc p) (t : Tree) (ordered : Ordered K t) where
   search-kept : {A : Type 0} (proc : A → ℕ → Step A) (a : A) → Kept K t (search split disc proc t a .tree)
-  unfolding search searchAt
-  search-kept proc a = kept-search K split laws disc proc (suc (count t)) 0 t a ordered
+  search-kept proc a = search-keeps K split laws disc t ordered proc a
 
-  search-folds : {A : Type 0} (proc : A → ℕ → Step A) → Ignores proc p → (a : A) → search split disc proc t a .acc ≡ foldUntil proc (start a) (inorder (search split disc proc t a .tree)) .acc
+  -- what is answered is the processor folded over all entries, in the order of the tree after the search, up to its first stop
+  pub search-folds : {A : Type 0} (proc : A → ℕ → Step A) → Ignores proc p → (a : A) → search split disc proc t a .acc ≡ foldUntil proc (start a) (inorder (search split disc proc t a .tree)) .acc
   unfolding search searchAt
   search-folds {A} proc h a = ap (λ (s : Step A). s .acc) (fold-search K split laws disc proc p safe h (suc (count t)) 0 t a ordered (omega arith))
 
@@ -136,7 +142,7 @@ module _ (K : Keys) (split : ℕ → List ℕ → Option Split) (laws : Splits K
   reducer-is regular = rw (search-folds (reducer p regular) (reducer-ignores p regular) none)
       (reducer-same p regular _ _ _ (λ n. sym (search-kept (reducer p regular) none .same n)) (reducer-fold p regular _ [] none (no-regular-nil p regular)))
 
--- f. Two indexes, whose entries may have other numbers: for each entry of the first that is looked for, the second has one as good.
+-- Two indexes, whose entries may have other numbers: for each entry of the first that is looked for, the second has one as good.
 module _ (p q : ℕ → Bool) (xs ys : List ℕ) where
   pub any-covered : ((e : ℕ) → e ∈ xs → p e ≡ true → (x : ℕ) × (x ∈ ys) × (q x ≡ true)) → any p xs ≡ true → any q ys ≡ true
   any-covered h w =

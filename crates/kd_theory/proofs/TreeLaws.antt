@@ -118,7 +118,7 @@ module _ (K : Keys) where
           (kept-side _ (go (suc d)) l a (h .1) (λ a′. ih (suc d) l a′ (h .1)))
           (λ a′. kept-side _ (go (suc d)) r a′ (h .2) (λ a″. ih (suc d) r a″ (h .2)))
 
-      -- a. and b. whatever the fuel
+      -- whatever the fuel
       pub kept-search : (f n : ℕ) (t : Tree) (a : A) → Ordered K t → Kept K t (searchFor split disc proc f n t a .tree)
       unfolding searchFor
       kept-search zero n t a h = kept-refl t h
@@ -126,7 +126,7 @@ module _ (K : Keys) where
           let o = kept-opened n t h in
           kept-trans t _ _ o (kept-visit (searchFor split disc proc f) (kept-search f) _ a (o .ordered))
 
-      -- d. more fuel than entries: the fuel does not matter
+      -- with more fuel than entries the fuel does not matter
       pub same-side : (b : Bool) (go go′ : Tree → A → Out A) (t : Tree) (a : A) → ((a : A) → go t a ≡ go′ t a) → side b go t a ≡ side b go′ t a
       unfolding side
       same-side true go go′ t a h = h a
@@ -162,7 +162,7 @@ module _ (K : Keys) where
           same-visit (searchFor split disc proc (count t)) (searchAt split disc proc) _ a (o .ordered)
           (λ n′ u a′ w q. same-fuel (count t) (suc (count u)) n′ u a′ w (omega (arith, o .size)) (omega arith))
 
-      -- c. with a safe discriminator
+      -- with a safe discriminator
       module _ (p : ℕ → Bool) (safe : Safe K disc p) (ignores : Ignores proc p) where
         fold-side : (b : Bool) (go : Tree → A → Out A) (t : Tree) (a : A) → ((e : ℕ) → e ∈ inorder t → b ≡ false → p e ≡ false) → Folds proc a (go t a) → Folds proc a (side b go t a)
         unfolding side
