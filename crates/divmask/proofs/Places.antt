@@ -1,0 +1,63 @@
+-- Which bits of a mask a variable has, for any number of variables. Assumes nothing.
+use mathlib.Core.Path.{_≡_, refl, sym, ap, _∙_}
+use mathlib.Core.Bool.{cond}
+use Prim.Native.Nat.{ℕ, zero, suc, min, _+_, _-_, _*_, _/_, _%_, _≤_, _<_}
+use native.Mathlib.Omega.{arith}
+use native.Mathlib.Nat.{div-add-mod, mod-lt, suc-mul}
+use native.Mathlib.Decide.{ℕ-discrete, decLe}
+use lib.Dec.{ltb}
+use borrow.Author.Tests.{lt-ltb, le-ltb}
+use Rattle.divmask.specs.Mask.{bits, firstBit}
+
+pub first-zero : (m : ℕ) → firstBit m 0 ≡ 0
+unfolding firstBit
+first-zero m = refl
+
+pub first-suc : (m v : ℕ) → firstBit m (suc v) ≡ firstBit m v + bits m v
+unfolding firstBit
+first-suc m v = refl
+
+-- the closed form
+pub first-closed : (m v : ℕ) → firstBit m v ≡ v * (32 / m) + min v (32 % m)
+unfolding firstBit bits
+first-closed m zero = omega arith
+first-closed m (suc v) =
+    rw (suc-mul v (32 / m)) (elim (decLe (suc v) (32 % m)) [
+      | yes h ↦ rw (lt-ltb v (32 % m) h) (omega (arith, first-closed m v))
+      | no h ↦ rw (le-ltb v (32 % m) (omega arith)) (omega (arith, first-closed m v))
+    ])
+
+-- all 32 bits are given out
+pub first-all : (m : ℕ) → 1 ≤ m → firstBit m m ≡ 32
+first-all m h = first-closed m m ∙ omega (arith, div-add-mod 32 m, mod-lt 32 h)
+
+-- the bits of different variables do not overlap
+pub apart : (m u v : ℕ) → u < v → firstBit m u + bits m u ≤ firstBit m v
+apart m u zero h = absurd (omega arith)
+apart m u (suc v) h =
+    elim (ℕ-discrete u v) [
+      | yes e ↦ rw e (omega (arith, first-suc m v))
+      | no e ↦ omega (arith, first-suc m v, apart m u v (omega arith))
+    ]
+
+-- and number at most 32
+pub in-all : (m v : ℕ) → v < m → firstBit m v + bits m v ≤ 32
+in-all m v h = omega (arith, apart m v m h, first-all m (omega arith))
+
+-- the variable that has bit i, and which of its bits that is
+pub record Owner (m n i : ℕ) : Type 0 where
+  pub v : ℕ
+  pub j : ℕ
+  pub below : v < n
+  pub inside : j < bits m v
+  pub is : i ≡ firstBit m v + j
+
+pub owner : (m n i : ℕ) → i < firstBit m n → Owner m n i
+owner m zero i h = absurd (omega (arith, first-zero m))
+owner m (suc n) i h =
+    elim (decLe (firstBit m n) i) [
+      | yes l ↦ record { v = n; j = i - firstBit m n; below = omega arith; inside = omega (arith, first-suc m n); is = omega arith }
+      | no l ↦
+          let o = owner m n i (omega arith) in
+          record { v = o .v; j = o .j; below = omega (arith, o .below); inside = o .inside; is = o .is }
+    ]
