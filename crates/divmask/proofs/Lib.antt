@@ -1,5 +1,8 @@
 -- `Places`: which bits a variable has. `Digits`: the bits of a number. `Parts`: the bits that a power sets. `Masks`: the laws of masks.
+-- `Growth`: the laws of maxima. `Served`: what the doors' proofs share.
 pub mod Places
 pub mod Digits
 pub mod Parts
 pub mod Masks
+pub mod Growth
+pub mod Served

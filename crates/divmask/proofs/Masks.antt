@@ -174,6 +174,10 @@ module _ (m : ℕ) (xs A : List ℕ) (i sum : ℕ) (s : Mapping m xs A i sum) (w
       go (inl z) = omega (arith, s .split, fields-skip m xs (pow 1 A) 0 (s .b) (omega arith) (λ v l h. z .none v h), fields-zero m xs (pow 1 A))
       go (inr z) = absurd (omega (arith, z .upper))
 
+  pub bits-are : (v b : ℕ) → b ≡ 32 / m + cond (ltb v (32 % m)) 1 0 → b ≡ bits m v
+  unfolding bits
+  bits-are v b e = e
+
   -- a variable's word: what the code needs of it, and the walk after its bits are added
   pub record Step : Type 0 where
     pub known : ident w < m
@@ -203,3 +207,23 @@ module _ (m : ℕ) (xs A : List ℕ) (i sum : ℕ) (s : Mapping m xs A i sum) (w
             fits = omega (arith, s .split, mask-small m xs (pow 1 A));
             rest = record { b = u; below = omega arith; ra = z .rest; split = omega (arith, s .split) };
           }
+
+  -- the same with what the code's helpers gave: x the maximum, b the bits, f the field, t the first bit
+  module _ (h : w / 65536 ≡ 0 → ⊥) (x b f t : ℕ) (ex : x ≡ getD xs (ident w) 0) (eb : b ≡ 32 / m + cond (ltb (ident w) (32 % m)) 1 0)
+      (ef : f ≡ parts b x (power w) b) (et : t ≡ ident w * (32 / m) + min (ident w) (32 % m)) where
+    pub record Stepped : Type 0 where
+      pub shift : t ≤ 32
+      pub fits : sum + f * 2 ^ t % 2 ^ 64 < 2 ^ 32
+      pub rest : Mapping m xs A (i + 1) (sum + f * 2 ^ t % 2 ^ 64)
+
+    pub stepped : Stepped
+    stepped =
+        let k = step h in
+        let is : t ≡ firstBit m (ident w) = et ∙ sym (first-closed m (ident w)) in
+        let fs : f ≡ parts (bits m (ident w)) (getD xs (ident w) 0) (power w) (bits m (ident w)) = ef ∙ rw (ex, bits-are (ident w) b eb) in
+        let small : f * 2 ^ t < 2 ^ 64 = rw (is, fs) (omega (arith, k .fits)) in
+        record {
+          shift = omega (arith, k .first);
+          fits = rw (mod-eq-of-lt small, is, fs) (k .fits);
+          rest = rw (mod-eq-of-lt small, is, fs) (k .rest);
+        }

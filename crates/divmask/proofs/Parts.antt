@@ -3,11 +3,11 @@ use mathlib.Core.Path.{_≡_, refl, sym, ap, _∙_}
 use mathlib.Core.Bool.{Bool, true, false, cond}
 use Prim.Native.Nat.{ℕ, zero, suc, min, _+_, _-_, _*_, _/_, _%_, _^_, _≤_, _<_}
 use native.Mathlib.Omega.{arith}
-use native.Mathlib.Nat.{one-mul, zero-mul, pow-suc, div-lt-iff-lt-mul, le-div-iff-mul-le, add-zero, mul-le-mul, zero-min}
+use native.Mathlib.Nat.{one-mul, zero-mul, pow-suc, div-lt-iff-lt-mul, le-div-iff-mul-le, add-zero, mul-le-mul, zero-min, mod-eq-of-lt}
 use native.Mathlib.Decide.{ℕ-discrete, decLe}
 use native.Mathlib.Numerals.{add-one}
 use lib.Dec.{ltb}
-use lib.Pow.{pow-pos}
+use lib.Pow.{pow-lt}
 use borrow.Author.Tests.{lt-ltb, le-ltb}
 use Rattle.divmask.specs.Mask.{cutoff, parts, bit}
 use Rattle.divmask.proofs.Digits.{bit-one, bit-low, bit-high, block-lt}
@@ -102,3 +102,10 @@ module _ (b x q : ℕ) (some : 1 ≤ x) (here : 1 ≤ q) where
             let e : min (suc n) (most b x q) ≡ min n (most b x q) = omega arith in
             rw (parts-suc b x q n, le-ltb (cutoff b x (suc n)) q (clear-above (suc n) (omega arith)), e, zero-mul (2 ^ n)) (omega (arith, parts-closed n))
       ]
+
+-- as the code makes them: n ones, by a shift in 64 bits
+pub ones : (n : ℕ) → n ≤ 32 → 1 * 2 ^ n % 2 ^ 64 ≡ 2 ^ n
+ones n h = rw (one-mul (2 ^ n)) (mod-eq-of-lt (pow-lt {i = n} {j = 64} (omega arith)))
+
+pub field-is : (b x q n : ℕ) → b ≤ 32 → 1 ≤ x → 1 ≤ q → n ≡ min b (most b x q) → 1 * 2 ^ n % 2 ^ 64 - 1 ≡ parts b x q b
+field-is b x q n h l k e = rw (ones n (omega arith), e) (omega (arith, parts-closed b x q l k b))

@@ -8,7 +8,12 @@ ghost use Rattle.divmask.specs.Doors as spec;
 
 // Writes the mask of a monomial at the front of out, as a bare word.
 #[no_mangle]
-pub extern "C" fn divmask_mask(variables: u32, maxima: &[u8], monomial: &[u8], out: &mut [u8]) -> u32
+pub extern "C" fn divmask_mask(
+    variables: u32,
+    maxima: &[u8],
+    monomial: &[u8],
+    out: &mut [u8],
+) -> u32
     ensures { λ r. ⌜ r ≡ spec.maskNumber variables (now (maxima .entry)) (now (monomial .entry)) (now (out .entry)) ⌝ }
     ensures { λ _. ⌜ now (out .exit) ≡ spec.maskBytes variables (now (maxima .entry)) (now (monomial .entry)) (now (out .entry)) ⌝ }
 {
@@ -54,7 +59,12 @@ pub extern "C" fn divmask_update(variables: u32, maxima: &mut [u8], monomial: &[
 
 // Writes at the front of out whether the maxima have grown beyond a percentage, yes 1 or no 0.
 #[no_mangle]
-pub extern "C" fn divmask_growth(variables: u32, maxima: &[u8], percentage: u8, out: &mut [u8]) -> u32
+pub extern "C" fn divmask_growth(
+    variables: u32,
+    maxima: &[u8],
+    percentage: u8,
+    out: &mut [u8],
+) -> u32
     ensures { λ r. ⌜ r ≡ spec.growthNumber variables (now (maxima .entry)) (now (out .entry)) ⌝ }
     ensures { λ _. ⌜ now (out .exit) ≡ spec.growthBytes variables (now (maxima .entry)) percentage (now (out .entry)) ⌝ }
 {

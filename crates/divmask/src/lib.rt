@@ -71,5 +71,9 @@ pub fn map(maxima: &[u8], variables: u32, monomial: &[u8]) -> u32
 pub fn divides(a: u32, b: u32) -> DivMaskTestResult
     ensures { λ r. ⌜ r ≡ tested a b ⌝ }
 {
-    if a & b == a { DivMaskTestResult::Unsure } else { DivMaskTestResult::NotDivisible }
+    if a & b == a {
+        DivMaskTestResult::Unsure
+    } else {
+        DivMaskTestResult::NotDivisible
+    }
 }

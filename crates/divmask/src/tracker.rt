@@ -1,5 +1,7 @@
 // From divmask.rs, MaximumExponentsTracker: the maximum of each variable, and how far the maxima have grown.
 ghost use mathlib.Core.Path.{_≡_};
+ghost use Prim.Native.Nat.{_*_};
+ghost use lib.ListN.{length};
 ghost use Rattle.words.specs.Words.{words, pasteW};
 ghost use Rattle.monomial.specs.Monomial.{Canonical};
 ghost use Rattle.divmask.specs.Tracker as spec;
@@ -41,6 +43,7 @@ pub fn maxima_good(maxima: &[u8], variables: u32) -> bool
 
 // Raises the maxima to the powers of a monomial; stops at the first variable that is not above its maximum.
 pub fn update(maxima: &mut [u8], variables: u32, monomial: &[u8])
+    requires { ⌜ length (now maxima) ≡ 4 * variables ⌝ }
     requires { ⌜ spec.Maxima variables (words (now maxima)) ⌝ }
     requires { ⌜ Canonical 1 variables (words (now monomial)) ⌝ }
     ensures { λ _. ⌜ now (maxima .exit) ≡ pasteW (now (maxima .entry)) 0 (spec.updated (words (now (monomial .entry))) (words (now (maxima .entry)))) ⌝ }

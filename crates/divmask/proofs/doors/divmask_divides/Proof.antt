@@ -1,3 +1,5 @@
+use mathlib.Core.Path.{sym, ap, _∙_}
+use Rattle.divmask.specs.Doors.{testNumber}
 use borrow.Author.Needs.{needs}
 use Rattle.divmask.proofs.doors.divmask_divides.Statement.{statement}
 use Rattle.divmask.proofs.doors.divmask_divides.Tie as tie
@@ -19,11 +21,13 @@ enum-told-2 c = search needs
 
 -- src/doors.rt:29:1
 returns : tie.Need-returns
-returns c = ?
+unfolding testNumber
+returns c = ap testNumber (sym (c .enum-told .given .1) ∙ c .before .before .divides .ensures)
 
 -- src/doors.rt:29:1
 returns-2 : tie.Need-returns-2
-returns-2 c = ?
+unfolding testNumber
+returns-2 c = ap testNumber (sym (c .enum-told2 .given .1) ∙ c .before .before .divides .ensures)
 
 pub divmask-divides-spec : {M : Type 1} → statement M
 divmask-divides-spec =

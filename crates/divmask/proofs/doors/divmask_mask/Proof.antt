@@ -1,3 +1,11 @@
+use native.Mathlib.Omega.{arith}
+use mathlib.Core.Path.{_≡_, refl, sym, _∙_}
+use borrow.Author.Tests.{not-true, not-false, le-leb, lt-leb}
+use lib.ListN.{length}
+use Rattle.divmask.proofs.Growth.{lent-maxima}
+use Rattle.monomial.proofs.Laws.{lent-canonical}
+use Rattle.divmask.proofs.Served.{put-one}
+use Rattle.divmask.specs.Doors.{maskNumber, maskBytes}
 use borrow.Author.Needs.{needs}
 use Rattle.divmask.proofs.doors.divmask_mask.Statement.{statement}
 use Rattle.divmask.proofs.doors.divmask_mask.Tie as tie
@@ -14,7 +22,8 @@ maxima-good-requires c κs = search needs
 
 -- src/doors.rt:16:9
 returns : tie.Need-returns
-returns c = ?
+unfolding maskNumber maskBytes
+returns c = rw (sym (c .before .maxima-good .ensures) ∙ not-true _ (c .if1 .taken)) (refl, refl)
 
 -- src/doors.rt:18:9
 is-canonical-requires : tie.Need-is-canonical-requires
@@ -22,15 +31,17 @@ is-canonical-requires c κs = search needs
 
 -- src/doors.rt:19:9
 returns-2 : tie.Need-returns-2
-returns-2 c = ?
+unfolding maskNumber maskBytes
+returns-2 c = rw (sym (c .before .before .before .maxima-good .ensures) ∙ not-false _ (c .before .before .if1 .left), sym (c .before .is-canonical .ensures) ∙ not-true _ (c .if2 .taken)) (refl, refl)
 
 -- src/doors.rt:22:9
 returns-3 : tie.Need-returns-3
-returns-3 c = ?
+unfolding maskNumber maskBytes
+returns-3 c = rw (sym (c .before .before .before .before .maxima-good .ensures) ∙ not-false _ (c .before .before .before .if1 .left), sym (c .before .before .is-canonical .ensures) ∙ not-false _ (c .before .if2 .left), lt-leb 4 (length (c .before .before .before .before .before .before .before .before .args .out .now)) (omega arith)) (refl, refl)
 
 -- src/doors.rt:24:24
 map-requires : tie.Need-map-requires
-map-requires c κs = ?
+map-requires c κs = (lent-maxima (c .before .before .before .before .before .before .before .before .before .args .variables) (c .before .before .before .before .before .before .before .before .before .args .maxima .now) .0 (sym (c .before .before .before .before .before .maxima-good .ensures) ∙ not-false _ (c .before .before .before .before .if1 .left)) .1, lent-canonical 1 (c .before .before .before .before .before .before .before .before .before .args .variables) (c .before .before .before .before .before .before .before .before .before .args .monomial .now) .0 (sym (c .before .before .before .is-canonical .ensures) ∙ not-false _ (c .before .before .if2 .left)) .1)
 
 -- src/doors.rt:24:5
 put-requires : tie.Need-put-requires
@@ -42,7 +53,8 @@ same-length c = search needs
 
 -- src/doors.rt:10:1
 returns-4 : tie.Need-returns-4
-returns-4 c = ?
+unfolding maskNumber maskBytes
+returns-4 c = rw (sym (c .before .before .before .before .before .before .before .before .before .maxima-good .ensures) ∙ not-false _ (c .before .before .before .before .before .before .before .before .if1 .left), sym (c .before .before .before .before .before .before .before .is-canonical .ensures) ∙ not-false _ (c .before .before .before .before .before .before .if2 .left), le-leb 4 (length (c .before .before .before .before .before .before .before .before .before .before .before .before .before .args .out .now)) (omega arith), ← (c .before .before .before .map .ensures)) (refl, c .before .before .put .ensures ∙ put-one (c .before .before .before .before .before .before .before .before .before .before .before .before .before .args .out .now) (c .before .before .before .map .result) (omega arith))
 
 pub divmask-mask-spec : {M : Type 1} → statement M
 divmask-mask-spec =
