@@ -104,6 +104,13 @@ module _ (m : ℕ) (xs : List ℕ) where
   unfolding mask
   mask-one p h = fields-skip m xs p 0 m (omega arith) (λ v i j. h v j) ∙ fields-zero m xs p
 
+  -- the mask of one variable's power
+  pub mask-single : (p : ℕ → ℕ) (u : ℕ) → u < m → ((v : ℕ) → v < m → (v ≡ u → ⊥) → p v ≡ 0) → mask m xs p ≡ field m xs u (p u) * 2 ^ firstBit m u
+  unfolding mask field
+  mask-single p u h z =
+      fields-skip m xs p (suc u) m h (λ v i j. z v j (λ e. omega arith)) ∙ fields-suc m xs p u
+      ∙ rw (fields-skip m xs p 0 u (omega arith) (λ v i j. z v (omega arith) (λ e. omega arith)), fields-zero m xs p) (omega arith)
+
   -- larger powers never clear a bit
   pub mask-more : (p q : ℕ → ℕ) → ((v : ℕ) → v < m → p v ≤ q v) → Within (mask m xs p) (mask m xs q)
   mask-more p q h = within-by (mask m xs p) (mask m xs q) (λ i.

@@ -3,7 +3,7 @@ use mathlib.Core.Path.{_≡_, refl, sym, ap, _∙_}
 use mathlib.Core.Bool.{Bool, true, false, cond}
 use Prim.Native.Nat.{ℕ, zero, suc, min, _+_, _-_, _*_, _/_, _%_, _^_, _≤_, _<_}
 use native.Mathlib.Omega.{arith}
-use native.Mathlib.Nat.{one-mul, zero-mul, pow-suc, div-lt-iff-lt-mul, le-div-iff-mul-le, add-zero, mul-le-mul, zero-min, mod-eq-of-lt}
+use native.Mathlib.Nat.{one-mul, zero-mul, pow-suc, div-lt-iff-lt-mul, le-div-iff-mul-le, add-zero, mul-le-mul, zero-min, mod-eq-of-lt, mul-comm, mul-lt-mul-of-pos-right}
 use native.Mathlib.Decide.{ℕ-discrete, decLe}
 use native.Mathlib.Numerals.{add-one}
 use lib.Dec.{ltb}
@@ -109,3 +109,12 @@ ones n h = rw (one-mul (2 ^ n)) (mod-eq-of-lt (pow-lt {i = n} {j = 64} (omega ar
 
 pub field-is : (b x q n : ℕ) → b ≤ 32 → 1 ≤ x → 1 ≤ q → n ≡ min b (most b x q) → 1 * 2 ^ n % 2 ^ 64 - 1 ≡ parts b x q b
 field-is b x q n h l k e = rw (ones n (omega arith), e) (omega (arith, parts-closed b x q l k b))
+
+-- a power at the maximum or above sets all of them
+pub parts-full : (b x q : ℕ) → 1 ≤ x → x ≤ q → (n : ℕ) → n ≤ b → parts b x q n + 1 ≡ 2 ^ n
+unfolding cutoff
+parts-full b x q h l zero k = rw (parts-zero b x q)
+parts-full b x q h l (suc n) k =
+    let lt : suc n * x < (b + 1) * x = mul-lt-mul-of-pos-right (omega arith) h in
+    let c : suc n * x / (b + 1) < x = div-lt-iff-lt-mul {k = b + 1} {x = suc n * x} {y = x} (omega arith) .1 (omega (arith, mul-comm x (b + 1))) in
+    rw (parts-suc b x q n, lt-ltb (cutoff b x (suc n)) q (omega arith), pow-suc 2 n, one-mul (2 ^ n)) (omega (arith, parts-full b x q h l n (omega arith)))

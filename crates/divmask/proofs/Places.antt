@@ -3,7 +3,7 @@ use mathlib.Core.Path.{_≡_, refl, sym, ap, _∙_}
 use mathlib.Core.Bool.{cond}
 use Prim.Native.Nat.{ℕ, zero, suc, min, _+_, _-_, _*_, _/_, _%_, _≤_, _<_}
 use native.Mathlib.Omega.{arith}
-use native.Mathlib.Nat.{div-add-mod, mod-lt, suc-mul}
+use native.Mathlib.Nat.{div-add-mod, mod-lt, suc-mul, div-eq-of-lt, mod-eq-of-lt}
 use native.Mathlib.Decide.{ℕ-discrete, decLe}
 use lib.Dec.{ltb}
 use borrow.Author.Tests.{lt-ltb, le-ltb}
@@ -43,6 +43,11 @@ apart m u (suc v) h =
 -- and number at most 32
 pub in-all : (m v : ℕ) → v < m → firstBit m v + bits m v ≤ 32
 in-all m v h = omega (arith, apart m v m h, first-all m (omega arith))
+
+-- with 32 variables or more, those from 32 on have no bit
+pub no-bit : (m v : ℕ) → 32 < m → 32 ≤ v → bits m v ≡ 0
+unfolding bits
+no-bit m v h l = rw (div-eq-of-lt h, mod-eq-of-lt h, le-ltb v 32 l)
 
 -- the variable that has bit i, and which of its bits that is
 pub record Owner (m n i : ℕ) : Type 0 where
