@@ -1,19 +1,18 @@
 -- The bits of a number. Assumes nothing.
-use mathlib.Core.Path.{_≡_, refl, sym, ap, _∙_}
-use mathlib.Core.Bool.{Bool, true, false}
+use mathlib.Core.Path.{_≡_, sym, ap, _∙_}
+use mathlib.Core.Bool.{true}
 use mathlib.Core.Logic.{_↔_}
 use Prim.Native.Nat.{ℕ, zero, suc, min, _+_, _-_, _*_, _/_, _%_, _^_, _≤_, _<_}
 use native.Mathlib.Omega.{arith}
-use native.Mathlib.Nat.{add-comm, mul-assoc, pow-suc, add-mul-div-right, add-mul-mod-self-right, div-eq-of-lt, div-div-eq-div-mul, div-one, mod-lt, lt-of-lt-of-le}
+use native.Mathlib.Nat.{add-comm, mul-assoc, pow-suc, add-mul-div-right, add-mul-mod-self-right, div-eq-of-lt, div-div-eq-div-mul, div-one, lt-of-lt-of-le}
 use native.Mathlib.Decide.{decLe}
 use lib.Arith.{digits-lt, lt-one}
 use lib.Bits.{bitAnd, and-step, and-shr, and-le-l, bitAnd}
-use lib.Dec.{leb, eqb}
+use lib.Dec.{leb}
 use lib.Pow.{pow-add, pow-pos, high, shr-shr, pow-mono}
-use borrow.Author.Tests.{le-leb, leb-true, eq-eqb, ne-eqb}
+use borrow.Author.Tests.{le-leb, leb-true}
 use Rattle.monomial.specs.Operations.{allBelow}
 use Rattle.monomial.proofs.Divisions.{all-true, all-each}
-use Rattle.monomial.proofs.Canon.{false-not-true}
 use Rattle.divmask.specs.Mask.{bit, Within, within}
 
 pub bit-small : (a i : ℕ) → bit a i ≤ 1

@@ -1,20 +1,20 @@
 -- The laws of maxima, and the walks over them. Assumes nothing.
 use mathlib.Core.Path.{_≡_, refl, sym, ap, _∙_}
-use mathlib.Core.Bool.{Bool, true, false, cond, _&&_}
-use mathlib.Core.List.{List, [], _∷_, _++_, append-nil}
+use mathlib.Core.Bool.{true, false, _&&_}
+use mathlib.Core.List.{List, [], _∷_, append-nil}
 use mathlib.Core.Logic.{_⊎_, inl, inr, _↔_}
-use Prim.Native.Nat.{ℕ, zero, suc, _+_, _-_, _*_, _/_, _%_, _^_, _≤_, _<_}
+use Prim.Native.Nat.{ℕ, zero, suc, _+_, _*_, _/_, _≤_, _<_}
 use native.Mathlib.Omega.{arith}
 use native.Mathlib.Decide.{ℕ-discrete, decLe}
-use lib.Dec.{eqb, leb, ltb}
-use lib.ListN.{length, getD, set, take, drop, length-set, drop-of-length-le}
+use lib.Dec.{eqb, leb}
+use lib.ListN.{length, getD, set, drop, length-set, drop-of-length-le, List·getD-eq-default}
 use lib.Seq.{getD-set-same, getD-set-other}
-use borrow.Author.Tests.{eq-eqb, ne-eqb, eqb-true, lt-ltb, le-ltb, ltb-true, le-leb, lt-leb, leb-true}
+use borrow.Author.Tests.{eq-eqb, ne-eqb, eqb-true, lt-ltb, le-ltb, le-leb, lt-leb, leb-true}
 use Rattle.words.specs.Kinds.{kind, ident, power}
 use Rattle.words.specs.Words.{words, bytes, putW, pasteW}
-use Rattle.words.proofs.Laws.{Bytes, length-words, length-bytes, bytes-words, words-putW, length-putW, word-and-rest}
+use Rattle.words.proofs.Laws.{Bytes, Words, length-words, bytes-words, words-putW, length-putW, words-pasteW, length-pasteW, word-and-rest}
 use Rattle.monomial.specs.Monomial.{Canonical}
-use Rattle.monomial.proofs.Canon.{IsVar, IsEnd, Canon, canon-of, both-true, false-not-true}
+use Rattle.monomial.proofs.Canon.{Canon, canon-of, both-true}
 use Rattle.monomial.proofs.Walks.{Rest, within, Last, Next, word-at}
 use Rattle.divmask.specs.Tracker.{Maxima, allInRange, maximaLent, updated, total}
 
@@ -117,17 +117,12 @@ updated-length (w ∷ ws) xs = go (updated-length ws (set xs (ident w) (power w)
     go rec (stays e) = rw e
     go rec (rises h l e) = rw e (rec ∙ simp length-set)
 
-beyond : (xs : List ℕ) (i x : ℕ) → length xs ≤ i → getD xs i 0 ≡ getD (set xs i x) i 0
-beyond [] i x l = refl
-beyond (y ∷ xs) zero x l = absurd (omega arith)
-beyond (y ∷ xs) (suc i) x l = beyond xs i x (omega arith)
-
 -- one maximum raised
 raised : (xs : List ℕ) (i x v : ℕ) → getD xs i 0 < x → getD xs v 0 ≤ getD (set xs i x) v 0
 raised xs i x v h =
     elim (ℕ-discrete v i) [
       | yes e ↦ rw e (elim (decLe (length xs) i) [
-        | yes l ↦ omega (arith, beyond xs i x l)
+        | yes l ↦ omega (arith, List·getD-eq-default xs 0 {n = i} l)
         | no l ↦ omega (arith, getD-set-same xs i x 0 (omega arith))
       ])
       | no e ↦ rw (getD-set-other xs i v x 0 e) (omega arith)
@@ -173,6 +168,23 @@ updated-good m ws xs c g = updated-canon m m 0 ws xs (canon-of c) g
 paste-all : (bs ws : List ℕ) → length bs ≡ 4 * length ws → pasteW bs 0 ws ≡ bytes ws
 unfolding pasteW
 paste-all bs ws h = rw (drop-of-length-le bs {i = 4 * 0 + 4 * length ws} (omega arith)) (append-nil (bytes ws))
+
+-- the bytes after `update` hold the new maxima, and pass question 1 again
+pub updated-words : (m : ℕ) (A bs : List ℕ) → Canonical 1 m A → Maxima m (words bs) → words (pasteW bs 0 (updated A (words bs))) ≡ updated A (words bs)
+updated-words m A bs c g =
+    let us = updated A (words bs) in
+    let h = updated-good m A (words bs) c g in
+    let l : length us ≡ length (words bs) = updated-length A (words bs) in
+    let small : Words us = λ k. elim (decLe m k) [ yes z ↦ omega (arith, List·getD-eq-default us 0 {n = k} (omega (arith, h .one-each))) | no z ↦ omega (arith, h .high k (omega arith)) ] in
+    words-pasteW bs 0 us small (omega (arith, length-words bs))
+    ∙ rw (drop-of-length-le (words bs) {i = 0 + length us} (omega arith)) (append-nil us)
+
+pub updated-lent : (m : ℕ) (A bs : List ℕ) → Canonical 1 m A → maximaLent m bs ≡ true → maximaLent m (pasteW bs 0 (updated A (words bs))) ≡ true
+updated-lent m A bs c e =
+    let g = lent-maxima m bs .0 e in
+    let h = updated-good m A (words bs) c (g .1) in
+    let k : length (pasteW bs 0 (updated A (words bs))) ≡ 4 * m = length-pasteW bs 0 (updated A (words bs)) (omega (arith, g .0, h .one-each)) ∙ g .0 in
+    lent-maxima m (pasteW bs 0 (updated A (words bs))) .1 (k, rw (updated-words m A bs c (g .1)) h)
 
 -- the walk of `update`: what is left of the product gives the rest
 pub record Updating (m : ℕ) (A bs₀ bs : List ℕ) (i : ℕ) : Type 0 where

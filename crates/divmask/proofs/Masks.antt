@@ -1,27 +1,28 @@
 -- The laws of masks, for any number of variables, and the walk of `map`. Assumes nothing.
-use mathlib.Core.Path.{_≡_, refl, sym, ap, _∙_}
-use mathlib.Core.Bool.{Bool, true, false, cond}
+use mathlib.Core.Path.{_≡_, refl, sym, _∙_}
+use mathlib.Core.Bool.{Bool, true, false, cond, _&&_}
 use mathlib.Core.List.{List}
 use mathlib.Core.Logic.{_⊎_, inl, inr, _↔_}
-use Prim.Native.Nat.{ℕ, zero, suc, min, _+_, _-_, _*_, _/_, _%_, _^_, _≤_, _<_}
+use Prim.Native.Nat.{ℕ, zero, suc, min, _+_, _*_, _/_, _%_, _^_, _≤_, _<_}
 use native.Mathlib.Omega.{arith}
-use native.Mathlib.Nat.{zero-mul, add-zero, mod-eq-of-lt, lt-of-lt-of-le, div-le-self}
+use native.Mathlib.Nat.{zero-mul, add-zero, mod-eq-of-lt, lt-of-lt-of-le}
 use native.Mathlib.Decide.{ℕ-discrete, decLe}
 use lib.Bits.{bitAnd}
-use lib.Dec.{ltb}
-use lib.ListN.{length, getD}
+use lib.Dec.{leb, ltb}
+use lib.ListN.{getD}
 use lib.Pow.{pow-mono}
+use borrow.Author.Tests.{leb-false}
 use Rattle.words.specs.Kinds.{ident, power}
 use Rattle.monomial.specs.Monomial.{Canonical, pow}
-use Rattle.monomial.specs.Operations.{Divides}
+use Rattle.monomial.specs.Operations.{Divides, allBelow}
 use Rattle.monomial.proofs.Canon.{canon-of}
 use Rattle.monomial.proofs.Divisions.{at-most}
 use Rattle.monomial.proofs.Walks.{Rest, Last, Next, word-at}
 use Rattle.divmask.specs.Mask.{bits, firstBit, cutoff, parts, field, fields, mask, bit, Within, within, tested}
-use Rattle.divmask.specs.Tracker.{Maxima}
+use Rattle.divmask.specs.declared.DivMaskTestResult.{DivMaskTestResult}
 use Rattle.divmask.specs.declared.DivMaskTestResult.the-variants.{NotDivisible, Unsure}
-use Rattle.divmask.proofs.Places.{first-zero, first-suc, first-closed, first-all, apart, in-all, Owner, owner}
-use Rattle.divmask.proofs.Digits.{bit-none, bit-low, bit-high, block-lt, within-by, within-iff, and-within, within-and}
+use Rattle.divmask.proofs.Places.{first-zero, first-suc, first-closed, apart, at-most-32, in-all, owner}
+use Rattle.divmask.proofs.Digits.{bit-none, bit-low, bit-high, block-lt, within-at, within-by, within-iff, and-within, within-and}
 use Rattle.divmask.proofs.Parts.{above, above-more, parts-lt, parts-bit, parts-absent}
 
 -- ---- the bits of the first n variables
@@ -77,13 +78,10 @@ module _ (m : ℕ) (xs : List ℕ) where
       ]
 
 -- ---- masks
-bits-all : (m : ℕ) → firstBit m m ≤ 32
-bits-all m = elim (decLe 1 m) [ yes h ↦ omega (arith, first-all m h) | no h ↦ let e : m ≡ 0 = omega arith in rw e (omega (arith, first-zero 0)) ]
-
 module _ (m : ℕ) (xs : List ℕ) where
   pub mask-small : (p : ℕ → ℕ) → mask m xs p < 2 ^ 32
   unfolding mask
-  mask-small p = lt-of-lt-of-le (fields-lt m xs p m) (pow-mono (bits-all m))
+  mask-small p = lt-of-lt-of-le (fields-lt m xs p m) (pow-mono (at-most-32 m))
 
   -- each bit, by the cutoff of its part
   pub mask-bit : (p : ℕ → ℕ) (v j : ℕ) → v < m → j < bits m v → bit (mask m xs p) (firstBit m v + j) ≡ cond (ltb (cutoff (bits m v) (getD xs v 0) (suc j)) (p v)) 1 0
@@ -127,6 +125,19 @@ module _ (m : ℕ) (xs : List ℕ) where
   mask-divides a b d = mask-more (pow 1 a) (pow 1 b) (λ v l. at-most a b d v)
 
 -- ---- the mask test
+record Fails (f : ℕ → Bool) : Type 0 where
+  i : ℕ
+  is : f i ≡ false
+
+some-false : (n : ℕ) (f : ℕ → Bool) → allBelow n f ≡ false → Fails f
+unfolding allBelow
+some-false zero f e = absurd (let z : _≡_ {A = ℕ} 0 1 = cc in omega arith)
+some-false (suc n) f e = go (some-false n f) (f n) refl e
+  where
+    go : (allBelow n f ≡ false → Fails f) → (t : Bool) → f n ≡ t → (t && allBelow n f) ≡ false → Fails f
+    go rec true q e = rec e
+    go rec false q e = record { i = n; is = q }
+
 pub tested-unsure : (a b : ℕ) → a < 2 ^ 32 → Within a b → tested a b ≡ Unsure
 unfolding tested
 tested-unsure a b h w = rw (within-iff a b h .1 w)
@@ -138,6 +149,29 @@ unsure-within a b h e = within-iff a b h .0 (go (within a b) e)
     go : (t : Bool) → cond t Unsure NotDivisible ≡ Unsure → t ≡ true
     go true e = refl
     go false e = absurd (let z : _≡_ {A = ℕ} 0 1 = cc in omega arith)
+
+-- "not divisible" says that b lacks a bit of a, and nothing else
+pub record Lacks (a b : ℕ) : Type 0 where
+  pub i : ℕ
+  pub is : bit b i < bit a i
+
+pub not-divisible-iff : (a b : ℕ) → a < 2 ^ 32 → (tested a b ≡ NotDivisible) ↔ Lacks a b
+unfolding tested within
+not-divisible-iff a b h = (to, from)
+  where
+    to : cond (allBelow 32 (λ i. leb (bit a i) (bit b i))) Unsure NotDivisible ≡ NotDivisible → Lacks a b
+    to e = go (allBelow 32 (λ i. leb (bit a i) (bit b i))) refl e
+      where
+        go : (t : Bool) → allBelow 32 (λ i. leb (bit a i) (bit b i)) ≡ t → cond t Unsure NotDivisible ≡ NotDivisible → Lacks a b
+        go true q e = absurd (let z : _≡_ {A = ℕ} 0 1 = cc in omega arith)
+        go false q e = let f = some-false 32 (λ i. leb (bit a i) (bit b i)) q in record { i = f .i; is = leb-false (bit a (f .i)) (bit b (f .i)) (f .is) }
+
+    from : Lacks a b → tested a b ≡ NotDivisible
+    from l = go (tested a b) refl
+      where
+        go : (t : DivMaskTestResult) → tested a b ≡ t → tested a b ≡ NotDivisible
+        go NotDivisible e = e
+        go Unsure e = absurd (omega (arith, l .is, within-at a b (unsure-within a b h e) (l .i)))
 
 -- as the code tests it
 pub tested-and : (a b : ℕ) → a < 2 ^ 32 → bitAnd a b ≡ a → Unsure ≡ tested a b

@@ -4,8 +4,7 @@ use native.Mathlib.Nat.{div-le-self}
 use Rattle.words.specs.Words.{words}
 use Rattle.words.proofs.Laws.{length-words}
 use Rattle.monomial.proofs.Walks.{within}
-use Rattle.divmask.specs.Tracker.{Maxima}
-use Rattle.divmask.proofs.Masks.{mask-small, Mapping, begin, mapped, Step, step, bits-are, Stepped, stepped}
+use Rattle.divmask.proofs.Masks.{mask-small, Mapping, begin, mapped, step, bits-are, stepped}
 use Rattle.monomial.specs.Monomial.{pow}
 use Prim.Native.Nat.{_%_, _-_, _/_}
 use Rattle.divmask.proofs.map.Statement.{statement}

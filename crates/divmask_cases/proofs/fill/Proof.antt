@@ -2,7 +2,7 @@ use native.Mathlib.Omega.{arith}
 use borrow.Author.Needs.{needs}
 use lib.ListN.{length}
 use mathlib.Core.Path.{_≡_, ap, _∙_}
-use Prim.Native.Nat.{_-_, _≤_}
+use Prim.Native.Nat.{_-_}
 use Rattle.words.proofs.Laws.{length-putW}
 use Rattle.divmask_cases.proofs.fill.Statement.{statement}
 use Rattle.divmask_cases.proofs.fill.Tie as tie

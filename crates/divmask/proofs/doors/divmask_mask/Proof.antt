@@ -1,5 +1,5 @@
 use native.Mathlib.Omega.{arith}
-use mathlib.Core.Path.{_≡_, refl, sym, _∙_}
+use mathlib.Core.Path.{refl, sym, _∙_}
 use borrow.Author.Tests.{not-true, not-false, le-leb, lt-leb}
 use lib.ListN.{length}
 use Rattle.divmask.proofs.Growth.{lent-maxima}

@@ -1,6 +1,5 @@
-use mathlib.Core.Path.{_≡_, refl, sym, _∙_}
-use borrow.Author.Tests.{not-true, not-false, le-leb, lt-leb}
-use lib.ListN.{length}
+use mathlib.Core.Path.{refl, sym, _∙_}
+use borrow.Author.Tests.{not-true, not-false}
 use Rattle.divmask.proofs.Growth.{lent-maxima}
 use Rattle.monomial.proofs.Laws.{lent-canonical}
 use Rattle.divmask.specs.Doors.{updateNumber, updateBytes}

@@ -1,7 +1,7 @@
 use native.Mathlib.Omega.{arith}
 use borrow.Author.Needs.{needs}
-use lib.ListN.{length, drop, drop-of-length-le}
-use Prim.Native.Nat.{_-_, _≤_, _+_}
+use lib.ListN.{drop, drop-of-length-le}
+use Prim.Native.Nat.{_-_}
 use mathlib.Core.Path.{_≡_, refl, sym, _∙_}
 use Rattle.words.specs.Words.{words}
 use Rattle.words.proofs.Laws.{length-words, word-and-rest}

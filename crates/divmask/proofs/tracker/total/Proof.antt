@@ -1,6 +1,6 @@
 use native.Mathlib.Omega.{arith}
-use lib.ListN.{length, drop}
-use Prim.Native.Nat.{_-_, _≤_, _+_}
+use lib.ListN.{drop}
+use Prim.Native.Nat.{_-_, _+_}
 use mathlib.Core.Path.{_≡_}
 use Rattle.words.specs.Words.{words}
 use Rattle.words.proofs.Laws.{length-words}

@@ -2,9 +2,9 @@ use native.Mathlib.Omega.{arith}
 use lib.ListN.{length}
 use Prim.Native.Nat.{_-_}
 use Rattle.words.specs.Words.{words}
-use Rattle.words.proofs.Laws.{length-words, length-putW}
+use Rattle.words.proofs.Laws.{length-words}
 use Rattle.monomial.proofs.Walks.{within}
-use Rattle.divmask.proofs.Growth.{Updating, begin, at-end, Word, variable, not-above, raises}
+use Rattle.divmask.proofs.Growth.{Updating, begin, at-end, variable, not-above, raises}
 use Rattle.divmask.proofs.tracker.update.Statement.{statement}
 use Rattle.divmask.proofs.tracker.update.Tie as tie
 use Rattle.divmask.proofs.tracker.update.Reads as reads
