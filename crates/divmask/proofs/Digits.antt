@@ -15,17 +15,10 @@ use Rattle.monomial.specs.Operations.{allBelow}
 use Rattle.monomial.proofs.Divisions.{all-true, all-each}
 use Rattle.divmask.specs.Mask.{bit, Within, within}
 
-pub bit-small : (a i : ℕ) → bit a i ≤ 1
-unfolding bit
-bit-small a i = omega arith
-
 -- a number below 2 ^ i has no bit i
 pub bit-none : (a i : ℕ) → a < 2 ^ i → bit a i ≡ 0
 unfolding bit
 bit-none a i h = rw (div-eq-of-lt h)
-
-pub bit-zero : (i : ℕ) → bit 0 i ≡ 0
-bit-zero i = bit-none 0 i (pow-pos i)
 
 -- a number of one bit
 pub bit-one : (d : ℕ) → d < 2 → bit d 0 ≡ d

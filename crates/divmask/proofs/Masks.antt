@@ -68,15 +68,6 @@ module _ (m : ℕ) (xs : List ℕ) where
   fields-ext p q (suc n) h =
       fields-suc p n ∙ rw (h n (omega arith), fields-ext p q n (λ v l. h v (omega arith))) (sym (fields-suc q n))
 
-  -- later variables only add
-  pub fields-up : (p : ℕ → ℕ) (c b : ℕ) → c ≤ b → fields m xs p c ≤ fields m xs p b
-  fields-up p c zero h = let e : c ≡ 0 = omega arith in rw e (omega arith)
-  fields-up p c (suc b) h =
-      elim (decLe c b) [
-        | yes l ↦ omega (arith, fields-suc p b, fields-up p c b l)
-        | no l ↦ let e : c ≡ suc b = omega arith in rw e (omega arith)
-      ]
-
 -- ---- masks
 module _ (m : ℕ) (xs : List ℕ) where
   pub mask-small : (p : ℕ → ℕ) → mask m xs p < 2 ^ 32
