@@ -1,0 +1,9 @@
+-- `Places`: which bits a variable has. `Digits`: the bits of a number. `Parts`: the bits that a power sets. `Masks`: the laws of masks.
+-- `Growth`: the laws of maxima. `Served`: what the doors' proofs share. `Cases`: document 01's bench cases.
+pub mod Places
+pub mod Digits
+pub mod Parts
+pub mod Masks
+pub mod Growth
+pub mod Served
+pub mod Cases

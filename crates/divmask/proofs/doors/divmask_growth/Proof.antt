@@ -1,0 +1,68 @@
+use native.Mathlib.Omega.{arith}
+use mathlib.Core.Path.{_≡_, refl, sym, _∙_}
+use borrow.Author.Tests.{not-true, not-false, le-leb, lt-leb}
+use lib.ListN.{length}
+use Rattle.divmask.proofs.Growth.{lent-maxima}
+use mathlib.Core.Bool.{cond}
+use mathlib.Core.Logic.{⊎-elim}
+use Rattle.words.specs.Words.{words}
+use Rattle.divmask.specs.Tracker.{grown}
+use Rattle.divmask.proofs.Served.{put-one}
+use Rattle.divmask.specs.Doors.{growthNumber, growthBytes}
+use borrow.Author.Needs.{needs}
+use Rattle.divmask.proofs.doors.divmask_growth.Statement.{statement}
+use Rattle.divmask.proofs.doors.divmask_growth.Tie as tie
+use Rattle.divmask.proofs.doors.divmask_growth.Reads as reads
+use Rattle.divmask.proofs.doors.divmask_growth.Lts as lts
+use Rattle.divmask.proofs.tracker.has_grown_beyond_percentage.Reads as has-grown-beyond-percentage-reads
+use Rattle.divmask.proofs.tracker.maxima_good.Reads as maxima-good-reads
+use Rattle.words.proofs.answer_word.Reads as answer-word-reads
+use Rattle.words.proofs.put.Reads as put-reads
+
+-- src/doors.rt:61:9
+maxima-good-requires : tie.Need-maxima-good-requires
+maxima-good-requires c κs = search needs
+
+-- src/doors.rt:62:9
+returns : tie.Need-returns
+unfolding growthNumber growthBytes
+returns c = rw (sym (c .before .maxima-good .ensures) ∙ not-true _ (c .if1 .taken)) (refl, refl)
+
+-- src/doors.rt:65:9
+returns-2 : tie.Need-returns-2
+unfolding growthNumber growthBytes
+returns-2 c = rw (sym (c .before .before .maxima-good .ensures) ∙ not-false _ (c .before .if1 .left), lt-leb 4 (length (c .before .before .before .before .before .args .out .now)) (omega arith)) (refl, refl)
+
+-- src/doors.rt:68:8
+has-grown-beyond-percentage-requires : tie.Need-has-grown-beyond-percentage-requires
+has-grown-beyond-percentage-requires c κs = lent-maxima (c .before .before .before .before .before .args .variables) (c .before .before .before .before .before .args .maxima .now) .0 (sym (c .before .before .maxima-good .ensures) ∙ not-false _ (c .before .if1 .left)) .1
+
+-- src/doors.rt:71:24
+answer-word-requires : tie.Need-answer-word-requires
+answer-word-requires c κs = ⊎-elim (λ w. omega arith) (λ w. omega arith) (c .before .if3 .came)
+
+-- src/doors.rt:71:5
+put-requires : tie.Need-put-requires
+put-requires c κs = search needs
+
+-- src/doors.rt:56:1
+same-length : tie.Need-same-length
+same-length c = search needs
+
+-- src/doors.rt:56:1
+returns-3 : tie.Need-returns-3
+unfolding growthNumber growthBytes
+returns-3 c = let e : (c .before .before .before .before .before .if3 .answer) ≡ cond (grown (c .before .before .before .before .before .before .before .before .before .before .before .before .args .variables) (words (c .before .before .before .before .before .before .before .before .before .before .before .before .args .maxima .now)) (c .before .before .before .before .before .before .before .before .before .before .before .before .args .percentage)) 1 0 = ⊎-elim (λ w. w .1 ∙ rw (sym (c .before .before .before .before .before .before .has-grown-beyond-percentage .ensures) ∙ w .0 .taken)) (λ w. w .1 ∙ rw (sym (c .before .before .before .before .before .before .has-grown-beyond-percentage .ensures) ∙ w .0 .left)) (c .before .before .before .before .before .if3 .came) in rw (sym (c .before .before .before .before .before .before .before .before .before .maxima-good .ensures) ∙ not-false _ (c .before .before .before .before .before .before .before .before .if1 .left), le-leb 4 (length (c .before .before .before .before .before .before .before .before .before .before .before .before .args .out .now)) (omega arith), ← e, ← (c .before .before .before .answer-word .ensures)) (refl, c .before .before .put .ensures ∙ put-one (c .before .before .before .before .before .before .before .before .before .before .before .before .args .out .now) (c .before .before .before .answer-word .result) (omega arith))
+
+pub divmask-growth-spec : {M : Type 1} → statement M
+divmask-growth-spec =
+    tie.close
+    (tie.spec
+    maxima-good-requires
+    returns
+    returns-2
+    has-grown-beyond-percentage-requires
+    answer-word-requires
+    put-requires
+    same-length
+    returns-3)

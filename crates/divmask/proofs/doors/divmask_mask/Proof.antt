@@ -1,0 +1,71 @@
+use native.Mathlib.Omega.{arith}
+use mathlib.Core.Path.{refl, sym, _∙_}
+use borrow.Author.Tests.{not-true, not-false, le-leb, lt-leb}
+use lib.ListN.{length}
+use Rattle.divmask.proofs.Growth.{lent-maxima}
+use Rattle.monomial.proofs.Laws.{lent-canonical}
+use Rattle.divmask.proofs.Served.{put-one}
+use Rattle.divmask.specs.Doors.{maskNumber, maskBytes}
+use borrow.Author.Needs.{needs}
+use Rattle.divmask.proofs.doors.divmask_mask.Statement.{statement}
+use Rattle.divmask.proofs.doors.divmask_mask.Tie as tie
+use Rattle.divmask.proofs.doors.divmask_mask.Reads as reads
+use Rattle.divmask.proofs.doors.divmask_mask.Lts as lts
+use Rattle.divmask.proofs.map.Reads as map-reads
+use Rattle.divmask.proofs.tracker.maxima_good.Reads as maxima-good-reads
+use Rattle.monomial.proofs.is_canonical.Reads as is-canonical-reads
+use Rattle.words.proofs.put.Reads as put-reads
+
+-- src/doors.rt:15:9
+maxima-good-requires : tie.Need-maxima-good-requires
+maxima-good-requires c κs = search needs
+
+-- src/doors.rt:16:9
+returns : tie.Need-returns
+unfolding maskNumber maskBytes
+returns c = rw (sym (c .before .maxima-good .ensures) ∙ not-true _ (c .if1 .taken)) (refl, refl)
+
+-- src/doors.rt:18:9
+is-canonical-requires : tie.Need-is-canonical-requires
+is-canonical-requires c κs = search needs
+
+-- src/doors.rt:19:9
+returns-2 : tie.Need-returns-2
+unfolding maskNumber maskBytes
+returns-2 c = rw (sym (c .before .before .before .maxima-good .ensures) ∙ not-false _ (c .before .before .if1 .left), sym (c .before .is-canonical .ensures) ∙ not-true _ (c .if2 .taken)) (refl, refl)
+
+-- src/doors.rt:22:9
+returns-3 : tie.Need-returns-3
+unfolding maskNumber maskBytes
+returns-3 c = rw (sym (c .before .before .before .before .maxima-good .ensures) ∙ not-false _ (c .before .before .before .if1 .left), sym (c .before .before .is-canonical .ensures) ∙ not-false _ (c .before .if2 .left), lt-leb 4 (length (c .before .before .before .before .before .before .before .before .args .out .now)) (omega arith)) (refl, refl)
+
+-- src/doors.rt:24:24
+map-requires : tie.Need-map-requires
+map-requires c κs = (lent-maxima (c .before .before .before .before .before .before .before .before .before .args .variables) (c .before .before .before .before .before .before .before .before .before .args .maxima .now) .0 (sym (c .before .before .before .before .before .maxima-good .ensures) ∙ not-false _ (c .before .before .before .before .if1 .left)) .1, lent-canonical 1 (c .before .before .before .before .before .before .before .before .before .args .variables) (c .before .before .before .before .before .before .before .before .before .args .monomial .now) .0 (sym (c .before .before .before .is-canonical .ensures) ∙ not-false _ (c .before .before .if2 .left)) .1)
+
+-- src/doors.rt:24:5
+put-requires : tie.Need-put-requires
+put-requires c κs = search needs
+
+-- src/doors.rt:10:1
+same-length : tie.Need-same-length
+same-length c = search needs
+
+-- src/doors.rt:10:1
+returns-4 : tie.Need-returns-4
+unfolding maskNumber maskBytes
+returns-4 c = rw (sym (c .before .before .before .before .before .before .before .before .before .maxima-good .ensures) ∙ not-false _ (c .before .before .before .before .before .before .before .before .if1 .left), sym (c .before .before .before .before .before .before .before .is-canonical .ensures) ∙ not-false _ (c .before .before .before .before .before .before .if2 .left), le-leb 4 (length (c .before .before .before .before .before .before .before .before .before .before .before .before .before .args .out .now)) (omega arith), ← (c .before .before .before .map .ensures)) (refl, c .before .before .put .ensures ∙ put-one (c .before .before .before .before .before .before .before .before .before .before .before .before .before .args .out .now) (c .before .before .before .map .result) (omega arith))
+
+pub divmask-mask-spec : {M : Type 1} → statement M
+divmask-mask-spec =
+    tie.close
+    (tie.spec
+    maxima-good-requires
+    returns
+    is-canonical-requires
+    returns-2
+    returns-3
+    map-requires
+    put-requires
+    same-length
+    returns-4)

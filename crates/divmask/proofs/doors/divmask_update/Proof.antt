@@ -1,0 +1,66 @@
+use mathlib.Core.Path.{refl, sym, _∙_}
+use borrow.Author.Tests.{not-true, not-false}
+use Rattle.divmask.proofs.Growth.{lent-maxima}
+use Rattle.monomial.proofs.Laws.{lent-canonical}
+use Rattle.divmask.specs.Doors.{updateNumber, updateBytes}
+use borrow.Author.Needs.{needs}
+use Rattle.divmask.proofs.doors.divmask_update.Statement.{statement}
+use Rattle.divmask.proofs.doors.divmask_update.Tie as tie
+use Rattle.divmask.proofs.doors.divmask_update.Reads as reads
+use Rattle.divmask.proofs.doors.divmask_update.Lts as lts
+use Rattle.divmask.proofs.tracker.maxima_good.Reads as maxima-good-reads
+use Rattle.divmask.proofs.tracker.update.Reads as update-reads
+use Rattle.monomial.proofs.is_canonical.Reads as is-canonical-reads
+
+-- src/doors.rt:45:9
+maxima-good-requires : tie.Need-maxima-good-requires
+maxima-good-requires c κs = search needs
+
+-- src/doors.rt:46:9
+same-length : tie.Need-same-length
+same-length c = search needs
+
+-- src/doors.rt:46:9
+returns : tie.Need-returns
+unfolding updateNumber updateBytes
+returns c = rw (sym (c .before .maxima-good .ensures) ∙ not-true _ (c .if1 .taken)) (refl, refl)
+
+-- src/doors.rt:48:9
+is-canonical-requires : tie.Need-is-canonical-requires
+is-canonical-requires c κs = search needs
+
+-- src/doors.rt:49:9
+same-length-2 : tie.Need-same-length-2
+same-length-2 c = search needs
+
+-- src/doors.rt:49:9
+returns-2 : tie.Need-returns-2
+unfolding updateNumber updateBytes
+returns-2 c = rw (sym (c .before .before .before .maxima-good .ensures) ∙ not-false _ (c .before .before .if1 .left), sym (c .before .is-canonical .ensures) ∙ not-true _ (c .if2 .taken)) (refl, refl)
+
+-- src/doors.rt:51:5
+update-requires : tie.Need-update-requires
+update-requires c κs = let g = lent-maxima (c .before .before .before .before .before .before .before .before .args .variables) (c .before .before .before .before .before .before .before .before .args .maxima .now) .0 (sym (c .before .before .before .before .maxima-good .ensures) ∙ not-false _ (c .before .before .before .if1 .left)) in (g .0, (g .1, lent-canonical 1 (c .before .before .before .before .before .before .before .before .args .variables) (c .before .before .before .before .before .before .before .before .args .monomial .now) .0 (sym (c .before .before .is-canonical .ensures) ∙ not-false _ (c .before .if2 .left)) .1))
+
+-- src/doors.rt:40:1
+same-length-3 : tie.Need-same-length-3
+same-length-3 c = search needs
+
+-- src/doors.rt:40:1
+returns-3 : tie.Need-returns-3
+unfolding updateNumber updateBytes
+returns-3 c = rw (sym (c .before .before .before .before .before .before .before .maxima-good .ensures) ∙ not-false _ (c .before .before .before .before .before .before .if1 .left), sym (c .before .before .before .before .before .is-canonical .ensures) ∙ not-false _ (c .before .before .before .before .if2 .left)) (refl, c .before .before .update .ensures)
+
+pub divmask-update-spec : {M : Type 1} → statement M
+divmask-update-spec =
+    tie.close
+    (tie.spec
+    maxima-good-requires
+    same-length
+    returns
+    is-canonical-requires
+    same-length-2
+    returns-2
+    update-requires
+    same-length-3
+    returns-3)

@@ -1,0 +1,23 @@
+use native.Mathlib.Omega.{arith}
+use native.Mathlib.Nat.{mul-le-mul}
+use mathlib.Core.Logic.{⊎-elim}
+use Prim.Native.Nat.{_≤_, _*_}
+use Rattle.divmask.proofs.first_bit.Statement.{statement}
+use Rattle.divmask.proofs.first_bit.Tie as tie
+use Rattle.divmask.proofs.first_bit.Reads as reads
+use Rattle.divmask.proofs.first_bit.Lts as lts
+
+-- src/lib.rt:34:5
+mul-result : tie.Need-mul-result
+mul-result c = let h : (c .args .v) * (c .args .whole) ≤ 64 * 32 = mul-le-mul (c .pre .1) (c .pre .0) in omega arith
+
+-- src/lib.rt:34:5
+add-result : tie.Need-add-result
+add-result c = let h : (c .before .before .args .v) * (c .before .before .args .whole) ≤ 64 * 32 = mul-le-mul (c .before .before .pre .1) (c .before .before .pre .0) in ⊎-elim (λ w. omega arith) (λ w. omega arith) (c .before .if1 .came)
+
+-- src/lib.rt:30:1
+returns : tie.Need-returns
+returns c = ⊎-elim (λ w. omega arith) (λ w. omega arith) (c .before .if1 .came)
+
+pub first-bit-spec : {M : Type 1} → statement M
+first-bit-spec = tie.close (tie.spec mul-result add-result returns)

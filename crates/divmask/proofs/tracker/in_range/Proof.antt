@@ -1,0 +1,67 @@
+use native.Mathlib.Omega.{arith}
+use borrow.Author.Needs.{needs}
+use lib.ListN.{drop, drop-of-length-le}
+use Prim.Native.Nat.{_-_}
+use mathlib.Core.Path.{_≡_, refl, sym, _∙_}
+use Rattle.words.specs.Words.{words}
+use Rattle.words.proofs.Laws.{length-words, word-and-rest}
+use Rattle.divmask.specs.Tracker.{allInRange}
+use Rattle.divmask.proofs.Growth.{range-low, range-high, range-in, range-nil}
+use Rattle.divmask.proofs.tracker.in_range.Statement.{statement}
+use Rattle.divmask.proofs.tracker.in_range.Tie as tie
+use Rattle.divmask.proofs.tracker.in_range.Reads as reads
+use Rattle.divmask.proofs.tracker.in_range.Lts as lts
+use Rattle.words.proofs.get.Reads as get-reads
+
+abbrev Inv-loop : tie.InvT-loop
+Inv-loop s n i₀ i = allInRange (words s) ≡ allInRange (drop i (words s))
+
+abbrev μ-loop : tie.MeasureT-loop
+μ-loop s n i₀ i = n - i
+
+-- src/tracker.rt:13:5
+loop-holds : tie.Need-loop-holds Inv-loop μ-loop
+loop-holds c = refl
+
+-- src/tracker.rt:14:13
+get-requires : tie.Need-get-requires Inv-loop μ-loop
+get-requires c κs = search needs
+
+-- src/tracker.rt:16:13
+returns : tie.Need-returns Inv-loop μ-loop
+returns c = sym (c .before .before .before .loop .inv ∙ rw (word-and-rest (words (c .before .before .before .before .before .args .s .now)) (c .before .before .before .loop .i) (c .before .get .result) (omega (arith, length-words (c .before .before .before .before .before .args .s .now))) (c .before .get .ensures)) (range-low (c .before .get .result) _ (c .if1 .taken)))
+
+-- src/tracker.rt:19:13
+returns-2 : tie.Need-returns-2 Inv-loop μ-loop
+returns-2 c = sym (c .before .before .before .before .loop .inv ∙ rw (word-and-rest (words (c .before .before .before .before .before .before .args .s .now)) (c .before .before .before .before .loop .i) (c .before .before .get .result) (omega (arith, length-words (c .before .before .before .before .before .before .args .s .now))) (c .before .before .get .ensures)) (range-high (c .before .before .get .result) _ (omega arith) (c .if2 .taken)))
+
+-- src/tracker.rt:21:9
+add-i : tie.Need-add-i Inv-loop μ-loop
+add-i c = search needs
+
+-- src/tracker.rt:13:5
+loop-less : tie.Need-loop-less Inv-loop μ-loop
+loop-less c = search needs
+
+-- src/tracker.rt:13:5
+loop-again : tie.Need-loop-again Inv-loop μ-loop
+loop-again c = c .before .before .before .before .loop .inv ∙ rw (word-and-rest (words (c .before .before .before .before .before .before .args .s .now)) (c .before .before .before .before .loop .i) (c .before .before .get .result) (omega (arith, length-words (c .before .before .before .before .before .before .args .s .now))) (c .before .before .get .ensures)) (range-in (c .before .before .get .result) _ (omega arith) (omega arith))
+
+-- src/tracker.rt:8:1
+returns-3 : tie.Need-returns-3 Inv-loop μ-loop
+returns-3 c = sym (c .before .loop .inv ∙ rw (drop-of-length-le (words (c .before .before .before .args .s .now)) {i = (c .before .loop .i)} (omega (arith, length-words (c .before .before .before .args .s .now)))) range-nil)
+
+pub in-range-spec : {M : Type 1} → statement M
+in-range-spec =
+    tie.close
+    (tie.spec
+    Inv-loop
+    μ-loop
+    loop-holds
+    get-requires
+    returns
+    returns-2
+    add-i
+    loop-less
+    loop-again
+    returns-3)
