@@ -1,48 +1,55 @@
--- The bench cases of document 01 that are marked P: one table, and the one theorem that every case passes. Assumes nothing.
-use mathlib.Core.Path.{_≡_, refl}
-use mathlib.Core.Bool.{Bool, true, cond, _&&_}
+-- The bench cases of document 01 that are marked P, as one table of statements about the definitions that the contracts cite.
+-- proofs/Theorem.antt proves that every one holds. Assumes nothing.
+use mathlib.Core.Path.{_≡_}
+use mathlib.Core.Bool.{cond}
 use mathlib.Core.List.{List, [], _∷_}
-use Prim.Native.Nat.{ℕ}
+use Prim.Native.Nat.{ℕ, _≤_}
 use lib.Dec.{eqb}
-use Rattle.monomial.specs.Monomial.{find, powerOf, pow, varsOf, monomialOf}
-use Rattle.monomial.specs.Operations.{powers, result, equal}
-use Rattle.monomial.specs.Order.{compare, total, revlex, grevlex, order}
-use Rattle.monomial.specs.declared.monomial_ordering.CmpOrd.{CmpOrd}
-use Rattle.monomial.specs.declared.monomial_ordering.CmpOrd.the-variants.{Less, Equal, Greater}
+use Rattle.words.specs.Kinds.{varWord, endWord}
+use Rattle.monomial.specs.Monomial.{pow, monomialOf}
+use Rattle.monomial.specs.Operations.{result}
+use Rattle.monomial.specs.Order.{order}
+use Rattle.monomial.specs.declared.monomial_ordering.CmpOrd.the-variants.{Greater}
 use Rattle.monomial.specs.declared.ordered_ops.Op.the-variants.{Ratio}
+use Rattle.divmask.specs.Mask.{bits, mask}
+use Rattle.divmask.specs.Tracker.{updated}
+use Rattle.kd_theory.specs.Bifurcate.{average}
 
--- what the definitions give, and what document 01 expects, as words
-pub record Case : Type 0 where
-  pub given : List ℕ
-  pub expected : List ℕ
-
-abbrev pub gives : List ℕ → List ℕ → Case
-gives g e = record { given = g; expected = e }
-
-abbrev pub number : CmpOrd → ℕ
-number Less = 0
-number Equal = 1
-number Greater = 2
+-- every statement of a table
+abbrev pub AllHold : List (Type 0) → Type 0
+AllHold [] = Unit {0}
+AllHold (c ∷ cs) = c × AllHold cs
 
 -- the power p of variable u, and q of variable v
 abbrev pub two : ℕ → ℕ → ℕ → ℕ → ℕ → ℕ
 two u p v q i = cond (eqb i u) p (cond (eqb i v) q 0)
 
-unfoldable pub allPass : List Case → Bool
-allPass [] = true
-allPass (c ∷ cs) = equal (c .given) (c .expected) && allPass cs
+-- the mask of variable v to the power q
+abbrev pub maskAt : ℕ → List ℕ → ℕ → ℕ → ℕ
+maskAt m xs v q = mask m xs (pow 1 (varWord 1 v q ∷ endWord 1 ∷ []))
 
-unfoldable pub table : List Case
+abbrev pub table : List (Type 0)
 table =
     -- x1^2 / (x1^2 · x0) is x0^−1
-    gives (result Ratio (0x10010002 ∷ 1 ∷ []) (0x10010002 ∷ 0x10000001 ∷ 2 ∷ [])) (0x20007FFF ∷ 1 ∷ []) ∷
+    (result Ratio (0x10010002 ∷ 1 ∷ []) (0x10010002 ∷ 0x10000001 ∷ 2 ∷ []) ≡ 0x20007FFF ∷ 1 ∷ []) ∷
     -- x1^2 is above x1 · x0
-    gives (number (order 1 (0x10010002 ∷ 1 ∷ []) (0x10010001 ∷ 0x10000001 ∷ 2 ∷ [])) ∷ []) (number Greater ∷ []) ∷
+    (order 1 (0x10010002 ∷ 1 ∷ []) (0x10010001 ∷ 0x10000001 ∷ 2 ∷ []) ≡ Greater) ∷
     -- the words of x3^2 · x0, and of one
-    gives (monomialOf 1 (two 3 2 0 1)) (0x10030002 ∷ 0x10000001 ∷ 0x00000002 ∷ []) ∷
-    gives (monomialOf 1 (two 0 0 0 0)) (0x00000000 ∷ []) ∷
+    (monomialOf 1 (two 3 2 0 1) ≡ 0x10030002 ∷ 0x10000001 ∷ 0x00000002 ∷ []) ∷
+    (monomialOf 1 (two 0 0 0 0) ≡ 0x00000000 ∷ []) ∷
+    -- one variable, maximum 33
+    (maskAt 1 (33 ∷ []) 0 1 ≡ 0) ∷
+    (maskAt 1 (33 ∷ []) 0 2 ≡ 1) ∷
+    (maskAt 1 (33 ∷ []) 0 32 ≡ 0x7FFFFFFF) ∷
+    (maskAt 1 (33 ∷ []) 0 33 ≡ 0xFFFFFFFF) ∷
+    -- three variables, maxima 1, at any power from 1
+    ((q : ℕ) → 1 ≤ q → q ≤ 32767 → maskAt 3 (1 ∷ 1 ∷ 1 ∷ []) 0 q ≡ 0x7FF) ∷
+    ((q : ℕ) → 1 ≤ q → q ≤ 32767 → maskAt 3 (1 ∷ 1 ∷ 1 ∷ []) 2 q ≡ 0xFFC00000) ∷
+    -- 33 variables: id 32 has no bit
+    (bits 33 32 ≡ 0) ∷
+    -- averages
+    (average 3 6 ≡ 5) ∷
+    (average 3 4 ≡ 4) ∷
+    -- maxima 1, 1: `update` with x1 · x0^5 leaves both 1
+    (updated (0x10010001 ∷ 0x10000005 ∷ 2 ∷ []) (1 ∷ 1 ∷ []) ≡ 1 ∷ 1 ∷ []) ∷
     []
-
-pub all-pass : allPass table ≡ true
-unfolding table allPass equal result powers monomialOf varsOf pow powerOf find order grevlex total revlex compare
-all-pass = refl

@@ -1,0 +1,2 @@
+-- `Theorem`: every case of the table holds.
+pub mod Theorem
