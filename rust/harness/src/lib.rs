@@ -5,8 +5,10 @@
 //! same down to the ties; and the definitions of [`meaning`], which know no
 //! tree. [`jobs`] makes the lists, [`compare`] holds the opinions against each
 //! other, and [`leaves`] does the same for the operations below the index.
+//! [`doors`] lends the same work to the port, as bytes through C.
 
 pub mod compare;
+pub mod doors;
 pub mod grevlex;
 pub mod jobs;
 pub mod leaves;

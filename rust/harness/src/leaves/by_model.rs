@@ -16,7 +16,7 @@ pub fn answer(work: &Work) -> Answer {
     let words = match &work.operands {
         Operands::Two(a, b) => {
             let read = match work.leaf {
-                Leaf::OrdRatio => read_ratio,
+                Leaf::EqRatio | Leaf::OrdRatio => read_ratio,
                 _ => read_monomial,
             };
             let a = whole(read(a, variables, Rules::document_01()))?;
@@ -32,8 +32,9 @@ pub fn answer(work: &Work) -> Answer {
             let maxima = read_maxima(variables, maxima)?;
             number(has_grown_beyond_percentage(&maxima, *percentage).into())
         }
+        Operands::Masks(a, b) => vec![u32::from(a & !b == 0)],
     };
-    fits(words, work.room)
+    fits(words, work)
 }
 
 /// Question 7: something was read, and nothing is left of the words.
@@ -58,7 +59,7 @@ fn of_two(leaf: Leaf, a: &Powers, b: &Powers) -> Answer {
             }
             monomial_words(product.vars())
         }
-        Leaf::Eq => number((a == b).into()),
+        Leaf::Eq | Leaf::EqRatio => number((a == b).into()),
         _ => number((a.compare(b, Rules::document_01()) as i32 + 1) as u32),
     })
 }

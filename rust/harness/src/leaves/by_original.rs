@@ -14,14 +14,13 @@ use crate::{
 pub fn answer(work: &Work) -> Answer {
     let variables = are_variables(work.variables)?;
     let words = match &work.operands {
-        Operands::Two(a, b) if work.leaf == Leaf::OrdRatio => {
-            let a = whole(a, variables, read_quotient)?;
-            let b = whole(b, variables, read_quotient)?;
-            compare(&monomial(&a), &monomial(&b))
-        }
         Operands::Two(a, b) => {
-            let a = whole(a, variables, read_product)?;
-            let b = whole(b, variables, read_product)?;
+            let read = match work.leaf {
+                Leaf::EqRatio | Leaf::OrdRatio => read_quotient,
+                _ => read_product,
+            };
+            let a = whole(a, variables, read)?;
+            let b = whole(b, variables, read)?;
             of_two(work.leaf, monomial(&a), monomial(&b))?
         }
         Operands::Masked { maxima, monomial } => {
@@ -33,8 +32,9 @@ pub fn answer(work: &Work) -> Answer {
             let maxima = Maxima::new::<Order>(&read_maxima(variables, maxima)?);
             yes(maxima.has_grown_beyond_percentage(*percentage))
         }
+        Operands::Masks(a, b) => vec![u32::from(is_unsure(*a, *b))],
     };
-    fits(words, work.room)
+    fits(words, work)
 }
 
 /// Question 7: the words are one monomial, or ratio, and no more.
@@ -67,8 +67,8 @@ fn of_two(leaf: Leaf, a: Monomial<Order>, b: Monomial<Order>) -> Answer {
             }
             monomial_words(vars(&product))
         }
-        Leaf::Eq => yes(a == b),
-        Leaf::Ord => compare(&a, &b),
+        Leaf::Eq | Leaf::EqRatio => yes(a == b),
+        Leaf::Ord | Leaf::OrdRatio => compare(&a, &b),
         _ => unreachable!("{leaf:?} takes other operands"),
     })
 }
@@ -83,6 +83,16 @@ fn masked(leaf: Leaf, maxima: &[i32], vars: &[Var]) -> Vec<u32> {
         }
         _ => unreachable!("{leaf:?} takes other operands"),
     }
+}
+
+/// What the original's mask test says of two masks, which are made from
+/// monomials: of 32 variables with maximum 1 each has the bit of its id.
+fn is_unsure(a: u32, b: u32) -> bool {
+    let with_mask = |mask: u32| {
+        let ids = (0..32u16).rev().filter(|id| mask >> id & 1 == 1);
+        monomial::<Order, i32>(&ids.map(|id| (id, 1)).collect::<Vec<Var>>())
+    };
+    Map::new::<Order>(&[1; 32]).is_unsure(&with_mask(a), &with_mask(b))
 }
 
 fn compare(a: &Monomial<Order>, b: &Monomial<Order>) -> Vec<u32> {

@@ -1,12 +1,13 @@
 //! The operations below the index, words in and words out: monomial, mask and
 //! growth work, and the label map alone.
 //!
-//! [`by_original`] asks the original and [`by_model`] the model; the port is to
-//! be asked the same [`Work`] through C.
+//! [`by_original`] asks the original and [`by_model`] the model; [`crate::doors`]
+//! asks the port through C.
 
 pub mod by_model;
 pub mod by_original;
 pub mod labels;
+pub mod record;
 pub mod samples;
 
 use std::fmt;
@@ -28,10 +29,15 @@ pub enum Leaf {
     Eq,
     /// Two monomials: a kind 4 word, less 0, equal 1, greater 2.
     Ord,
-    /// Two ratios, likewise.
+    /// Two ratios: a kind 4 word, yes 1, no 0.
+    EqRatio,
+    /// Two ratios: a kind 4 word, less 0, equal 1, greater 2.
     OrdRatio,
     /// Maxima and a monomial: a bare word.
     Mask,
+    /// Two masks: not divisible 0, unsure 1. It has no question, and its answer
+    /// is returned and not written.
+    MaskDivides,
     /// Maxima and a monomial: the new maxima as bare words.
     Update,
     /// Maxima and a percentage: a kind 4 word, yes 1, no 0.
@@ -39,7 +45,7 @@ pub enum Leaf {
 }
 
 impl Leaf {
-    pub const ALL: [Leaf; 11] = [
+    pub const ALL: [Leaf; 13] = [
         Leaf::Gcd,
         Leaf::WholeDivision,
         Leaf::Divides,
@@ -47,8 +53,10 @@ impl Leaf {
         Leaf::Mul,
         Leaf::Eq,
         Leaf::Ord,
+        Leaf::EqRatio,
         Leaf::OrdRatio,
         Leaf::Mask,
+        Leaf::MaskDivides,
         Leaf::Update,
         Leaf::Growth,
     ];
@@ -62,8 +70,10 @@ impl Leaf {
             Leaf::Mul => "mul",
             Leaf::Eq => "eq",
             Leaf::Ord => "ord",
+            Leaf::EqRatio => "eq_ratio",
             Leaf::OrdRatio => "ord_ratio",
             Leaf::Mask => "mask",
+            Leaf::MaskDivides => "mask_divides",
             Leaf::Update => "update",
             Leaf::Growth => "growth",
         }
@@ -91,6 +101,7 @@ pub enum Operands {
         maxima: Vec<u32>,
         percentage: u8,
     },
+    Masks(u32, u32),
 }
 
 /// The answer's words, or the number of the refusal.
@@ -113,9 +124,9 @@ fn read_maxima(variables: usize, maxima: &[u32]) -> Result<Vec<i32>, u32> {
     Ok(maxima.iter().map(|m| *m as i32).collect())
 }
 
-/// Question 5.
-fn fits(words: Vec<u32>, room: usize) -> Answer {
-    if words.len() <= room {
+/// Question 5. Update doesn't ask it, since it changes the maxima in place.
+fn fits(words: Vec<u32>, work: &Work) -> Answer {
+    if work.leaf == Leaf::Update || words.len() <= work.room {
         Ok(words)
     } else {
         Err(5)
@@ -130,6 +141,7 @@ pub fn vector(work: &Work, answer: &Answer) -> String {
         Operands::Two(a, b) => format!("{} :{}", Hex(a), Hex(b)),
         Operands::Masked { maxima, monomial } => format!("{} :{}", Hex(maxima), Hex(monomial)),
         Operands::Grown { maxima, percentage } => format!("{} : {percentage:08x}", Hex(maxima)),
+        Operands::Masks(a, b) => format!(" {a:08x} : {b:08x}"),
     };
     match answer {
         Ok(words) => format!("{head} :{operands} ={}", Hex(words)),

@@ -15,11 +15,14 @@ const ROOMY: usize = 65;
 
 /// Work drawn at random: mostly good, some of it damaged or short of room.
 pub fn random(leaf: Leaf, rng: &mut Rng) -> Work {
+    if leaf == Leaf::MaskDivides {
+        return of_masks(draw_masks(rng));
+    }
     let variables = draw_variables(rng);
     let tallest = *rng.choose(&[1, 3, 40, MAX_POWER]);
     let mut operands = draw_operands(leaf, variables, tallest, rng);
     if rng.chance(8) {
-        damage(&mut operands, rng);
+        damage(&mut operands, variables as u32, rng);
     }
     Work {
         leaf,
@@ -35,6 +38,27 @@ pub fn random(leaf: Leaf, rng: &mut Rng) -> Work {
             _ => ROOMY,
         },
         operands,
+    }
+}
+
+fn of_masks((a, b): (u32, u32)) -> Work {
+    Work {
+        leaf: Leaf::MaskDivides,
+        variables: 1,
+        room: ROOMY,
+        operands: Operands::Masks(a, b),
+    }
+}
+
+/// Two masks, often the second with the bits of the first but for one.
+fn draw_masks(rng: &mut Rng) -> (u32, u32) {
+    let mut draw = || (rng.below(1 << 16) << 16 | rng.below(1 << 16)) as u32;
+    let (a, b, other) = (draw(), draw(), draw());
+    match rng.below(4) {
+        0 => (a, b),
+        1 => (a, a | b),
+        2 => (a, (a | b) & !(1 << rng.below(32))),
+        _ => (a & b & other, a & !(1 << rng.below(32))),
     }
 }
 
@@ -60,15 +84,16 @@ fn draw_operands(leaf: Leaf, variables: usize, tallest: i32, rng: &mut Rng) -> O
             maxima: draw_maxima(variables, tallest, rng),
             monomial: monomial_words(a.vars()),
         },
-        Leaf::OrdRatio => {
+        Leaf::EqRatio | Leaf::OrdRatio => {
             let lm = draw_powers(variables, tallest, rng);
             let ratio = a.over(&lm);
             let other = move_some(&ratio, -MAX_POWER, rng);
             Operands::Two(ratio_words(ratio.vars()), ratio_words(other.vars()))
         }
         _ => {
-            let b = match rng.below(3) {
+            let b = match rng.below(4) {
                 0 => draw_powers(variables, tallest, rng),
+                1 if leaf == Leaf::Mul => complement(&a, rng),
                 _ => move_some(&a, 0, rng),
             };
             Operands::Two(monomial_words(a.vars()), monomial_words(b.vars()))
@@ -78,7 +103,9 @@ fn draw_operands(leaf: Leaf, variables: usize, tallest: i32, rng: &mut Rng) -> O
 
 fn draw_powers(variables: usize, tallest: i32, rng: &mut Rng) -> Powers {
     let present = *rng.choose(&[10, 50, 90, 100]);
+    let edges = tallest == MAX_POWER && rng.chance(30);
     let power = |_| match rng.chance(present) {
+        true if edges => *rng.choose(&[1, MAX_POWER - 1, MAX_POWER]),
         true => rng.between(0, tallest),
         false => 0,
     };
@@ -107,7 +134,21 @@ fn move_some(powers: &Powers, least: i32, rng: &mut Rng) -> Powers {
     moved
 }
 
-fn damage(operands: &mut Operands, rng: &mut Rng) {
+/// Powers whose product with the given ones is 32,767, or now and then in one
+/// variable 32,768.
+fn complement(powers: &Powers, rng: &mut Rng) -> Powers {
+    let rest = powers.0.iter().map(|power| MAX_POWER - power);
+    let mut rest = Powers(rest.collect());
+    let at = rng.below(rest.0.len());
+    if rng.chance(50) && rest.0[at] < MAX_POWER {
+        rest.0[at] += 1;
+    }
+    rest
+}
+
+/// Spoils the words: a length, a bit, a power, a kind or an id at its limits,
+/// or their order.
+fn damage(operands: &mut Operands, variables: u32, rng: &mut Rng) {
     let words = match operands {
         Operands::Two(a, b) => match rng.chance(50) {
             true => a,
@@ -118,22 +159,36 @@ fn damage(operands: &mut Operands, rng: &mut Rng) {
             false => monomial,
         },
         Operands::Grown { maxima, .. } => maxima,
+        Operands::Masks(..) => return,
     };
     let at = rng.below(words.len());
-    match rng.below(6) {
+    match rng.below(8) {
         0 => words.truncate(at),
         1 => words.push(*rng.choose(&[0, 1, 0x1000_0001])),
         2 => words[at] ^= 1 << rng.below(32),
         3 => words[at] = words[at] & 0xFFFF_0000 | *rng.choose(&[0, 0x7FFF, 0x8000, 0xFFFF]),
-        4 => words.insert(at, words[at]),
+        4 => words[at] = words[at] & 0x0FFF_FFFF | (rng.below(16) as u32) << 28,
+        5 => {
+            let id = *rng.choose(&[variables - 1, variables, variables + 1, 0xFFF]);
+            words[at] = words[at] & 0xF000_FFFF | id << 16;
+        }
+        6 => words.insert(at, words[at]),
         _ => words.swap(at, 0),
     }
 }
 
-/// All work of a leaf on up to three variables and powers up to 2, or ratios
-/// from -2 to 2 in two variables.
+/// All work of a leaf on up to three variables and powers up to 2, on ratios
+/// from -2 to 2 in two variables, or on masks in their upper or lower 5 bits.
 pub fn exhaustive(leaf: Leaf) -> Vec<Work> {
-    let mut works = vec![];
+    if leaf == Leaf::MaskDivides {
+        let pairs = (0..32).flat_map(|a| (0..32).map(move |b| (a, b)));
+        let upper = pairs.clone().map(|(a, b)| (a << 27, b << 27));
+        return pairs.chain(upper).map(of_masks).collect();
+    }
+    let mut works = match leaf {
+        Leaf::Mask | Leaf::Update => limits(leaf),
+        _ => vec![],
+    };
     for variables in 1..=3 {
         let monomials = grid(variables, 0, 2);
         let operands: Vec<Operands> = match leaf {
@@ -145,7 +200,9 @@ pub fn exhaustive(leaf: Leaf) -> Vec<Work> {
                 .iter()
                 .flat_map(|maxima| monomials.iter().map(|m| masked(maxima, m)))
                 .collect(),
-            Leaf::OrdRatio => pairs(&grid(variables.min(2), -2, 2), |p| ratio_words(p.vars())),
+            Leaf::EqRatio | Leaf::OrdRatio => {
+                pairs(&grid(variables.min(2), -2, 2), |p| ratio_words(p.vars()))
+            }
             _ => pairs(&monomials, |p| monomial_words(p.vars())),
         };
         works.extend(operands.into_iter().map(|operands| Work {
@@ -154,6 +211,41 @@ pub fn exhaustive(leaf: Leaf) -> Vec<Work> {
             room: ROOMY,
             operands,
         }));
+    }
+    works
+}
+
+/// Each variable alone, at powers and maxima around those where its bits
+/// change, for variable counts where the number of its bits does.
+fn limits(leaf: Leaf) -> Vec<Work> {
+    let mut works = vec![];
+    for variables in [1, 2, 3, 5, 16, 17, 31, 32, 33, 63, 64] {
+        for id in 0..variables {
+            for maximum in [1, 2, 17, 33, MAX_POWER - 1, MAX_POWER] {
+                for power in [
+                    1,
+                    2,
+                    3,
+                    16,
+                    17,
+                    32,
+                    33,
+                    34,
+                    16_384,
+                    MAX_POWER - 1,
+                    MAX_POWER,
+                ] {
+                    let mut monomial = Powers::one(variables);
+                    monomial.0[id] = power;
+                    works.push(Work {
+                        leaf,
+                        variables: variables as u32,
+                        room: ROOMY,
+                        operands: masked(&Powers(vec![maximum; variables]), &monomial),
+                    });
+                }
+            }
+        }
     }
     works
 }

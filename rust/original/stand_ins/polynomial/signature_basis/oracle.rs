@@ -21,7 +21,9 @@ use super::{
 use crate::{
     field::fixed_size::F2,
     polynomial::{
-        self, divmask::MaximumExponentsTracker, monomial_ordering::Ordering, Exponent, Polynomial,
+        self,
+        divmask::{DivMaskTestResult, MaximumExponentsTracker},
+        monomial_ordering::Ordering, Exponent, Polynomial,
         Term, VariablePower,
     },
 };
@@ -115,6 +117,12 @@ impl Map {
             .trim_end_matches(')')
             .parse()
             .unwrap()
+    }
+
+    /// Whether the mask test leaves open that a divides b.
+    pub fn is_unsure<O: Ordering>(&self, a: &Monomial<O>, b: &Monomial<O>) -> bool {
+        let result = self.div_map.map(a).divides(&self.div_map.map(b));
+        matches!(result, DivMaskTestResult::Unsure)
     }
 }
 
