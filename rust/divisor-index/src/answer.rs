@@ -4,44 +4,50 @@ use std::{cmp::Ordering, slice};
 
 use crate::Refusal;
 
-/// Room for every monomial and ratio: 64 variables and an end word.
-const ROOM: usize = 65;
+/// A bare word, or a kind 4 word.
+pub type Word = Answer<1>;
+
+/// A monomial or ratio, in room for 64 variables and an end word.
+pub type Product = Answer<65>;
 
 /// What a door wrote.
-pub struct Answer([u32; ROOM]);
+pub struct Answer<const ROOM: usize>([u32; ROOM]);
 
-impl Answer {
-    /// Calls a door with room for every answer.
+impl<const ROOM: usize> Answer<ROOM> {
+    /// Calls a door with room for the answer.
     pub fn of(door: impl FnOnce(&mut [u8]) -> u32) -> Result<Self, Refusal> {
         let mut out = [0; ROOM];
         Refusal::check(door(bytes_mut(&mut out)))?;
         Ok(Answer(out))
     }
+}
 
-    /// A bare word.
-    pub fn word(&self) -> u32 {
+impl Word {
+    pub fn bare(&self) -> u32 {
         self.0[0]
     }
 
-    /// A kind 4 word: yes 1, no 0.
+    /// Yes 1, no 0.
     pub fn yes(&self) -> bool {
-        payload(self.word()) == 1
+        payload(self.bare()) == 1
     }
 
-    /// A kind 4 word: less 0, equal 1, greater 2.
+    /// Less 0, equal 1, greater 2.
     pub fn ordering(&self) -> Ordering {
-        payload(self.word()).cmp(&1)
+        payload(self.bare()).cmp(&1)
     }
+}
 
-    /// A monomial or ratio, up to its end word.
-    pub fn product(&self) -> Vec<u32> {
+impl Product {
+    /// The words up to the end word.
+    pub fn words(&self) -> Vec<u32> {
         let variables = self.0.iter().take_while(|word| kind(**word) != 0).count();
         self.0[..=variables].to_vec()
     }
 
-    /// A monomial, or none for a kind 4 word.
+    /// The words, or none for a kind 4 word.
     pub fn quotient(&self) -> Option<Vec<u32>> {
-        (kind(self.word()) != 4).then(|| self.product())
+        (kind(self.0[0]) != 4).then(|| self.words())
     }
 }
 

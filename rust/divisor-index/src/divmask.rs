@@ -1,7 +1,7 @@
 //! Divmasks, with the original's names.
 
 use crate::{
-    answer::{bytes, bytes_mut, Answer},
+    answer::{bytes, bytes_mut, Word},
     doors, Refusal,
 };
 
@@ -20,10 +20,10 @@ impl DivMap {
 
     pub fn map(&self, monomial: &[u32]) -> Result<DivMask, Refusal> {
         let variables = self.maxima.len() as u32;
-        let made = Answer::of(|out| {
+        let made = Word::of(|out| {
             doors::divmask_mask(variables, bytes(&self.maxima), bytes(monomial), out)
         })?;
-        Ok(DivMask(made.word()))
+        Ok(DivMask(made.bare()))
     }
 }
 
@@ -86,7 +86,7 @@ impl MaximumExponentsTracker {
     pub fn has_grown_beyond_percentage(&self, percentage: u8) -> Result<bool, Refusal> {
         let variables = self.len() as u32;
         let maxima = bytes(&self.max_exponents);
-        let made = Answer::of(|out| doors::divmask_growth(variables, maxima, percentage, out))?;
+        let made = Word::of(|out| doors::divmask_growth(variables, maxima, percentage, out))?;
         Ok(made.yes())
     }
 }
