@@ -10,8 +10,8 @@ use std::{
 
 const DEFAULT_LIB: &str = "../../target/staticlib";
 
-/// The crates that export functions to C.
-const CRATES: [&str; 2] = ["monomial_work", "divmask"];
+/// The crates that export functions to C, one a line.
+const EXPORTS: &str = include_str!("exports.txt");
 
 fn main() {
     let package = PathBuf::from(env::var_os("CARGO_MANIFEST_DIR").unwrap());
@@ -19,7 +19,7 @@ fn main() {
 
     println!("cargo:rerun-if-env-changed=DIVISOR_INDEX_LIB");
     println!("cargo:rustc-link-search=native={}", folder.display());
-    for name in CRATES {
+    for name in EXPORTS.lines() {
         link(&folder, name);
     }
 }

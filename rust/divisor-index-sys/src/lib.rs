@@ -106,6 +106,6 @@ extern "C" {
     ) -> u32;
 }
 
-// To come, each with a line in build.rs: the label map's fast_compare_length,
-// fast_compare_open, fast_compare_get_comparer and fast_compare_rebuild, and the
-// indexes' divisor_index_*.
+// To come, with a line in exports.txt for each crate: the label map's
+// fast_compare_length, fast_compare_open, fast_compare_get_comparer and
+// fast_compare_rebuild, and the indexes' divisor_index_*.

@@ -1,14 +1,18 @@
 //! The differences between original and document 01, each with its smallest
-//! input: the original panics, the document has an answer.
+//! input. docs/DIFFERENCES.md lists them.
 
 use std::panic::{catch_unwind, AssertUnwindSafe};
 
+use divisor_index::{divmask, monomial as port, Refusal};
 use harness::{
     model::{mutation::Rules, query::Panic, Index, Kind, Opening},
     order::Order,
     original_run::original_run,
 };
-use original::oracle::{monomial, Syzygies};
+use original::{
+    oracle::{monomial, variables, Monomial, Syzygies},
+    polynomial::divmask::MaximumExponentsTracker,
+};
 
 fn opening(kind: Kind) -> Opening {
     Opening {
@@ -75,4 +79,35 @@ fn a_panic_loses_entries() {
     let search = || index.contains_divisor(&monomial(&[]));
     assert!(catch_unwind(AssertUnwindSafe(search)).is_err());
     assert!(index.to_vec().is_empty());
+}
+
+/// x0^32767 · x0.
+#[test]
+fn power_above_the_highest() {
+    let (a, b): (Monomial<Order>, Monomial<Order>) =
+        (monomial(&[(0, 32_767)]), monomial(&[(0, 1)]));
+    assert!(variables(&(a * b)).eq([(&0, &32_768)]));
+    let product = port::mul(1, &[0x1000_7FFF, 1], &[0x1000_0001, 1]);
+    assert_eq!(product, Err(Refusal::PowerTooLarge));
+}
+
+/// The gcd of one and one.
+#[test]
+fn sixty_five_variables() {
+    assert_eq!(port::gcd(64, &[0], &[0]), Ok(vec![0]));
+    assert_eq!(port::gcd(65, &[0], &[0]), Err(Refusal::Parameters));
+}
+
+/// One variable with maximum 2: beyond 0 percent, but not since a reset.
+#[test]
+fn growth_since_the_beginning() {
+    let mut original = MaximumExponentsTracker::<i32>::new(1);
+    original.update(&monomial::<Order, i32>(&[(0, 2)]));
+    assert!(original.has_grown_beyond_percentage(0));
+    original.reset_tracking();
+    assert!(!original.has_grown_beyond_percentage(0));
+
+    let mut port = divmask::MaximumExponentsTracker::new(1);
+    port.update(&[0x1000_0002, 1]).unwrap();
+    assert_eq!(port.has_grown_beyond_percentage(0), Ok(true));
 }
