@@ -1,0 +1,60 @@
+use native.Mathlib.Omega.{arith}
+use lib.Seq.{length-take-le}
+use mathlib.Core.Path.{sym}
+use borrow.Author.Needs.{needs}
+use Rattle.oracle_replay.proofs.growth.Statement.{statement}
+use Rattle.oracle_replay.proofs.growth.Tie as tie
+use Rattle.oracle_replay.proofs.growth.Reads as reads
+use Rattle.oracle_replay.proofs.growth.Lts as lts
+use Rattle.divmask.proofs.doors.divmask_growth.Reads as divmask-growth-reads
+use Rattle.oracle_replay.proofs.holds.Reads as holds-reads
+
+-- src/main.rt:94:9
+returns : tie.Need-returns
+returns c = search needs
+
+-- src/main.rt:97:9
+returns-2 : tie.Need-returns-2
+returns-2 c = search needs
+
+-- src/main.rt:99:60
+shared-slice-read-divmask-growth : tie.Need-shared-slice-read-divmask-growth
+shared-slice-read-divmask-growth c = search needs
+
+-- src/main.rt:99:66
+array-borrow-prefix-out : tie.Need-array-borrow-prefix-out
+array-borrow-prefix-out c = search needs
+
+-- src/main.rt:99:66
+slice-aggregate-divmask-growth : tie.Need-slice-aggregate-divmask-growth
+slice-aggregate-divmask-growth c = sym (length-take-le (c .before .before .before .before .before .before .before .args .c .room) _ (omega arith))
+
+-- src/main.rt:99:9
+divmask-growth-requires : tie.Need-divmask-growth-requires
+divmask-growth-requires c κs = search needs
+
+-- src/main.rt:101:9
+returns-3 : tie.Need-returns-3
+returns-3 c = search needs
+
+-- src/main.rt:103:5
+holds-requires : tie.Need-holds-requires
+holds-requires c κs = search needs
+
+-- src/main.rt:90:1
+returns-4 : tie.Need-returns-4
+returns-4 c = search needs
+
+pub growth-spec : {M : Type 1} → statement M
+growth-spec =
+    tie.close
+    (tie.spec
+    returns
+    returns-2
+    shared-slice-read-divmask-growth
+    array-borrow-prefix-out
+    slice-aggregate-divmask-growth
+    divmask-growth-requires
+    returns-3
+    holds-requires
+    returns-4)

@@ -1,0 +1,62 @@
+use native.Mathlib.Omega.{arith}
+use lib.ListN.{length}
+use lib.Seq.{length-take-le}
+use mathlib.Core.Path.{sym}
+use borrow.Author.Needs.{needs}
+use Rattle.oracle_replay.proofs.update.Statement.{statement}
+use Rattle.oracle_replay.proofs.update.Tie as tie
+use Rattle.oracle_replay.proofs.update.Reads as reads
+use Rattle.oracle_replay.proofs.update.Lts as lts
+use Rattle.bytes.proofs.copy.Reads as copy-reads
+use Rattle.divmask.proofs.doors.divmask_update.Reads as divmask-update-reads
+use Rattle.oracle_replay.proofs.holds.Reads as holds-reads
+
+-- src/main.rt:80:9
+returns : tie.Need-returns
+returns c = search needs
+
+-- src/main.rt:82:20
+slice-aggregate-copy : tie.Need-slice-aggregate-copy
+slice-aggregate-copy c = search needs
+
+-- src/main.rt:82:5
+copy-requires : tie.Need-copy-requires
+copy-requires c κs = search needs
+
+-- src/main.rt:83:57
+array-borrow-prefix-out : tie.Need-array-borrow-prefix-out
+array-borrow-prefix-out c = search needs
+
+-- src/main.rt:83:57
+slice-aggregate-divmask-update : tie.Need-slice-aggregate-divmask-update
+slice-aggregate-divmask-update c = sym (length-take-le (length (c .before .before .before .before .before .before .before .before .args .a .now)) _ (omega (arith, c .before .before .copy .kept)))
+
+-- src/main.rt:83:9
+divmask-update-requires : tie.Need-divmask-update-requires
+divmask-update-requires c κs = search needs
+
+-- src/main.rt:85:9
+returns-2 : tie.Need-returns-2
+returns-2 c = search needs
+
+-- src/main.rt:87:5
+holds-requires : tie.Need-holds-requires
+holds-requires c κs = search needs
+
+-- src/main.rt:76:1
+returns-3 : tie.Need-returns-3
+returns-3 c = search needs
+
+pub update-spec : {M : Type 1} → statement M
+update-spec =
+    tie.close
+    (tie.spec
+    returns
+    slice-aggregate-copy
+    copy-requires
+    array-borrow-prefix-out
+    slice-aggregate-divmask-update
+    divmask-update-requires
+    returns-2
+    holds-requires
+    returns-3)

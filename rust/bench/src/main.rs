@@ -1,0 +1,65 @@
+//! Measures the port's doors beside the original, on the same inputs and in one
+//! run, and prints a table.
+//!
+//! `bench [ROUNDS]` goes over the inputs ROUNDS times with each side in turn and
+//! shows the median. The port is called through C on bytes, with a buffer that
+//! is lent again and again, and pays for the checks of its questions. The
+//! original is called on its own values; where it takes them by value, copies
+//! are made before the clock starts.
+
+mod inputs;
+mod operations;
+
+use std::{env, time::Duration};
+
+use inputs::{draw, Inputs, Sample, PAIRS};
+use operations::{questions, OPERATIONS};
+
+const VARIABLES: [u32; 3] = [4, 8, 20];
+
+fn main() {
+    let rounds = env::args().nth(1).map_or(301, |arg| {
+        arg.parse()
+            .ok()
+            .filter(|rounds| *rounds > 0)
+            .expect("a number of rounds")
+    });
+    println!("| operation | variables | original, ns | port, ns | port / original |");
+    println!("|---|---|---|---|---|");
+    for operation in OPERATIONS {
+        for variables in VARIABLES {
+            let sample = draw(variables, operation.inputs);
+            let (original, port) = measure(operation.original, operation.port, &sample, rounds);
+            println!(
+                "| {} | {variables} | {original:.1} | {port:.1} | {:.2} |",
+                operation.name,
+                port / original
+            );
+        }
+    }
+    for variables in VARIABLES {
+        let sample = draw(variables, Inputs::WrongCount);
+        let times = (0..rounds).map(|_| questions(&sample)).collect();
+        let port = median(times);
+        println!("| questions alone | {variables} | | {port:.1} | |");
+    }
+}
+
+/// Nanoseconds a call, of the original and of the port.
+fn measure(
+    original: fn(&Sample) -> Duration,
+    port: fn(&Sample) -> Duration,
+    sample: &Sample,
+    rounds: usize,
+) -> (f64, f64) {
+    let times: Vec<_> = (0..rounds)
+        .map(|_| (original(sample), port(sample)))
+        .collect();
+    let (originals, ports) = times.into_iter().unzip();
+    (median(originals), median(ports))
+}
+
+fn median(mut times: Vec<Duration>) -> f64 {
+    times.sort();
+    times[times.len() / 2].as_secs_f64() * 1e9 / PAIRS as f64
+}

@@ -1,0 +1,59 @@
+/* The C functions of the proved divisor index.
+ *
+ * Everything lent is 32-bit words, low byte first; lengths are in bytes. Each
+ * function takes all bytes: it returns 0 and the answer stands at the front of
+ * out, or the number of a refusal, and then no byte is changed. A written slice
+ * must overlap nothing else that is lent. docs/LAYOUT.md has the words and the
+ * answers. */
+#ifndef DIVISOR_INDEX_H
+#define DIVISOR_INDEX_H
+
+#include <stddef.h>
+#include <stdint.h>
+
+#ifdef __cplusplus
+extern "C" {
+#endif
+
+/* Refusals. */
+enum divisor_index_refusal {
+    DIVISOR_INDEX_PARAMETERS = 1,      /* index kind, variables, capacity or maxima */
+    DIVISOR_INDEX_BUFFER = 2,          /* the buffer to open in is too short */
+    DIVISOR_INDEX_UNSOUND = 3,         /* the image is not sound */
+    DIVISOR_INDEX_LIST = 4,            /* the list is not whole words from a call number on */
+    DIVISOR_INDEX_ROOM = 5,            /* the answer does not fit */
+    DIVISOR_INDEX_NOT_SERVED = 6,      /* this index does not serve the call */
+    DIVISOR_INDEX_NOT_CANONICAL = 7,   /* the words are not canonical */
+    DIVISOR_INDEX_FULL = 8,            /* the capacity is reached */
+    DIVISOR_INDEX_POWER_TOO_LARGE = 9, /* a product's power is above 32,767 */
+    DIVISOR_INDEX_NO_LABEL = 10        /* no label is free */
+};
+
+/* libmonomial_work.a: two monomials, or two ratios. */
+uint32_t monomial_gcd(uint32_t variables, const uint8_t *a, size_t a_len, const uint8_t *b, size_t b_len, uint8_t *out, size_t out_len);
+uint32_t monomial_mul(uint32_t variables, const uint8_t *a, size_t a_len, const uint8_t *b, size_t b_len, uint8_t *out, size_t out_len);
+uint32_t monomial_whole_division(uint32_t variables, const uint8_t *a, size_t a_len, const uint8_t *b, size_t b_len, uint8_t *out, size_t out_len);
+uint32_t monomial_fraction_division(uint32_t variables, const uint8_t *a, size_t a_len, const uint8_t *b, size_t b_len, uint8_t *out, size_t out_len);
+uint32_t monomial_divides(uint32_t variables, const uint8_t *a, size_t a_len, const uint8_t *b, size_t b_len, uint8_t *out, size_t out_len);
+uint32_t monomial_eq(uint32_t variables, const uint8_t *a, size_t a_len, const uint8_t *b, size_t b_len, uint8_t *out, size_t out_len);
+uint32_t monomial_cmp(uint32_t variables, const uint8_t *a, size_t a_len, const uint8_t *b, size_t b_len, uint8_t *out, size_t out_len);
+uint32_t ratio_eq(uint32_t variables, const uint8_t *a, size_t a_len, const uint8_t *b, size_t b_len, uint8_t *out, size_t out_len);
+uint32_t ratio_cmp(uint32_t variables, const uint8_t *a, size_t a_len, const uint8_t *b, size_t b_len, uint8_t *out, size_t out_len);
+
+/* libdivmask.a: masks, maxima and growth. divmask_divides returns 0 for not
+ * divisible and 1 for unsure; it refuses nothing. divmask_update changes the
+ * maxima in place. */
+uint32_t divmask_mask(uint32_t variables, const uint8_t *maxima, size_t maxima_len, const uint8_t *monomial, size_t monomial_len, uint8_t *out, size_t out_len);
+uint32_t divmask_divides(uint32_t a, uint32_t b);
+uint32_t divmask_update(uint32_t variables, uint8_t *maxima, size_t maxima_len, const uint8_t *monomial, size_t monomial_len);
+uint32_t divmask_growth(uint32_t variables, const uint8_t *maxima, size_t maxima_len, uint8_t percentage, uint8_t *out, size_t out_len);
+
+/* To come: the label map's fast_compare_length, fast_compare_open,
+ * fast_compare_get_comparer and fast_compare_rebuild, and the indexes'
+ * divisor_index_*. */
+
+#ifdef __cplusplus
+}
+#endif
+
+#endif

@@ -1,0 +1,111 @@
+//! The C functions of the proved divisor index, as `include/divisor_index.h`
+//! declares them.
+//!
+//! Everything lent is 32-bit words, low byte first; a slice is a pointer and a
+//! length in bytes. Each function takes all bytes: it returns 0 and the answer
+//! stands at the front of `out`, or the number of a refusal, and then no byte
+//! is changed. docs/LAYOUT.md has the words and the answers.
+//!
+//! # Safety
+//!
+//! Each pointer must be valid for its length, a `*mut` one for writing too, and
+//! what is written must overlap nothing else that is lent. There is no other
+//! demand.
+
+#![no_std]
+
+#[cfg(not(all(target_arch = "x86_64", target_os = "linux")))]
+compile_error!("the archives of `rt staticlib` are for Linux on x86-64");
+
+/// A function on two monomials or two ratios, answering into a buffer.
+pub type OnTwo = unsafe extern "C" fn(
+    variables: u32,
+    a: *const u8,
+    a_len: usize,
+    b: *const u8,
+    b_len: usize,
+    out: *mut u8,
+    out_len: usize,
+) -> u32;
+
+macro_rules! on_two {
+    ($($(#[$doc:meta])* $name:ident;)*) => {
+        extern "C" {
+            $(
+                $(#[$doc])*
+                pub fn $name(
+                    variables: u32,
+                    a: *const u8,
+                    a_len: usize,
+                    b: *const u8,
+                    b_len: usize,
+                    out: *mut u8,
+                    out_len: usize,
+                ) -> u32;
+            )*
+        }
+    };
+}
+
+// crates/monomial_work. Refusals: 1 variables, 7 words, 9 powers, 5 room.
+on_two! {
+    /// The greatest common divisor.
+    monomial_gcd;
+    /// The product.
+    monomial_mul;
+    /// The quotient a / b, or a kind 4 word with payload 0 for none.
+    monomial_whole_division;
+    /// The ratio a / b.
+    monomial_fraction_division;
+    /// Whether a divides b: a kind 4 word, yes 1, no 0.
+    monomial_divides;
+    /// Whether two monomials are equal: a kind 4 word, yes 1, no 0.
+    monomial_eq;
+    /// How two monomials compare: a kind 4 word, less 0, equal 1, greater 2.
+    monomial_cmp;
+    /// Whether two ratios are equal.
+    ratio_eq;
+    /// How two ratios compare.
+    ratio_cmp;
+}
+
+// crates/divmask. Refusals: 1 variables and maxima, 7 words, 5 room.
+extern "C" {
+    /// The mask of a monomial, as a bare word.
+    pub fn divmask_mask(
+        variables: u32,
+        maxima: *const u8,
+        maxima_len: usize,
+        monomial: *const u8,
+        monomial_len: usize,
+        out: *mut u8,
+        out_len: usize,
+    ) -> u32;
+
+    /// What two masks say of divisibility: 0 not divisible, 1 unsure.
+    pub fn divmask_divides(a: u32, b: u32) -> u32;
+
+    /// Raises the lent maxima to the powers of a monomial.
+    pub fn divmask_update(
+        variables: u32,
+        maxima: *mut u8,
+        maxima_len: usize,
+        monomial: *const u8,
+        monomial_len: usize,
+    ) -> u32;
+
+    /// Whether the maxima have grown beyond a percentage: a kind 4 word, yes 1,
+    /// no 0.
+    pub fn divmask_growth(
+        variables: u32,
+        maxima: *const u8,
+        maxima_len: usize,
+        percentage: u8,
+        out: *mut u8,
+        out_len: usize,
+    ) -> u32;
+}
+
+// To come, with a line in exports.txt for each crate: the label map's
+// fast_compare_length, fast_compare_open, fast_compare_get_comparer and
+// fast_compare_rebuild, and the indexes' divisor_index_*.

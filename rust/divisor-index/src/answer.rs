@@ -1,0 +1,72 @@
+//! Words lent to the doors, and answers taken from them.
+
+use std::{cmp::Ordering, slice};
+
+use crate::Refusal;
+
+/// A bare word, or a kind 4 word.
+pub type Word = Answer<1>;
+
+/// A monomial or ratio, in room for 64 variables and an end word.
+pub type Product = Answer<65>;
+
+/// What a door wrote.
+pub struct Answer<const ROOM: usize>([u32; ROOM]);
+
+impl<const ROOM: usize> Answer<ROOM> {
+    /// Calls a door with room for the answer.
+    pub fn of(door: impl FnOnce(&mut [u8]) -> u32) -> Result<Self, Refusal> {
+        let mut out = [0; ROOM];
+        Refusal::check(door(bytes_mut(&mut out)))?;
+        Ok(Answer(out))
+    }
+}
+
+impl Word {
+    pub fn bare(&self) -> u32 {
+        self.0[0]
+    }
+
+    /// Yes 1, no 0.
+    pub fn yes(&self) -> bool {
+        payload(self.bare()) == 1
+    }
+
+    /// Less 0, equal 1, greater 2.
+    pub fn ordering(&self) -> Ordering {
+        payload(self.bare()).cmp(&1)
+    }
+}
+
+impl Product {
+    /// The words up to the end word.
+    pub fn words(&self) -> Vec<u32> {
+        let variables = self.0.iter().take_while(|word| kind(**word) != 0).count();
+        self.0[..=variables].to_vec()
+    }
+
+    /// The words, or none for a kind 4 word.
+    pub fn quotient(&self) -> Option<Vec<u32>> {
+        (kind(self.0[0]) != 4).then(|| self.words())
+    }
+}
+
+fn kind(word: u32) -> u32 {
+    word >> 28
+}
+
+fn payload(word: u32) -> u32 {
+    word & 0x0FFF_FFFF
+}
+
+/// The bytes of words. The doors are for x86-64, where words stand low byte
+/// first in memory.
+pub fn bytes(words: &[u32]) -> &[u8] {
+    // SAFETY: the same memory, and a byte has no alignment and no bad values.
+    unsafe { slice::from_raw_parts(words.as_ptr().cast(), size_of_val(words)) }
+}
+
+pub fn bytes_mut(words: &mut [u32]) -> &mut [u8] {
+    // SAFETY: as in `bytes`, and all bytes make good words.
+    unsafe { slice::from_raw_parts_mut(words.as_mut_ptr().cast(), size_of_val(words)) }
+}

@@ -1,0 +1,96 @@
+//! The C functions on byte slices.
+//!
+//! Each takes all bytes, so each is safe. It returns 0, and the answer stands
+//! at the front of `out`, or the number of a [`Refusal`](crate::Refusal), and
+//! then no byte is changed.
+
+use divisor_index_sys as sys;
+
+fn on_two(door: sys::OnTwo, variables: u32, a: &[u8], b: &[u8], out: &mut [u8]) -> u32 {
+    // SAFETY: the pointers and lengths are those of slices, and `out` is exclusive.
+    unsafe {
+        door(
+            variables,
+            a.as_ptr(),
+            a.len(),
+            b.as_ptr(),
+            b.len(),
+            out.as_mut_ptr(),
+            out.len(),
+        )
+    }
+}
+
+pub fn monomial_gcd(variables: u32, a: &[u8], b: &[u8], out: &mut [u8]) -> u32 {
+    on_two(sys::monomial_gcd, variables, a, b, out)
+}
+
+pub fn monomial_mul(variables: u32, a: &[u8], b: &[u8], out: &mut [u8]) -> u32 {
+    on_two(sys::monomial_mul, variables, a, b, out)
+}
+
+pub fn monomial_whole_division(variables: u32, a: &[u8], b: &[u8], out: &mut [u8]) -> u32 {
+    on_two(sys::monomial_whole_division, variables, a, b, out)
+}
+
+pub fn monomial_fraction_division(variables: u32, a: &[u8], b: &[u8], out: &mut [u8]) -> u32 {
+    on_two(sys::monomial_fraction_division, variables, a, b, out)
+}
+
+pub fn monomial_divides(variables: u32, a: &[u8], b: &[u8], out: &mut [u8]) -> u32 {
+    on_two(sys::monomial_divides, variables, a, b, out)
+}
+
+pub fn monomial_eq(variables: u32, a: &[u8], b: &[u8], out: &mut [u8]) -> u32 {
+    on_two(sys::monomial_eq, variables, a, b, out)
+}
+
+pub fn monomial_cmp(variables: u32, a: &[u8], b: &[u8], out: &mut [u8]) -> u32 {
+    on_two(sys::monomial_cmp, variables, a, b, out)
+}
+
+pub fn ratio_eq(variables: u32, a: &[u8], b: &[u8], out: &mut [u8]) -> u32 {
+    on_two(sys::ratio_eq, variables, a, b, out)
+}
+
+pub fn ratio_cmp(variables: u32, a: &[u8], b: &[u8], out: &mut [u8]) -> u32 {
+    on_two(sys::ratio_cmp, variables, a, b, out)
+}
+
+pub fn divmask_mask(variables: u32, maxima: &[u8], monomial: &[u8], out: &mut [u8]) -> u32 {
+    on_two(sys::divmask_mask, variables, maxima, monomial, out)
+}
+
+/// 0 not divisible, 1 unsure; it refuses nothing.
+pub fn divmask_divides(a: u32, b: u32) -> u32 {
+    // SAFETY: it takes all numbers.
+    unsafe { sys::divmask_divides(a, b) }
+}
+
+/// Changes the maxima in place.
+pub fn divmask_update(variables: u32, maxima: &mut [u8], monomial: &[u8]) -> u32 {
+    // SAFETY: as in `on_two`, with `maxima` exclusive.
+    unsafe {
+        sys::divmask_update(
+            variables,
+            maxima.as_mut_ptr(),
+            maxima.len(),
+            monomial.as_ptr(),
+            monomial.len(),
+        )
+    }
+}
+
+pub fn divmask_growth(variables: u32, maxima: &[u8], percentage: u8, out: &mut [u8]) -> u32 {
+    // SAFETY: as in `on_two`.
+    unsafe {
+        sys::divmask_growth(
+            variables,
+            maxima.as_ptr(),
+            maxima.len(),
+            percentage,
+            out.as_mut_ptr(),
+            out.len(),
+        )
+    }
+}

@@ -1,0 +1,19 @@
+//! Ratios of monomials, on words.
+
+use std::cmp::Ordering;
+
+use crate::{
+    answer::{bytes, Word},
+    doors, Refusal,
+};
+
+pub fn eq(variables: u32, a: &[u32], b: &[u32]) -> Result<bool, Refusal> {
+    let made = Word::of(|out| doors::ratio_eq(variables, bytes(a), bytes(b), out))?;
+    Ok(made.yes())
+}
+
+/// How a and b compare in the graded reverse lexicographic order.
+pub fn ord(variables: u32, a: &[u32], b: &[u32]) -> Result<Ordering, Refusal> {
+    let made = Word::of(|out| doors::ratio_cmp(variables, bytes(a), bytes(b), out))?;
+    Ok(made.ordering())
+}

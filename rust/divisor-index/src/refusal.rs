@@ -1,0 +1,77 @@
+use std::{error, fmt};
+
+/// Why the port refuses, with document 01's numbers.
+#[derive(Debug, Clone, Copy, PartialEq, Eq, Hash)]
+#[repr(u32)]
+pub enum Refusal {
+    /// Index kind, variables, capacity or maxima are not as at opening.
+    Parameters = 1,
+    /// The buffer to open in is too short.
+    Buffer = 2,
+    /// The image is not sound.
+    Unsound = 3,
+    /// The list is not a whole number of words that starts with a call number.
+    List = 4,
+    /// The answer does not fit.
+    Room = 5,
+    /// This index does not serve the call.
+    NotServed = 6,
+    /// The words are not canonical.
+    NotCanonical = 7,
+    /// The capacity is reached.
+    Full = 8,
+    /// A product's power is above 32,767.
+    PowerTooLarge = 9,
+    /// No label is free between the neighbours.
+    NoLabel = 10,
+}
+
+impl Refusal {
+    pub const ALL: [Refusal; 10] = [
+        Refusal::Parameters,
+        Refusal::Buffer,
+        Refusal::Unsound,
+        Refusal::List,
+        Refusal::Room,
+        Refusal::NotServed,
+        Refusal::NotCanonical,
+        Refusal::Full,
+        Refusal::PowerTooLarge,
+        Refusal::NoLabel,
+    ];
+
+    /// What a door's returned number says: 0 is served.
+    ///
+    /// # Panics
+    ///
+    /// On a number that no door returns.
+    pub fn check(number: u32) -> Result<(), Refusal> {
+        match number {
+            0 => Ok(()),
+            _ => Err(Self::ALL[number as usize - 1]),
+        }
+    }
+
+    pub fn number(self) -> u32 {
+        self as u32
+    }
+}
+
+impl fmt::Display for Refusal {
+    fn fmt(&self, f: &mut fmt::Formatter<'_>) -> fmt::Result {
+        f.write_str(match self {
+            Refusal::Parameters => "index kind, variables, capacity or maxima out of range",
+            Refusal::Buffer => "buffer too short",
+            Refusal::Unsound => "image not sound",
+            Refusal::List => "not a list of calls",
+            Refusal::Room => "answer does not fit",
+            Refusal::NotServed => "call not served by this index",
+            Refusal::NotCanonical => "words not canonical",
+            Refusal::Full => "capacity reached",
+            Refusal::PowerTooLarge => "power above 32,767",
+            Refusal::NoLabel => "no label free",
+        })
+    }
+}
+
+impl error::Error for Refusal {}

@@ -1,0 +1,100 @@
+//! The wrappers on document 01's worked cases, a refusal of each number that
+//! they can meet, and both archives in one program.
+
+use std::cmp::Ordering;
+
+use divisor_index::{
+    divmask::{DivMap, DivMaskTestResult, MaximumExponentsTracker},
+    monomial, ratio, Refusal,
+};
+
+/// x3^2 · x0.
+const A: [u32; 3] = [0x1003_0002, 0x1000_0001, 2];
+/// x3 · x1.
+const B: [u32; 3] = [0x1003_0001, 0x1001_0001, 2];
+const ONE: [u32; 1] = [0];
+
+#[test]
+fn monomials() {
+    assert_eq!(monomial::gcd(4, &A, &B), Ok(vec![0x1003_0001, 1]));
+    let product = vec![0x1003_0003, 0x1001_0001, 0x1000_0001, 3];
+    assert_eq!(monomial::mul(4, &A, &B), Ok(product.clone()));
+    assert_eq!(
+        monomial::whole_division(4, &product, &B),
+        Ok(Some(A.to_vec()))
+    );
+    assert_eq!(monomial::whole_division(4, &A, &B), Ok(None));
+    assert_eq!(monomial::divides(4, &A, &B), Ok(false));
+    assert_eq!(monomial::divides(4, &A, &product), Ok(true));
+    assert_eq!(monomial::eq(4, &A, &A), Ok(true));
+    assert_eq!(monomial::eq(4, &A, &B), Ok(false));
+}
+
+#[test]
+fn order() {
+    let (square, mixed) = ([0x1001_0002, 1], [0x1001_0001, 0x1000_0001, 2]);
+    assert_eq!(monomial::ord(2, &square, &mixed), Ok(Ordering::Greater));
+    assert_eq!(monomial::ord(2, &mixed, &square), Ok(Ordering::Less));
+    assert_eq!(monomial::ord(2, &square, &square), Ok(Ordering::Equal));
+}
+
+/// x1^2 / (x1^2 · x0) is x0^-1, which is below one.
+#[test]
+fn ratios() {
+    let lm = [0x1001_0002, 0x1000_0001, 2];
+    let below = [0x2000_7FFF, 1];
+    assert_eq!(
+        monomial::fraction_division(2, &[0x1001_0002, 1], &lm),
+        Ok(below.to_vec())
+    );
+    assert_eq!(ratio::ord(2, &below, &ONE), Ok(Ordering::Less));
+    assert_eq!(ratio::eq(2, &below, &below), Ok(true));
+    assert_eq!(ratio::eq(2, &below, &ONE), Ok(false));
+}
+
+#[test]
+fn refusals() {
+    assert_eq!(monomial::gcd(0, &ONE, &ONE), Err(Refusal::Parameters));
+    assert_eq!(monomial::gcd(3, &A, &ONE), Err(Refusal::NotCanonical));
+    assert_eq!(ratio::eq(4, &A, &ONE), Err(Refusal::NotCanonical));
+    let highest = [0x1000_7FFF, 1];
+    assert_eq!(
+        monomial::mul(1, &highest, &highest),
+        Err(Refusal::PowerTooLarge)
+    );
+    for refusal in Refusal::ALL {
+        assert_eq!(Refusal::check(refusal.number()), Err(refusal));
+    }
+}
+
+#[test]
+fn masks() {
+    let mut tracker = MaximumExponentsTracker::new(1);
+    tracker.update(&[0x1000_0021, 1]).unwrap();
+    assert_eq!(tracker.max_exponents(), [33]);
+    let map = DivMap::new(&tracker);
+    let mask = |power: u32| map.map(&[0x1000_0000 + power, 1]).unwrap();
+    assert_eq!(
+        [1, 2, 32, 33].map(|power| mask(power).0),
+        [0, 1, 0x7FFF_FFFF, 0xFFFF_FFFF]
+    );
+    assert_eq!(mask(33).divides(&mask(32)), DivMaskTestResult::NotDivisible);
+    assert_eq!(mask(32).divides(&mask(33)), DivMaskTestResult::Unsure);
+    assert_eq!(map.map(&[0x1001_0001, 1]), Err(Refusal::NotCanonical));
+}
+
+#[test]
+fn maxima() {
+    let mut tracker = MaximumExponentsTracker::new(2);
+    tracker.update(&[0x1001_0001, 0x1000_0005, 2]).unwrap();
+    assert_eq!(tracker.max_exponents(), [1, 1]);
+    tracker.update(&[0x1001_0002, 0x1000_0002, 2]).unwrap();
+    assert_eq!(tracker.max_exponents(), [2, 2]);
+    assert_eq!(tracker.has_grown_beyond_percentage(49), Ok(true));
+    assert_eq!(tracker.has_grown_beyond_percentage(50), Ok(false));
+    let none = MaximumExponentsTracker::new(0);
+    assert_eq!(
+        none.has_grown_beyond_percentage(0),
+        Err(Refusal::Parameters)
+    );
+}

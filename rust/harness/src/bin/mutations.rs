@@ -1,0 +1,62 @@
+//! The mutation check: puts each wrong rule into the model and prints which job
+//! noticed it.
+//!
+//! `mutations [ROUNDS] [SEED]` tries up to ROUNDS seeds of every mode from a
+//! seed on.
+
+use std::{env, process::ExitCode};
+
+use harness::{
+    compare::{notice, Difference},
+    model::mutation::Mutation,
+};
+
+const ROUNDS: u64 = 300;
+
+fn main() -> ExitCode {
+    let mut args = env::args()
+        .skip(1)
+        .map(|arg| arg.parse().expect("a number"));
+    let rounds = args.next().unwrap_or(ROUNDS);
+    let seed = args.next().unwrap_or(0);
+    println!("| wrong rule | in words | noticed by | mode | seed | jobs needed |");
+    println!("|---|---|---|---|---|---|");
+
+    let mut unnoticed = 0;
+    for mutation in Mutation::ALL.iter().copied() {
+        match notice(mutation, seed..seed + rounds) {
+            Some(noticed) => println!(
+                "| {mutation:?} | {} | {} | {:?} | {} | {} |",
+                mutation.describe(),
+                by(&noticed.difference),
+                noticed.mode,
+                noticed.seed,
+                noticed.jobs
+            ),
+            None => {
+                println!("| {mutation:?} | {} | nobody | | | |", mutation.describe());
+                unnoticed += 1;
+            }
+        }
+    }
+    println!(
+        "\n{} wrong rules, {unnoticed} unnoticed",
+        Mutation::ALL.len()
+    );
+    if unnoticed == 0 {
+        ExitCode::SUCCESS
+    } else {
+        ExitCode::FAILURE
+    }
+}
+
+fn by(difference: &Difference) -> &'static str {
+    match difference {
+        Difference::Answer { .. } => "an answer of the original",
+        Difference::Meaning { .. } => "the meanings",
+        Difference::Pruning { .. } => "a look at every entry",
+        Difference::Maxima => "the original's maxima",
+        Difference::Rest => "the original's tree order, labels or keys",
+        Difference::Whole => "the list as a whole",
+    }
+}

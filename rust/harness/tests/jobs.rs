@@ -1,0 +1,27 @@
+//! A moderate number of jobs of every mode, and the mutation check.
+
+use harness::{
+    compare::{compare, notice},
+    jobs::{Job, Mode},
+    model::mutation::{Mutation, Rules},
+};
+
+const JOBS: u64 = 400;
+const ROUNDS: u64 = 300;
+
+#[test]
+fn model_and_original_agree() {
+    for mode in Mode::ALL {
+        for seed in 0..JOBS {
+            let compared = compare(&Job::new(mode, seed), Rules::document_01());
+            assert!(compared.is_ok(), "{mode:?} seed {seed}: {compared:x?}");
+        }
+    }
+}
+
+#[test]
+fn every_wrong_rule_is_noticed() {
+    for mutation in Mutation::ALL.iter().copied() {
+        assert!(notice(mutation, 0..ROUNDS).is_some(), "{mutation:?}");
+    }
+}

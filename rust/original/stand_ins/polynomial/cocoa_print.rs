@@ -1,0 +1,1 @@
+//! Stand-in: the printer for CoCoA was not supplied and the index doesn't use it.
