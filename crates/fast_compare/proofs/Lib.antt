@@ -1,0 +1,6 @@
+-- `Counts`, `Ranks`: counting, and the sorted order by rank. `Neighbours`: the values next to a value, found by rank.
+-- `Rising`: labels rise with values, kept by an insert and by a rebuild, which leaves room everywhere.
+pub mod Counts
+pub mod Ranks
+pub mod Neighbours
+pub mod Rising

@@ -1,0 +1,1 @@
+// From fast_compare.rs: the label map.
