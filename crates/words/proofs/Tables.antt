@@ -1,6 +1,7 @@
 -- The laws of `specs/Tables.antt`: parts, tables, and words written over words. Assumes nothing.
 use mathlib.Core.Path.{_≡_, refl, sym, ap, _∙_}
-use mathlib.Core.List.{List, [], _∷_, _++_, append-assoc, append-nil}
+use mathlib.Core.Bool.{true, false}
+use mathlib.Core.List.{List, [], _∷_, _++_, append-assoc}
 use mathlib.Core.Logic.{_↔_}
 use Prim.Native.Nat.{ℕ, zero, suc, _+_, _-_, _*_, _/_, _^_, min, _≤_, _<_}
 use native.Mathlib.Nat.{mul-le-mul-right, add-mul, suc-mul, zero-mul}
@@ -11,7 +12,10 @@ use lib.ListN.{length, getD, take, drop, length-append, length-take, length-drop
 use lib.Seq.{take-at, drop-at, take-add, drop-drop, drop-cons, getD-take, getD-drop, getD-append-add, drop-append-le, take-append-le, drop-append-add, take-append-add, take-take, length-take-le}
 use Rattle.words.specs.Words.{words, bytes, putW, pasteW}
 use Rattle.words.specs.Tables.{part, zeros, table, over}
-use Rattle.words.proofs.Laws.{Bytes, Words, length-words, length-bytes, bytes-append, bytes-words, words-take, length-pasteW, putW-split}
+use Rattle.words.proofs.Laws.{Bytes, length-words, length-bytes, bytes-append, bytes-words, words-take, putW-split, pasteW-nil, pasteW-snoc, pasteW-before}
+
+pub never : {X : Type 0} → false ≡ true → X
+never e = absurd (let z : _≡_ {A = ℕ} 0 1 = cc in omega arith)
 
 -- ---- parts
 pub length-part : (W : List ℕ) (at n : ℕ) → at + n ≤ length W → length (part W at n) ≡ n
@@ -199,3 +203,50 @@ paste-over bs E at ws h k =
     rw (split, append-assoc, e2, drop-append-add (bytes a) ((bytes m ++ bytes r) ++ d) (length (bytes m)), append-assoc) (drop-at (bytes m) (bytes r ++ d) (length (bytes m)) refl) in
     let wl : bytes (a ++ (ws ++ r)) ≡ bytes a ++ (bytes ws ++ bytes r) = bytes-append a (ws ++ r) ∙ rw (bytes-append ws r) in
     rw (front, back, lo, wl) (simp append-assoc)
+
+-- ---- the writers' steps
+-- one word more in front
+pub pasteW-cons : (bs : List ℕ) (i : ℕ) (ws : List ℕ) (w : ℕ) → 4 * i + 4 + 4 * length ws ≤ length bs → putW (pasteW bs (i + 1) ws) i w ≡ pasteW bs i (w ∷ ws)
+unfolding pasteW
+pasteW-cons bs i ws w h =
+    let e4 : 4 * (i + 1) ≡ 4 * i + 4 = omega arith in
+    let r = bytes ws ++ drop (4 * (i + 1) + 4 * length ws) bs in
+    let p = take (4 * (i + 1)) bs in
+    let lp : length p ≡ 4 * i + 4 = length-take-le (4 * (i + 1)) bs (omega arith) ∙ e4 in
+    let full : 4 * i + 4 ≤ length (p ++ r) = rw (length-append) (omega arith) in
+    let tk : take (4 * i) (p ++ r) ≡ take (4 * i) bs = take-append-le (4 * i) p r (omega arith) ∙ take-take (4 * i) (4 * (i + 1)) bs (omega arith) in
+    let dr : drop (4 * i + 4) (p ++ r) ≡ r = drop-at p r (4 * i + 4) lp in
+    let el : 4 * i + 4 * length (w ∷ ws) ≡ 4 * (i + 1) + 4 * length ws = omega arith in
+    let wb : bytes (w ∷ ws) ≡ bytes (w ∷ []) ++ bytes ws = bytes-append (w ∷ []) ws in
+    putW-split (p ++ r) i w full ∙ rw (tk, dr, el, wb) (simp append-assoc)
+
+pub clear-none : (bs : List ℕ) (at : ℕ) → bs ≡ pasteW bs at (zeros 0)
+unfolding zeros
+clear-none bs at = sym (pasteW-nil bs at)
+
+pub clear-more : (bs s : List ℕ) (at i : ℕ) → s ≡ pasteW bs at (zeros i) → 4 * (at + i) + 4 ≤ length bs → putW s (at + i) 0 ≡ pasteW bs at (zeros (i + 1))
+clear-more bs s at i e h =
+    let z : zeros (i + 1) ≡ zeros i ++ (0 ∷ []) = zeros-add i 1 ∙ rw (zeros-suc 0, zeros-nil) in
+    rw (e, z) (pasteW-snoc bs at (zeros i) (at + i) 0 (omega (arith, length-zeros i)) h)
+
+-- the words so far are 0
+pub blank-more : (W : List ℕ) (at i : ℕ) → at + i < length W → part W at i ≡ zeros i → getD W (at + i) 0 ≡ 0 → part W at (i + 1) ≡ zeros (i + 1)
+blank-more W at i h e z = part-snoc W at i h ∙ rw (e, z) (sym (zeros-add i 1 ∙ rw (zeros-suc 0, zeros-nil)))
+
+pub not-blank : (W : List ℕ) (at n i : ℕ) → i < n → (getD W (at + i) 0 ≡ 0 → ⊥) → part W at n ≡ zeros n → ⊥
+not-blank W at n i h z e = z (sym (part-get W at n i h) ∙ ap (λ (l : List ℕ). getD l i 0) e ∙ zeros-get n i)
+
+-- moving up, from the end down: the words from i on stand one further up
+pub up-none : (bs : List ℕ) (e : ℕ) → bs ≡ pasteW bs (e + 1) (part (words bs) e (e - e))
+up-none bs e = let z : e - e ≡ 0 = omega arith in rw (z, part-nil (words bs) e) (sym (pasteW-nil bs (e + 1)))
+
+pub up-more : (bs s : List ℕ) (i e w : ℕ) → i < e → 4 * e + 4 ≤ length bs → s ≡ pasteW bs (i + 1 + 1) (part (words bs) (i + 1) (e - (i + 1))) → w ≡ getD (words s) i 0
+    → putW s (i + 1) w ≡ pasteW bs (i + 1) (part (words bs) i (e - i))
+up-more bs s i e w h l q g =
+    let W = words bs in
+    let lw = length-words bs in
+    let n = e - (i + 1) in
+    let en : e - i ≡ suc n = omega arith in
+    let lp : length (part W (i + 1) n) ≡ n = length-part W (i + 1) n (omega arith) in
+    let gw : w ≡ getD W i 0 = g ∙ ap (λ (z : List ℕ). getD (words z) i 0) q ∙ pasteW-before bs (i + 1 + 1) (part W (i + 1) n) i (omega arith) (omega arith) in
+    rw (q, en, part-cons W i n (omega arith), gw) (pasteW-cons bs (i + 1) (part W (i + 1) n) (getD W i 0) (omega arith))
