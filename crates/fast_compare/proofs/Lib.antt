@@ -7,3 +7,5 @@ pub mod Neighbours
 pub mod Rising
 pub mod Maps
 pub mod Cases
+pub mod Images
+pub mod Exact

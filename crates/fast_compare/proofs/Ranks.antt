@@ -237,6 +237,16 @@ module _ {A : Type 0} {c : A → A → CmpOrd} (law : Lawful c) where
     sorted-ranked zero d = record { long = refl; inside = λ k h. absurd (omega arith); rank = λ k h. absurd (omega arith) }
     sorted-ranked (suc n) d = insert-ranked n d (sorted c f n) (sorted-ranked n (fewer n d))
 
+    pub sorted-ext : (g : ℕ → A) (n : ℕ) → ((i : ℕ) → i < n → f i ≡ g i) → sorted c f n ≡ sorted c g n
+    unfolding sorted
+    sorted-ext g zero h = refl
+    sorted-ext g (suc n) h =
+        rw (below-ext g n (f n) (λ i l. h i (omega arith)), h n (omega arith), sorted-ext g n (λ i l. h i (omega arith)))
+
+    pub sorted-suc : (n : ℕ) → sorted c f (suc n) ≡ insertAt (below c f n (f n)) n (sorted c f n)
+    unfolding sorted
+    sorted-suc n = refl
+
     -- ---- a list of n rows whose values rise is ranked, and the values of all rows differ
     module _ (n : ℕ) (o : List ℕ) (inside : (k : ℕ) → k < n → getD o k 0 < n) (long : length o ≡ n)
         (up : (k : ℕ) → suc k < n → c (f (getD o k 0)) (f (getD o (suc k) 0)) ≡ Less) where
