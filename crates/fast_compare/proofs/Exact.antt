@@ -10,13 +10,14 @@ use Rattle.words.specs.Kinds.{indexWord}
 use Rattle.words.specs.Words.{words, pasteW}
 use Rattle.words.specs.Tables.{part, zeros, table}
 use Rattle.words.proofs.Laws.{Words, Bytes, length-words, words-pasteW, length-pasteW}
-use Rattle.words.proofs.Tables.{part-mid, length-zeros, zeros-get, table-iff, row-fits, split-rows, length-table}
+use Rattle.monomial.proofs.Canon.{canon-of}
+use Rattle.words.proofs.Tables.{part-mid, Small, small-append, small-nil, small-cons, small-zeros, small-table, small-each, table-iff, row-fits, split-rows, length-table}
 use Rattle.fast_compare.specs.Labels.{sorted, Labelled}
 use Rattle.fast_compare.specs.Map.{Value, cmp, Good, Row, State, row, value, label, Valid}
 use Rattle.fast_compare.specs.Layout.{rowWords, encode, size, rowAt, orderAt, Is, Sound, SoundFor, valueAt, RowOk, TablesOk, HeadOk}
 use Rattle.fast_compare.proofs.Ranks.{Ranked, sorted-ranked, sorted-ext, ranked-unique}
 use Rattle.fast_compare.proofs.Maps.{cmp-lawful}
-use Rattle.fast_compare.proofs.Images.{of-row, four, together, Pieces, ranked, rows-long, encode-length, header, row-is, tables, found-ranked, found-distinct, found-labelled, rowsTo, length-rowsTo, row-rowsTo, length-row}
+use Rattle.fast_compare.proofs.Images.{canon-small, of-row, four, together, Pieces, ranked, rows-long, encode-length, header, row-is, tables, found-ranked, found-distinct, found-labelled, rowsTo, length-rowsTo, row-rowsTo, length-row}
 
 -- ---- what passes
 module _ (W : List ℕ) (m c : ℕ) (len : ℕ) (small : Words W) (lw : length W ≡ len / 4) (hd : HeadOk W m c len) (ok : TablesOk W m c (getD W 3 0)) where
@@ -172,3 +173,38 @@ state-unique bs a b p q =
     let ra = row-is a (p .valid) W (fits-words bs a p) (p .is) i h in
     let rb = rw (← ev) at (row-is b (q .valid) W (fits-words bs b q) (q .is) i (omega arith)) in
     row-at (a .rows) i ∙ row-eq (row (a .rows) i) (row (b .rows) i) (sym (ra .value-is) ∙ rb .value-is) (sym (ra .label-is) ∙ rb .label-is) ∙ sym (row-at (b .rows) i)))
+
+-- ---- the image of a valid map, pasted into bytes with room, is there
+row-small : (m : ℕ) (r : Row) → Good m (r .value) → r .label < 2 ^ 32 → Small (rowWords m r)
+unfolding rowWords
+row-small m r g h =
+    let ratio : Small (r .value .ratio) = record { each = canon-small m 0 (r .value .ratio) (canon-of (g .canonical)) } in
+    small-cons (omega (arith, g .index-small))
+    (small-append ratio
+    (small-append (small-zeros (m + 1 - length (r .value .ratio))) (small-cons h small-nil)))
+
+module _ (st : State) (val : Valid st) where
+  encode-fits : Small (encode st)
+  unfolding encode
+  encode-fits =
+      let n = length (st .rows) in
+      let o = sorted cmp (value (st .rows)) n in
+      let r = ranked st val in
+      let few : n ≤ 4096 = omega (arith, val .few, val .cap-to) in
+      let head : Small (1 ∷ st .variables ∷ st .capacity ∷ n ∷ []) = small-cons (omega arith) (small-cons (omega (arith, val .vars-to)) (small-cons (omega (arith, val .cap-to)) (small-cons (omega arith) small-nil))) in
+      small-append head
+      (small-append (small-table n (λ i. rowWords (st .variables) (row (st .rows) i)) (λ i h. row-small (st .variables) (row (st .rows) i) (val .good i h) (val .labelled .small i h)))
+      (small-append (small-zeros ((st .capacity - n) * (st .variables + 3)))
+      (small-append (small-each o (λ i h. omega (arith, r .inside i (omega (arith, r .long))))) (small-zeros (st .capacity - n)))))
+
+  pub encode-small : Words (encode st)
+  encode-small = encode-fits .each
+
+  pub pasted : (bs : List ℕ) → 4 * size (st .variables) (st .capacity) ≤ length bs → Is st (pasteW bs 0 (encode st))
+  pasted bs h =
+      let l = encode-length st val in
+      record {
+        valid = val;
+        room = omega (arith, length-pasteW bs 0 (encode st) (omega arith));
+        is = rw (words-pasteW bs 0 (encode st) encode-small (omega arith)) (part-mid [] (encode st) (drop (0 + length (encode st)) (words bs)) 0 (size (st .variables) (st .capacity)) refl l);
+      }

@@ -36,7 +36,7 @@ ratio-within W m at h s =
     let l : length (take f (drop at W)) ≡ f = length-take-le f (drop at W) short in
     (omega (arith, ratio-length m (take f (drop at W)) h (front-canonical 2 m (drop at W) (omega arith) s)), omega (arith, length-drop at W))
 
-canon-small : (b n : ℕ) (ws : List ℕ) → Canon 2 b n ws → Words ws
+pub canon-small : (b n : ℕ) (ws : List ℕ) → Canon 2 b n ws → Words ws
 unfolding Canon
 canon-small b n [] c = λ k. omega arith
 canon-small b n (w ∷ ws) c = go (canon-small (ident w) (suc n) ws) c

@@ -12,7 +12,7 @@ use lib.ListN.{length, getD, take, drop, length-append, length-take, length-drop
 use lib.Seq.{take-at, drop-at, take-add, drop-drop, drop-cons, getD-take, getD-drop, getD-append-add, drop-append-le, take-append-le, drop-append-add, take-append-add, take-take, length-take-le}
 use Rattle.words.specs.Words.{words, bytes, putW, pasteW}
 use Rattle.words.specs.Tables.{part, zeros, table, over}
-use Rattle.words.proofs.Laws.{Bytes, length-words, length-bytes, bytes-append, bytes-words, words-take, putW-split, pasteW-nil, pasteW-snoc, pasteW-before}
+use Rattle.words.proofs.Laws.{Bytes, Words, length-words, length-bytes, bytes-append, bytes-words, words-take, putW-split, pasteW-nil, pasteW-snoc, pasteW-before}
 
 pub never : {X : Type 0} → false ≡ true → X
 never e = absurd (let z : _≡_ {A = ℕ} 0 1 = cc in omega arith)
@@ -203,6 +203,44 @@ paste-over bs E at ws h k =
     rw (split, append-assoc, e2, drop-append-add (bytes a) ((bytes m ++ bytes r) ++ d) (length (bytes m)), append-assoc) (drop-at (bytes m) (bytes r ++ d) (length (bytes m)) refl) in
     let wl : bytes (a ++ (ws ++ r)) ≡ bytes a ++ (bytes ws ++ bytes r) = bytes-append a (ws ++ r) ∙ rw (bytes-append ws r) in
     rw (front, back, lo, wl) (simp append-assoc)
+
+-- ---- words that fit 32 bits; a record, so that the list is inferred
+pub record Small (l : List ℕ) : Type 0 where
+  pub each : Words l
+
+both-small : (a b : List ℕ) → Words a → Words b → Words (a ++ b)
+both-small [] b h k = k
+both-small (x ∷ a) b h k = go (both-small a b (λ j. h (suc j)) k)
+  where
+    go : Words (a ++ b) → Words (x ∷ (a ++ b))
+    go r zero = h 0
+    go r (suc i) = r i
+
+one-small : (x : ℕ) (l : List ℕ) → x < 2 ^ 32 → Words l → Words (x ∷ l)
+one-small x l h k zero = h
+one-small x l h k (suc i) = k i
+
+pub small-append : {a b : List ℕ} → Small a → Small b → Small (a ++ b)
+small-append {a} {b} h k = record { each = both-small a b (h .each) (k .each) }
+
+pub small-nil : Small []
+small-nil = record { each = λ i. omega arith }
+
+pub small-cons : {x : ℕ} {l : List ℕ} → x < 2 ^ 32 → Small l → Small (x ∷ l)
+small-cons {x} {l} h k = record { each = one-small x l h (k .each) }
+
+pub small-zeros : (n : ℕ) → Small (zeros n)
+small-zeros n = record { each = λ i. rw (zeros-get n i) (omega arith) }
+
+pub small-table : (n : ℕ) (f : ℕ → List ℕ) → ((i : ℕ) → i < n → Small (f i)) → Small (table n f)
+unfolding table
+small-table zero f h = small-nil
+small-table (suc n) f h = small-append (small-table n f (λ i k. h i (omega arith))) (h n (omega arith))
+
+-- numbers that are small at each place
+pub small-each : (l : List ℕ) → ((i : ℕ) → i < length l → getD l i 0 < 2 ^ 32) → Small l
+small-each [] h = small-nil
+small-each (x ∷ l) h = small-cons (h 0 (omega arith)) (small-each l (λ i k. h (suc i) (omega arith)))
 
 -- ---- the writers' steps
 -- one word more in front
