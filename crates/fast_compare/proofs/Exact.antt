@@ -145,10 +145,10 @@ module _ (bs : List ℕ) (st : State) (i : Is st bs) where
 -- the checks pass exactly for a sound map
 pub sound-for-iff : (bs : List ℕ) (m c : ℕ) → Words (words bs) → (HeadOk (words bs) m c (length bs) × TablesOk (words bs) m c (getD (words bs) 3 0)) ↔ SoundFor m c bs
 sound-for-iff bs m c small = (
-      λ (p : HeadOk (words bs) m c (length bs) × TablesOk (words bs) m c (getD (words bs) 3 0)). passes bs m c small (p .0) (p .1),
-      λ (s : SoundFor m c bs).
-      (rw (s .vars, s .cap) at (head-of bs (s .state) (s .is)), rw (s .vars, s .cap) at (tables-of bs (s .state) (s .is)))
-    )
+  λ (p : HeadOk (words bs) m c (length bs) × TablesOk (words bs) m c (getD (words bs) 3 0)). passes bs m c small (p .0) (p .1),
+  λ (s : SoundFor m c bs).
+      (rw (s .vars, s .cap) at (head-of bs (s .state) (s .is)), rw (s .vars, s .cap) at (tables-of bs (s .state) (s .is))),
+)
 
 -- bytes that hold a map hold that one only
 row-eq : (a b : Row) → a .value ≡ b .value → a .label ≡ b .label → a ≡ b
@@ -208,3 +208,6 @@ module _ (st : State) (val : Valid st) where
         room = omega (arith, length-pasteW bs 0 (encode st) (omega arith));
         is = rw (words-pasteW bs 0 (encode st) encode-small (omega arith)) (part-mid [] (encode st) (drop (0 + length (encode st)) (words bs)) 0 (size (st .variables) (st .capacity)) refl l);
       }
+
+pub sound-long : (bs : List ℕ) (st : State) → Is st bs → 16 ≤ length bs
+sound-long bs st i = omega (arith, i .room)

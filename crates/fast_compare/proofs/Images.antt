@@ -62,7 +62,7 @@ same-value : (v : Value) (i : ℕ) (r : List ℕ) → i ≡ v .index → r ≡ v
 same-value v i r a b = λ j. record { index = a j; ratio = b j }
 
 -- a part, as the list's own functions give it
-part-is : (W : List ℕ) (a k : ℕ) → part W a k ≡ take k (drop a W)
+pub part-is : (W : List ℕ) (a k : ℕ) → part W a k ≡ take k (drop a W)
 unfolding part
 part-is W a k = refl
 
@@ -111,9 +111,10 @@ module _ (W : List ℕ) (m at : ℕ) (few : m ≤ 4096) (fits : at + (m + 3) ≤
       let p1 = part-append W (at + 1) k (z + 1) rt (zeros z ++ (lb ∷ [])) (b .1) lr .1 (refl, p2) in
       let iw : part W at 1 ≡ indexWord (payload (getD W at 0)) ∷ [] = part-one W at (omega arith) ∙ ap (λ (x : ℕ). x ∷ []) (omega (arith, ok .kinded)) in
       let p0 = part-append W at 1 (k + (z + 1)) (indexWord (payload (getD W at 0)) ∷ []) (rt ++ (zeros z ++ (lb ∷ []))) (omega arith) refl .1 (iw, p1) in
-      let lz : m + 1 - length rt ≡ z = rw lr in
-      (ap (part W at) e1 ∙ p0 ∙ rw lz,
-      record { index-small = omega arith; canonical = rw (part-is W (at + 1) (ratioWords W m (at + 1))) (front-canonical 2 m (drop (at + 1) W) (omega arith) (ok .some)) })
+      let lz : m + 1 - length rt ≡ z = rw lr in (
+        ap (part W at) e1 ∙ p0 ∙ rw lz,
+        record { index-small = omega arith; canonical = rw (part-is W (at + 1) (ratioWords W m (at + 1))) (front-canonical 2 m (drop (at + 1) W) (omega arith) (ok .some)) },
+      )
 
 -- ---- the whole image
 -- its five pieces

@@ -9,3 +9,5 @@ pub mod Maps
 pub mod Cases
 pub mod Images
 pub mod Exact
+pub mod Scans
+pub mod Checks

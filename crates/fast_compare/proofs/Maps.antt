@@ -226,7 +226,7 @@ module _ (st : State) (q : Value) where
             | no y ↦ let z : i ≡ n = omega arith in rw (z, value-new rs r) g
           ];
           labelled = rw ln (insert-labelled cmp-lawful f l n (val .labelled) (value (rs ++ (r ∷ []))) (label (rs ++ (r ∷ []))) q x
-            (value-old rs r) (value-new rs r) (label-old rs r) (label-new rs r) (none-known cmp-lawful f n q e) b);
+              (value-old rs r) (value-new rs r) (label-old rs r) (label-new rs r) (none-known cmp-lawful f n q e) b);
         })
 
     -- a call keeps the map valid
@@ -264,8 +264,8 @@ module _ (st : State) (val : Valid st) where
     few = omega (arith, rebuild-length, val .few);
     good = λ i h. rw (rebuild-value i) (val .good i (omega (arith, rebuild-length)));
     labelled = rw rebuild-length (labelled-as (value (st .rows)) (value (rebuild st .rows)) (rebuilt cmp (value (st .rows)) (length (st .rows))) (label (rebuild st .rows)) (length (st .rows))
-      (λ i h. rebuild-value i) (λ i h. rebuild-label i h)
-      (rebuilt-labelled cmp-lawful (value (st .rows)) (label (st .rows)) (length (st .rows)) (val .labelled) (omega (arith, val .few, val .cap-to))));
+        (λ i h. rebuild-value i) (λ i h. rebuild-label i h)
+        (rebuilt-labelled cmp-lawful (value (st .rows)) (label (st .rows)) (length (st .rows)) (val .labelled) (omega (arith, val .few, val .cap-to))));
   }
 
   -- after a rebuild every value gets a label: a retry is never refused for want of one

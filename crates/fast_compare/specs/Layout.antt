@@ -61,6 +61,12 @@ ratioWords W m at = front 2 m 0 (drop at W)
 unfoldable pub valueAt : List ℕ → ℕ → ℕ → Value
 valueAt W m at = record { index = payload (getD W at 0); ratio = part W (at + 1) (ratioWords W m (at + 1)) }
 
+-- a canonical ratio in some number of variables stands at word `at`
+pub record HasRatio (W : List ℕ) (at : ℕ) : Type 0 where
+  pub vars : ℕ
+  pub few : vars ≤ 4096
+  pub some : ratioWords W vars at ≡ 0 → ⊥
+
 -- the m + 3 words from word `at` on are a row
 pub record RowOk (W : List ℕ) (m at : ℕ) : Type 0 where
   pub kinded : kind (getD W at 0) ≡ 3
