@@ -11,3 +11,4 @@ pub mod Images
 pub mod Exact
 pub mod Scans
 pub mod Checks
+pub mod Reading
