@@ -12,3 +12,4 @@ pub mod Exact
 pub mod Scans
 pub mod Checks
 pub mod Reading
+pub mod Storing

@@ -1,7 +1,7 @@
 -- The laws of `specs/Tables.antt`: parts, tables, and words written over words. Assumes nothing.
 use mathlib.Core.Path.{_≡_, refl, sym, ap, _∙_}
 use mathlib.Core.Bool.{true, false}
-use mathlib.Core.List.{List, [], _∷_, _++_, append-assoc}
+use mathlib.Core.List.{List, [], _∷_, _++_, append-assoc, append-nil}
 use mathlib.Core.Logic.{_↔_}
 use Prim.Native.Nat.{ℕ, zero, suc, _+_, _-_, _*_, _/_, _^_, min, _≤_, _<_}
 use native.Mathlib.Nat.{mul-le-mul-right, add-mul, suc-mul, zero-mul}
@@ -156,6 +156,58 @@ over-mid a b c d at h k =
     let e : at + length d ≡ length a + length b = omega arith in
     rw (take-at a (b ++ c) at h, e, drop-append-add a (b ++ c) (length b), drop-at b c (length b) refl)
 
+-- words written within the piece b of three
+pub over-inside : (a b c ws : List ℕ) (at t : ℕ) → at ≡ length a + t → t + length ws ≤ length b → over (a ++ (b ++ c)) at ws ≡ a ++ (over b t ws ++ c)
+unfolding over
+over-inside a b c ws at t e h =
+    let d : at + length ws ≡ length a + (t + length ws) = omega arith in
+    rw (e, take-append-add a (b ++ c) t, take-append-le t b c (omega arith))
+    (rw (← e, d, drop-append-add a (b ++ c) (t + length ws), drop-append-le (t + length ws) b c h) (simp append-assoc))
+
+-- words written over the whole piece
+pub over-all : (b ws : List ℕ) → length ws ≡ length b → over b 0 ws ≡ ws
+over-all b ws h = ap (λ (l : List ℕ). over l 0 ws) (sym (append-nil b)) ∙ over-mid [] b [] ws 0 refl h ∙ append-nil ws
+
+-- a row of a table written anew
+pub over-table : (n w j t : ℕ) (f g : ℕ → List ℕ) (ws : List ℕ) → j < n → ((i : ℕ) → i < n → length (f i) ≡ w) → ((i : ℕ) → i < n → (i ≡ j → ⊥) → f i ≡ g i) → g j ≡ over (f j) t ws
+    → t + length ws ≤ w → over (table n f) (j * w + t) ws ≡ table n g
+unfolding table
+over-table zero w j t f g ws h l e k r = absurd (omega arith)
+over-table (suc n) w j t f g ws h l e k r =
+    let lt : length (table n f) ≡ n * w = length-table n w f (λ i q. l i (omega arith)) in
+    elim (decLe n j) [
+      | yes y ↦
+          let ej : j ≡ n = omega arith in
+          let same : table n f ≡ table n g = table-agree n f g (λ i q. e i (omega arith) (λ z. omega arith)) in
+          let p : j * w + t ≡ length (table n f) + t = rw (ej, lt) in
+          ap (λ (z : List ℕ). over (table n f ++ z) (j * w + t) ws) (sym (append-nil (f n)))
+          ∙ over-inside (table n f) (f n) [] ws (j * w + t) t p (omega (arith, l n (omega arith)))
+          ∙ rw (append-nil (over (f n) t ws), same) (ap (λ (z : List ℕ). table n g ++ z) (sym (rw ej at k)))
+      | no y ↦
+          let fit : j * w + t + length ws ≤ length (table n f) = omega (arith, row-fits j n w (omega arith)) in
+          over-inside [] (table n f) (f n) ws (j * w + t) (j * w + t) (omega arith) fit
+          ∙ rw (over-table n w j t f g ws (omega arith) (λ i q. l i (omega arith)) (λ i q. e i (omega arith)) k r, e n (omega arith) (λ z. omega arith))
+    ]
+
+-- one word more in front
+pub pasteW-cons : (bs : List ℕ) (i : ℕ) (ws : List ℕ) (w : ℕ) → 4 * i + 4 + 4 * length ws ≤ length bs → putW (pasteW bs (i + 1) ws) i w ≡ pasteW bs i (w ∷ ws)
+unfolding pasteW
+pasteW-cons bs i ws w h =
+    let e4 : 4 * (i + 1) ≡ 4 * i + 4 = omega arith in
+    let r = bytes ws ++ drop (4 * (i + 1) + 4 * length ws) bs in
+    let p = take (4 * (i + 1)) bs in
+    let lp : length p ≡ 4 * i + 4 = length-take-le (4 * (i + 1)) bs (omega arith) ∙ e4 in
+    let full : 4 * i + 4 ≤ length (p ++ r) = rw (length-append) (omega arith) in
+    let tk : take (4 * i) (p ++ r) ≡ take (4 * i) bs = take-append-le (4 * i) p r (omega arith) ∙ take-take (4 * i) (4 * (i + 1)) bs (omega arith) in
+    let dr : drop (4 * i + 4) (p ++ r) ≡ r = drop-at p r (4 * i + 4) lp in
+    let el : 4 * i + 4 * length (w ∷ ws) ≡ 4 * (i + 1) + 4 * length ws = omega arith in
+    let wb : bytes (w ∷ ws) ≡ bytes (w ∷ []) ++ bytes ws = bytes-append (w ∷ []) ws in
+    putW-split (p ++ r) i w full ∙ rw (tk, dr, el, wb) (simp append-assoc)
+
+-- one word stored
+pub putW-paste : (bs : List ℕ) (i w : ℕ) → 4 * i + 4 ≤ length bs → putW bs i w ≡ pasteW bs i (w ∷ [])
+putW-paste bs i w h = ap (λ (l : List ℕ). putW l i w) (sym (pasteW-nil bs (i + 1))) ∙ pasteW-cons bs i [] w (omega arith)
+
 -- ---- bytes and words
 -- bytes with room hold their own first n words
 pub paste-own : (bs : List ℕ) (n : ℕ) → Bytes bs → 4 * n ≤ length bs → pasteW bs 0 (part (words bs) 0 n) ≡ bs
@@ -243,21 +295,6 @@ small-each [] h = small-nil
 small-each (x ∷ l) h = small-cons (h 0 (omega arith)) (small-each l (λ i k. h (suc i) (omega arith)))
 
 -- ---- the writers' steps
--- one word more in front
-pub pasteW-cons : (bs : List ℕ) (i : ℕ) (ws : List ℕ) (w : ℕ) → 4 * i + 4 + 4 * length ws ≤ length bs → putW (pasteW bs (i + 1) ws) i w ≡ pasteW bs i (w ∷ ws)
-unfolding pasteW
-pasteW-cons bs i ws w h =
-    let e4 : 4 * (i + 1) ≡ 4 * i + 4 = omega arith in
-    let r = bytes ws ++ drop (4 * (i + 1) + 4 * length ws) bs in
-    let p = take (4 * (i + 1)) bs in
-    let lp : length p ≡ 4 * i + 4 = length-take-le (4 * (i + 1)) bs (omega arith) ∙ e4 in
-    let full : 4 * i + 4 ≤ length (p ++ r) = rw (length-append) (omega arith) in
-    let tk : take (4 * i) (p ++ r) ≡ take (4 * i) bs = take-append-le (4 * i) p r (omega arith) ∙ take-take (4 * i) (4 * (i + 1)) bs (omega arith) in
-    let dr : drop (4 * i + 4) (p ++ r) ≡ r = drop-at p r (4 * i + 4) lp in
-    let el : 4 * i + 4 * length (w ∷ ws) ≡ 4 * (i + 1) + 4 * length ws = omega arith in
-    let wb : bytes (w ∷ ws) ≡ bytes (w ∷ []) ++ bytes ws = bytes-append (w ∷ []) ws in
-    putW-split (p ++ r) i w full ∙ rw (tk, dr, el, wb) (simp append-assoc)
-
 pub clear-none : (bs : List ℕ) (at : ℕ) → bs ≡ pasteW bs at (zeros 0)
 unfolding zeros
 clear-none bs at = sym (pasteW-nil bs at)
