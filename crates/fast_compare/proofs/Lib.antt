@@ -13,3 +13,4 @@ pub mod Scans
 pub mod Checks
 pub mod Reading
 pub mod Storing
+pub mod Giving

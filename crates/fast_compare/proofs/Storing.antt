@@ -13,10 +13,11 @@ use Rattle.words.proofs.Laws.{Bytes, length-words, length-pasteW}
 use Rattle.words.proofs.Tables.{length-part, part-append, length-zeros, zeros-nil, zeros-suc, zeros-add, length-table, table-agree, table-suc, split-rows, row-fits, length-over, over-mid, over-inside, over-all, over-table, putW-paste, paste-own, paste-over}
 use Rattle.monomial.specs.Monomial.{Canonical}
 use Rattle.fast_compare.specs.Labels.{insertAt, below, sorted}
-use Rattle.fast_compare.specs.Map.{Value, cmp, Good, Row, State, row, value, label, Valid}
+use Rattle.fast_compare.specs.Map.{Value, cmp, Good, Row, State, row, value, label, Valid, stored}
+use Rattle.fast_compare.specs.declared.Comparer.the-variants.{New}
 use Rattle.fast_compare.specs.Layout.{rowWords, encode, size, rowAt, orderAt, Is}
 use Rattle.fast_compare.proofs.Ranks.{below-ext, below-most, sorted-ext, sorted-suc}
-use Rattle.fast_compare.proofs.Maps.{cmp-lawful, row-old, row-new, value-old, value-new}
+use Rattle.fast_compare.proofs.Maps.{cmp-lawful, row-old, row-new, value-old, value-new, stored-new}
 use Rattle.fast_compare.proofs.Images.{ratio-length, length-row, ranked, rows-long, encode-length, pieces, header}
 use Rattle.fast_compare.proofs.Exact.{fits-words}
 
@@ -209,3 +210,12 @@ module _ (bs : List ℕ) (st : State) (b : Bytes bs) (i : Is st bs) (room : leng
       let q4 : b4 ≡ pasteW bs 0 E4 = e4 ∙ put-wrote bs b3 E3 (rowAt m′ n′ + (m′ + 2)) x q3 (omega arith) (omega arith) in
       let l4 : length E4 ≡ size m′ c′ = length-over E3 (rowAt m′ n′ + (m′ + 2)) (x ∷ []) (omega arith) ∙ l3 in
       e5 ∙ put-wrote bs b4 E4 3 (n′ + 1) q4 (omega arith) (omega arith) ∙ ap (pasteW bs 0) (stored-words st (i .valid) room q x p e good)
+
+  -- as the code writes it: v variables, capacity k, t rows
+  pub stored-call : (v k t iw : ℕ) (b1 b2 b3 b4 b5 : List ℕ) → v ≡ st .variables → k ≡ st .capacity → t ≡ length (st .rows) → iw ≡ indexWord (q .index)
+      → b1 ≡ pasteW bs (4 + k * (v + 3) + p) (t ∷ part (words bs) (4 + k * (v + 3) + p) (4 + k * (v + 3) + t - (4 + k * (v + 3) + p)))
+      → b2 ≡ putW b1 (4 + t * (v + 3)) iw → b3 ≡ pasteW b2 (4 + t * (v + 3) + 1) (q .ratio) → b4 ≡ putW b3 (4 + t * (v + 3) + (v + 2)) x → b5 ≡ putW b4 3 (t + 1)
+      → b5 ≡ pasteW bs 0 (encode (stored (New x) st q))
+  stored-call v k t iw b1 b2 b3 b4 b5 ev ek et ei e1 e2 e3 e4 e5 =
+      let d : 4 + k * (v + 3) + t - (4 + k * (v + 3) + p) ≡ t - p = omega arith in
+      rw (stored-new st q x) (stored-bytes b1 b2 b3 b4 b5 (e1 ∙ rw d (rw (ev, ek, et))) (e2 ∙ rw (ev, et, ei)) (e3 ∙ rw (ev, et)) (e4 ∙ rw (ev, et)) (e5 ∙ rw et))

@@ -4,12 +4,13 @@ use mathlib.Core.List.{List, [], _∷_, _++_}
 use Prim.Native.Nat.{ℕ, suc, _+_, _-_, _*_, _≤_, _<_}
 use lib.ListN.{length, getD, take, drop}
 use Rattle.words.specs.Kinds.{kind, payload, indexWord}
-use Rattle.words.specs.Words.{words}
+use Rattle.words.specs.Words.{words, pasteW}
 use Rattle.words.specs.Tables.{part, zeros, table}
 use Rattle.monomial.specs.Monomial.{front}
 use Rattle.monomial.specs.declared.monomial_ordering.CmpOrd.the-variants.{Less}
 use Rattle.fast_compare.specs.Labels.{sorted}
-use Rattle.fast_compare.specs.Map.{Value, cmp, Row, State, row, value, Valid}
+use Rattle.fast_compare.specs.Map.{Value, cmp, Row, State, row, value, Valid, answer, after}
+use Rattle.fast_compare.specs.declared.Comparer.{Comparer}
 
 -- the index, the ratio's words and zeros up to m + 1 words, the label
 unfoldable pub rowWords : ℕ → Row → List ℕ
@@ -101,3 +102,9 @@ pub record HeadOk (W : List ℕ) (m c len : ℕ) : Type 0 where
   pub variables : getD W 1 0 ≡ m
   pub capacity : getD W 2 0 ≡ c
   pub few : getD W 3 0 ≤ c
+
+-- ---- what a call leaves
+-- the answer of `answer`, and the bytes of the map after it
+pub record Gave (st : State) (q : Value) (r : Comparer) (entry exit : List ℕ) : Type 0 where
+  pub answers : r ≡ answer st q
+  pub bytes : exit ≡ pasteW entry 0 (encode (after st q))
