@@ -14,3 +14,5 @@ pub mod Checks
 pub mod Reading
 pub mod Storing
 pub mod Giving
+pub mod Respacing
+pub mod Opening

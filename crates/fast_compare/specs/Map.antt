@@ -68,6 +68,10 @@ pub record Valid (st : State) : Type 0 where
   pub good : (i : ℕ) → i < length (st .rows) → Good (st .variables) (value (st .rows) i)
   pub labelled : Labelled cmp (value (st .rows)) (label (st .rows)) (length (st .rows))
 
+-- the map that an opening gives
+abbrev pub empty : ℕ → ℕ → State
+empty m c = record { variables = m; capacity = c; rows = [] }
+
 -- ---- the place of a value: how many values lie below it, and whether it is known
 unfoldable pub placed : Option ℕ → ℕ → Place
 placed (some i) p = At p

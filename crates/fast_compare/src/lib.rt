@@ -205,3 +205,41 @@ pub fn get_comparer(map: &mut [u8], index: u32, ratio: &[u8]) -> Comparer
         Place::Before(p) => add(map, p, index, ratio),
     }
 }
+
+// The label of the k-th of n values after a rebuild.
+fn spaced(n: usize, k: usize) -> u32
+    requires { ⌜ (k ≤ n) × (n ≤ 4096) ⌝ }
+    ensures { λ r. ⌜ r ≡ Labels.spaced n k ⌝ }
+{
+    (k as u64 * 4294967295 / (n as u64 + 1)) as u32
+}
+
+// Gives every value a new label, evenly spaced, in the same order.
+pub fn rebuild(map: &mut [u8])
+    requires { ⌜ Sound (now map) ⌝ }
+    ensures { λ _. ⌜ ((st : State) → Is st (now (map .entry)) → now (map .exit) ≡ pasteW (now (map .entry)) 0 (encode (Map.rebuild st))) ⌝ }
+{
+    let variables = words::get(map, 1) as usize;
+    let capacity = words::get(map, 2) as usize;
+    let n = words::get(map, 3) as usize;
+    let order = 4 + capacity * (variables + 3);
+    let mut k: usize = 0;
+    while k < n {
+        let row = words::get(map, order + k) as usize;
+        let label = spaced(n, k + 1);
+        words::put(map, 4 + row * (variables + 3) + (variables + 2), label);
+        k += 1;
+    }
+}
+
+// Writes an empty map: every byte of its length.
+pub fn open(map: &mut [u8], variables: usize, capacity: usize)
+    requires { ⌜ Asked variables capacity ⌝ }
+    requires { ⌜ 4 * size variables capacity ≤ length (now map) ⌝ }
+    ensures { λ _. ⌜ now (map .exit) ≡ pasteW (now (map .entry)) 0 (encode (Map.empty variables capacity)) ⌝ }
+{
+    words::put(map, 0, 1);
+    words::put(map, 1, variables as u32);
+    words::put(map, 2, capacity as u32);
+    words::runs::clear(map, 3, 1 + capacity * (variables + 3) + capacity);
+}

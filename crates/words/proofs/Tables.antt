@@ -325,3 +325,18 @@ up-more bs s i e w h l q g =
     let lp : length (part W (i + 1) n) ≡ n = length-part W (i + 1) n (omega arith) in
     let gw : w ≡ getD W i 0 = g ∙ ap (λ (z : List ℕ). getD (words z) i 0) q ∙ pasteW-before bs (i + 1 + 1) (part W (i + 1) n) i (omega arith) (omega arith) in
     rw (q, en, part-cons W i n (omega arith), gw) (pasteW-cons bs (i + 1) (part W (i + 1) n) (getD W i 0) (omega arith))
+
+-- words pasted behind words pasted
+pub pasteW-append : (bs : List ℕ) (at : ℕ) (a : List ℕ) (i : ℕ) (b : List ℕ) → i ≡ at + length a → 4 * i ≤ length bs → pasteW (pasteW bs at a) i b ≡ pasteW bs at (a ++ b)
+unfolding pasteW
+pasteW-append bs at a i b e h =
+    let p = take (4 * at) bs ++ bytes a in
+    let q = drop (4 * at + 4 * length a) bs in
+    let el : length p ≡ 4 * i = simp (length-append, length-take, length-bytes) (omega arith) in
+    let e4 : 4 * at + 4 * length (a ++ b) ≡ 4 * at + 4 * length a + 4 * length b = simp length-append (omega arith) in
+    let e5 : 4 * i + 4 * length b ≡ length p + 4 * length b = omega arith in
+    let ed : drop (4 * i + 4 * length b) (p ++ q) ≡ drop (4 * at + 4 * length a + 4 * length b) bs =
+    ap (λ (n : ℕ). drop n (p ++ q)) e5 ∙ drop-append-add p q (4 * length b) ∙ drop-drop (4 * length b) (4 * at + 4 * length a) bs in
+    let ep : take (4 * at) bs ++ (bytes a ++ q) ≡ p ++ q = sym (append-assoc (take (4 * at) bs) (bytes a) q) in
+    ap (λ (l : List ℕ). take (4 * i) l ++ (bytes b ++ drop (4 * i + 4 * length b) l)) ep
+    ∙ rw (e4, take-at p q (4 * i) el, ed, bytes-append) (simp append-assoc)
