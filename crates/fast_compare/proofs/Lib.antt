@@ -16,3 +16,4 @@ pub mod Storing
 pub mod Giving
 pub mod Respacing
 pub mod Opening
+pub mod Replies

@@ -117,13 +117,3 @@ rebuild st = record {
   capacity = st .capacity;
   rows = relabelled (rebuilt cmp (value (st .rows)) (length (st .rows))) (st .rows);
 }
-
--- ---- document 01's numbers. C gets one 64-bit number: a label, or a refusal's number times 2^32.
-abbrev pub refusal : ℕ → ℕ
-refusal n = n * 4294967296
-
-unfoldable pub reply : Comparer → ℕ
-reply (Known x) = x
-reply (New x) = x
-reply Full = refusal 8
-reply NoLabel = refusal 10

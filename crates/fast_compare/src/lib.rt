@@ -1,4 +1,5 @@
 // From fast_compare.rs: the label map, in words of a lent image. docs/LAYOUT.md has the layout.
+pub mod doors;
 pub mod rows;
 pub mod soundness;
 
