@@ -17,3 +17,4 @@ pub mod Giving
 pub mod Respacing
 pub mod Opening
 pub mod Replies
+pub mod Kept

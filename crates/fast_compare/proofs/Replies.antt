@@ -72,6 +72,12 @@ pub lent-good : (m i : ℕ) (ratio : List ℕ) → i < 268435456 → lent 2 m ra
 unfolding valueLent
 lent-good m i ratio h e = (rw (lt-ltb i 268435456 h) e, record { index-small = h; canonical = lent-canonical 2 m ratio .0 e .1 })
 
+pub lent-is-good : (m i : ℕ) (ratio : List ℕ) → valueLent m i ratio ≡ true → Good m (valueOf i (words ratio))
+unfolding valueLent
+lent-is-good m i ratio e =
+    let t = both-true (ltb i 268435456) (lent 2 m ratio) e in
+    record { index-small = ltb-true i 268435456 (t .0); canonical = lent-canonical 2 m ratio .0 (t .1) .1 }
+
 pub large-index : (m i : ℕ) (ratio : List ℕ) → 268435456 ≤ i → valueLent m i ratio ≡ false
 unfolding valueLent
 large-index m i ratio h = rw (le-ltb i 268435456 h)
