@@ -1,0 +1,140 @@
+-- What the doors answer, case by case. Assumes nothing.
+use mathlib.Core.Path.{_≡_, refl, sym, ap, _∙_}
+use mathlib.Core.Bool.{Bool, true, false, cond, _&&_}
+use mathlib.Core.List.{List}
+use mathlib.Core.Logic.{_↔_}
+use Prim.Native.Nat.{ℕ, _+_, _*_, _≤_, _<_}
+use native.Mathlib.Omega.{arith}
+use lib.Dec.{leb, ltb, eqb}
+use lib.ListN.{length, getD}
+use borrow.Author.Tests.{leb-true, le-leb, lt-leb, ltb-true, lt-ltb, le-ltb, eq-eqb}
+use Rattle.words.specs.Words.{words, pasteW}
+use Rattle.words.proofs.Laws.{Bytes}
+use Rattle.words.proofs.Tables.{never}
+use Rattle.monomial.specs.Monomial.{lent}
+use Rattle.monomial.proofs.Canon.{both-true}
+use Rattle.monomial.proofs.Laws.{lent-canonical}
+use Rattle.fast_compare.specs.Map.{Value, valueOf, Good, Asked, State, answer, stored, after, empty, rebuild}
+use Rattle.fast_compare.specs.Layout.{encode, size, Is, Sound, Gave}
+use Rattle.fast_compare.specs.Door.{refusal, askedFor, lengthFor, openingFor, openedBytes, number, told, valueLent, asked, left, Asking, Replied, Rebuilt}
+use Rattle.fast_compare.specs.declared.Comparer.{Comparer}
+use Rattle.fast_compare.specs.declared.Comparer.the-variants.{Known, New, Full, NoLabel}
+use Rattle.fast_compare.specs.declared.doors.Answer.{Answer}
+use Rattle.fast_compare.specs.declared.doors.Answer.the-variants.{Label, Unsound, BadValue, NoRoom, NoFree}
+use Rattle.fast_compare.proofs.Maps.{after-as, stored-same}
+use Rattle.fast_compare.proofs.Storing.{holds}
+
+-- ---- question 1
+pub asked-iff : (m c : ℕ) → (askedFor m c ≡ true) ↔ Asked m c
+unfolding askedFor
+asked-iff m c = (to, from)
+  where
+    to : (leb 1 m && (leb m 64 && (leb 1 c && leb c 4096))) ≡ true → Asked m c
+    to e =
+        let a = both-true _ _ e in
+        let b = both-true _ _ (a .1) in
+        let d = both-true _ _ (b .1) in
+        record { vars-from = leb-true 1 m (a .0); vars-to = leb-true m 64 (b .0); cap-from = leb-true 1 c (d .0); cap-to = leb-true c 4096 (d .1) }
+
+    from : Asked m c → (leb 1 m && (leb m 64 && (leb 1 c && leb c 4096))) ≡ true
+    from a = simp (le-leb 1 m (a .vars-from), le-leb m 64 (a .vars-to), le-leb 1 c (a .cap-from), le-leb c 4096 (a .cap-to))
+
+not-true : (b : Bool) → (b ≡ true → ⊥) → b ≡ false
+not-true true h = absurd (h refl)
+not-true false h = refl
+
+not-asked : (m c : ℕ) → (Asked m c → ⊥) → askedFor m c ≡ false
+not-asked m c h = not-true (askedFor m c) (λ e. h (asked-iff m c .0 e))
+
+module _ (m c : ℕ) where
+  pub length-refused : (Asked m c → ⊥) → 4294967296 ≡ lengthFor m c
+  unfolding lengthFor
+  length-refused h = rw (not-asked m c h)
+
+  pub length-served : Asked m c → 4 * size m c ≡ lengthFor m c
+  unfolding lengthFor
+  length-served a = rw (asked-iff m c .1 a)
+
+  pub open-unasked : (bs : List ℕ) → (Asked m c → ⊥) → (1 ≡ openingFor m c (length bs)) × (bs ≡ openedBytes m c bs)
+  unfolding openingFor openedBytes
+  open-unasked bs h = rw (not-asked m c h) (refl, refl)
+
+  pub open-short : (bs : List ℕ) → Asked m c → length bs < 4 * size m c → (2 ≡ openingFor m c (length bs)) × (bs ≡ openedBytes m c bs)
+  unfolding openingFor openedBytes
+  open-short bs a h = rw (asked-iff m c .1 a, lt-leb (4 * size m c) (length bs) h) (refl, refl)
+
+  pub open-served : (bs b : List ℕ) → Asked m c → 4 * size m c ≤ length bs → b ≡ pasteW bs 0 (encode (empty m c)) → (0 ≡ openingFor m c (length bs)) × (b ≡ openedBytes m c bs)
+  unfolding openingFor openedBytes
+  open-served bs b a h e = rw (asked-iff m c .1 a, le-leb (4 * size m c) (length bs) h) (refl, e)
+
+-- ---- question 7
+pub lent-good : (m i : ℕ) (ratio : List ℕ) → i < 268435456 → lent 2 m ratio ≡ true → (valueLent m i ratio ≡ true) × Good m (valueOf i (words ratio))
+unfolding valueLent
+lent-good m i ratio h e = (rw (lt-ltb i 268435456 h) e, record { index-small = h; canonical = lent-canonical 2 m ratio .0 e .1 })
+
+pub lent-is-good : (m i : ℕ) (ratio : List ℕ) → valueLent m i ratio ≡ true → Good m (valueOf i (words ratio))
+unfolding valueLent
+lent-is-good m i ratio e =
+    let t = both-true (ltb i 268435456) (lent 2 m ratio) e in
+    record { index-small = ltb-true i 268435456 (t .0); canonical = lent-canonical 2 m ratio .0 (t .1) .1 }
+
+pub large-index : (m i : ℕ) (ratio : List ℕ) → 268435456 ≤ i → valueLent m i ratio ≡ false
+unfolding valueLent
+large-index m i ratio h = rw (le-ltb i 268435456 h)
+
+pub bad-ratio : (m i : ℕ) (ratio : List ℕ) → lent 2 m ratio ≡ false → valueLent m i ratio ≡ false
+unfolding valueLent
+bad-ratio m i ratio e = go (ltb i 268435456)
+  where
+    go : (b : Bool) → (b && lent 2 m ratio) ≡ false
+    go true = e
+    go false = refl
+
+-- ---- the answers
+told-new : (x : ℕ) → told (New x) ≡ Label x
+unfolding told
+told-new x = refl
+
+module _ (i : ℕ) (ratio bs : List ℕ) where
+  pub asking-unsound : (Sound bs → ⊥) → Asking i ratio Unsound bs bs
+  asking-unsound h = record { unsound = λ _. refl; sound = λ st s. absurd (h (record { state = st; is = s })); refused = λ _. refl }
+
+  pub asking-bad : Bytes bs → Sound bs → ((st : State) → Is st bs → valueLent (st .variables) i ratio ≡ false) → Asking i ratio BadValue bs bs
+  unfolding asked left
+  asking-bad b s h = record {
+    unsound = λ z. absurd (z s);
+    sound = λ st k. rw (h st k) (refl, holds bs st b k);
+    refused = λ _. refl;
+  }
+
+  pub asking-given : Bytes bs → Sound bs → ((st : State) → Is st bs → valueLent (st .variables) i ratio ≡ true) → (c : Comparer) (exit : List ℕ)
+      → ((st : State) → Is st bs → Gave st (valueOf i (words ratio)) c bs exit) → (r : Answer) → r ≡ told c → Asking i ratio r bs exit
+  unfolding asked left
+  asking-given b s h c exit g r e = record {
+    unsound = λ z. absurd (z s);
+    sound = λ st k. let w = g st k in rw (h st k) (e ∙ ap told (w .answers), w .bytes);
+    refused = λ z. let w = g (s .state) (s .is) in
+        w .bytes ∙ ap (λ (x : State). pasteW bs 0 (encode x)) (after-as (s .state) q c (sym (w .answers)) ∙ stored-same (s .state) q c (λ x y. z x (label-of c x e y))) ∙ sym (holds bs (s .state) b (s .is));
+  }
+    where
+      q : Value
+      q = valueOf i (words ratio)
+
+      label-of : (c : Comparer) (x : ℕ) → r ≡ told c → c ≡ New x → r ≡ Label x
+      label-of c x e y = e ∙ ap told y ∙ told-new x
+
+-- the same as C gets it
+pub replied : (i : ℕ) (ratio : List ℕ) (a : Answer) (entry exit : List ℕ) (r : ℕ) → Asking i ratio a entry exit → r ≡ number a → ((x : ℕ) → a ≡ Label x → r < 4294967296) → Replied i ratio r entry exit
+unfolding number
+replied i ratio a entry exit r s e f = record {
+  unsound = λ z. e ∙ ap number (s .unsound z);
+  sound = λ st k. let w = s .sound st k in (e ∙ ap number (w .0), w .1);
+  refused = λ h. s .refused (λ x y. omega (arith, f x y));
+}
+
+-- ---- rebuild
+pub rebuilt-unsound : (bs : List ℕ) → (Sound bs → ⊥) → Rebuilt 3 bs bs
+rebuilt-unsound bs h = record { unsound = λ _. (refl, refl); sound = λ st s. absurd (h (record { state = st; is = s })) }
+
+pub rebuilt-served : (bs b : List ℕ) → Sound bs → ((st : State) → Is st bs → b ≡ pasteW bs 0 (encode (rebuild st))) → Rebuilt 0 bs b
+rebuilt-served bs b s g = record { unsound = λ z. absurd (z s); sound = λ st k. (refl, g st k) }

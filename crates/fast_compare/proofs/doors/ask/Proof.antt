@@ -1,0 +1,91 @@
+use native.Mathlib.Omega.{arith}
+use mathlib.Core.Path.{_≡_, sym, ap, _∙_}
+use mathlib.Core.Bool.{Bool, true, false}
+use Prim.Native.Nat.{ℕ, _<_}
+use lib.ListN.{getD}
+use borrow.Author.Tests.{not-true, not-false}
+use Rattle.words.specs.Words.{words}
+use Rattle.monomial.specs.Monomial.{lent}
+use Rattle.fast_compare.proofs.Checks.{failed, passed}
+use Rattle.fast_compare.proofs.Reading.{Head, head, vars-of}
+use Rattle.fast_compare.proofs.Replies.{lent-good, large-index, bad-ratio, asking-unsound, asking-bad, asking-given}
+use borrow.Author.Needs.{needs}
+use Rattle.fast_compare.proofs.doors.ask.Statement.{statement}
+use Rattle.fast_compare.proofs.doors.ask.Tie as tie
+use Rattle.fast_compare.proofs.doors.ask.Reads as reads
+use Rattle.fast_compare.proofs.doors.ask.Lts as lts
+use Rattle.fast_compare.proofs.doors.told.Reads as told-reads
+use Rattle.fast_compare.proofs.get_comparer.Reads as get-comparer-reads
+use Rattle.fast_compare.proofs.soundness.sound.Reads as sound-reads
+use Rattle.monomial.proofs.is_canonical.Reads as is-canonical-reads
+use Rattle.words.proofs.get.Reads as get-reads
+
+-- src/doors.rt:32:9
+sound-requires : tie.Need-sound-requires
+sound-requires c κs = search needs
+
+-- src/doors.rt:33:9
+same-length : tie.Need-same-length
+same-length c = search needs
+
+-- src/doors.rt:33:9
+returns : tie.Need-returns
+returns c = asking-unsound (c .before .before .before .before .before .args .index) (c .before .before .before .before .before .args .ratio .now) (c .before .before .before .before .before .args .image .now) (failed _ (c .before .sound .ensures) (c .if1 .taken))
+
+-- src/doors.rt:36:9
+same-length-2 : tie.Need-same-length-2
+same-length-2 c = search needs
+
+-- src/doors.rt:36:9
+returns-2 : tie.Need-returns-2
+returns-2 c = asking-bad (c .before .before .before .before .before .before .args .index) (c .before .before .before .before .before .before .args .ratio .now) (c .before .before .before .before .before .before .args .image .now) (λ j. (c .before .before .before .before .before .slice-known .given) j .fits) (passed _ (c .before .before .sound .ensures) (c .before .if1 .left)) (λ st i. large-index _ (c .before .before .before .before .before .before .args .index) (c .before .before .before .before .before .before .args .ratio .now) (omega arith))
+
+-- src/doors.rt:38:9
+get-requires : tie.Need-get-requires
+get-requires c κs = omega (arith, head (c .before .before .before .before .before .before .before .args .image .now) (passed _ (c .before .before .before .sound .ensures) (c .before .before .if1 .left)) .room)
+
+-- src/doors.rt:39:9
+is-canonical-requires : tie.Need-is-canonical-requires
+is-canonical-requires c κs = search needs
+
+-- src/doors.rt:40:9
+same-length-3 : tie.Need-same-length-3
+same-length-3 c = search needs
+
+-- src/doors.rt:40:9
+returns-3 : tie.Need-returns-3
+returns-3 c = asking-bad (c .before .before .before .before .before .before .before .before .before .before .args .index) (c .before .before .before .before .before .before .before .before .before .before .args .ratio .now) (c .before .before .before .before .before .before .before .before .before .before .args .image .now) (λ j. (c .before .before .before .before .before .before .before .before .before .slice-known .given) j .fits) (passed _ (c .before .before .before .before .before .before .sound .ensures) (c .before .before .before .before .before .if1 .left)) (λ st i. bad-ratio (st .variables) (c .before .before .before .before .before .before .before .before .before .before .args .index) (c .before .before .before .before .before .before .before .before .before .before .args .ratio .now) (rw (← vars-of (c .before .before .before .before .before .before .before .before .before .before .args .image .now) st i, ← (c .before .before .get .ensures)) (sym (c .before .is-canonical .ensures) ∙ not-true _ (c .if3 .taken))))
+
+-- src/doors.rt:42:9
+get-comparer-requires : tie.Need-get-comparer-requires
+get-comparer-requires c κs = (passed _ (c .before .before .before .before .before .before .before .sound .ensures) (c .before .before .before .before .before .before .if1 .left), lent-good (getD (words (c .before .before .before .before .before .before .before .before .before .before .before .args .image .now)) 1 0) (c .before .before .before .before .before .before .before .before .before .before .before .args .index) (c .before .before .before .before .before .before .before .before .before .before .before .args .ratio .now) (omega arith) (rw (← (c .before .before .before .get .ensures)) (sym (c .before .before .is-canonical .ensures) ∙ not-false _ (c .before .if3 .left))) .1)
+
+-- src/doors.rt:43:5
+told-requires : tie.Need-told-requires
+told-requires c κs = search needs
+
+-- src/doors.rt:29:1
+same-length-4 : tie.Need-same-length-4
+same-length-4 c = search needs
+
+-- src/doors.rt:29:1
+returns-4 : tie.Need-returns-4
+returns-4 c = asking-given (c .before .before .before .before .before .before .before .before .before .before .before .before .before .before .before .args .index) (c .before .before .before .before .before .before .before .before .before .before .before .before .before .before .before .args .ratio .now) (c .before .before .before .before .before .before .before .before .before .before .before .before .before .before .before .args .image .now) (λ j. (c .before .before .before .before .before .before .before .before .before .before .before .before .before .before .slice-known .given) j .fits) (passed _ (c .before .before .before .before .before .before .before .before .before .before .before .sound .ensures) (c .before .before .before .before .before .before .before .before .before .before .if1 .left)) (λ st i. lent-good (st .variables) (c .before .before .before .before .before .before .before .before .before .before .before .before .before .before .before .args .index) (c .before .before .before .before .before .before .before .before .before .before .before .before .before .before .before .args .ratio .now) (omega arith) (rw (← vars-of (c .before .before .before .before .before .before .before .before .before .before .before .before .before .before .before .args .image .now) st i, ← (c .before .before .before .before .before .before .before .get .ensures)) (sym (c .before .before .before .before .before .before .is-canonical .ensures) ∙ not-false _ (c .before .before .before .before .before .if3 .left))) .0) (c .before .before .before .get-comparer .result) (c .before .before .before .get-comparer .last .0) (c .before .before .before .get-comparer .ensures) (c .told .result) (c .told .ensures)
+
+pub ask-spec : {M : Type 1} → statement M
+ask-spec =
+    tie.close
+    (tie.spec
+    sound-requires
+    same-length
+    returns
+    same-length-2
+    returns-2
+    get-requires
+    is-canonical-requires
+    same-length-3
+    returns-3
+    get-comparer-requires
+    told-requires
+    same-length-4
+    returns-4)

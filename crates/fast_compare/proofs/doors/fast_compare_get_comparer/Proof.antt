@@ -1,0 +1,28 @@
+use Rattle.fast_compare.proofs.Replies.{replied}
+use borrow.Author.Needs.{needs}
+use Rattle.fast_compare.proofs.doors.fast_compare_get_comparer.Statement.{statement}
+use Rattle.fast_compare.proofs.doors.fast_compare_get_comparer.Tie as tie
+use Rattle.fast_compare.proofs.doors.fast_compare_get_comparer.Reads as reads
+use Rattle.fast_compare.proofs.doors.fast_compare_get_comparer.Lts as lts
+use Rattle.fast_compare.proofs.doors.ask.Reads as ask-reads
+use Rattle.fast_compare.proofs.doors.number.Reads as number-reads
+
+-- src/doors.rt:93:9
+ask-requires : tie.Need-ask-requires
+ask-requires c κs = search needs
+
+-- src/doors.rt:94:5
+number-requires : tie.Need-number-requires
+number-requires c κs = search needs
+
+-- src/doors.rt:89:1
+same-length : tie.Need-same-length
+same-length c = search needs
+
+-- src/doors.rt:89:1
+returns : tie.Need-returns
+returns c = replied (c .before .before .before .before .before .before .before .args .index) (c .before .before .before .before .before .before .before .args .ratio .now) (c .before .before .before .ask .result) (c .before .before .before .before .before .before .before .args .image .now) (c .before .before .before .ask .last .0) (c .number .result) (c .before .before .before .ask .ensures) (c .number .ensures .0) (c .number .ensures .1)
+
+pub fast-compare-get-comparer-spec : {M : Type 1} → statement M
+fast-compare-get-comparer-spec =
+    tie.close (tie.spec ask-requires number-requires same-length returns)

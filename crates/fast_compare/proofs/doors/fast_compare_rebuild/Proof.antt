@@ -1,0 +1,38 @@
+use Rattle.fast_compare.proofs.Checks.{failed, passed}
+use Rattle.fast_compare.proofs.Replies.{rebuilt-unsound, rebuilt-served}
+use borrow.Author.Needs.{needs}
+use Rattle.fast_compare.proofs.doors.fast_compare_rebuild.Statement.{statement}
+use Rattle.fast_compare.proofs.doors.fast_compare_rebuild.Tie as tie
+use Rattle.fast_compare.proofs.doors.fast_compare_rebuild.Reads as reads
+use Rattle.fast_compare.proofs.doors.fast_compare_rebuild.Lts as lts
+use Rattle.fast_compare.proofs.rebuild.Reads as rebuild-reads
+use Rattle.fast_compare.proofs.soundness.sound.Reads as sound-reads
+
+-- src/doors.rt:102:9
+sound-requires : tie.Need-sound-requires
+sound-requires c κs = search needs
+
+-- src/doors.rt:103:9
+same-length : tie.Need-same-length
+same-length c = search needs
+
+-- src/doors.rt:103:9
+returns : tie.Need-returns
+returns c = rebuilt-unsound (c .before .before .before .before .args .image .now) (failed _ (c .before .sound .ensures) (c .if1 .taken))
+
+-- src/doors.rt:105:5
+rebuild-requires : tie.Need-rebuild-requires
+rebuild-requires c κs = passed _ (c .before .before .sound .ensures) (c .before .if1 .left)
+
+-- src/doors.rt:98:1
+same-length-2 : tie.Need-same-length-2
+same-length-2 c = search needs
+
+-- src/doors.rt:98:1
+returns-2 : tie.Need-returns-2
+returns-2 c = rebuilt-served (c .before .before .before .before .before .before .before .before .args .image .now) _ (passed _ (c .before .before .before .before .before .sound .ensures) (c .before .before .before .before .if1 .left)) (c .before .before .rebuild .ensures)
+
+pub fast-compare-rebuild-spec : {M : Type 1} → statement M
+fast-compare-rebuild-spec =
+    tie.close
+    (tie.spec sound-requires same-length returns rebuild-requires same-length-2 returns-2)

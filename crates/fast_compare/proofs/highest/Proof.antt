@@ -1,0 +1,45 @@
+use native.Mathlib.Omega.{arith}
+use mathlib.Core.Path.{_≡_, _∙_, ap, sym}
+use Prim.Native.Nat.{ℕ, _+_, _-_, _≤_, _<_}
+use lib.ListN.{length, getD}
+use Rattle.words.specs.Words.{words}
+use Rattle.fast_compare.specs.Map as Map
+use Rattle.fast_compare.proofs.Exact.{count-of}
+use Rattle.fast_compare.proofs.Giving.{highest-none, highest-at}
+use borrow.Author.Needs.{needs}
+use Rattle.fast_compare.proofs.highest.Statement.{statement}
+use Rattle.fast_compare.proofs.highest.Tie as tie
+use Rattle.fast_compare.proofs.highest.Reads as reads
+use Rattle.fast_compare.proofs.highest.Lts as lts
+use Rattle.fast_compare.proofs.count.Reads as count-reads
+use Rattle.fast_compare.proofs.label.Reads as label-reads
+use Rattle.fast_compare.proofs.row_at.Reads as row-at-reads
+
+-- src/lib.rt:147:13
+count-requires : tie.Need-count-requires
+count-requires c κs = c .before .pre .0
+
+-- src/lib.rt:148:9
+returns : tie.Need-returns
+returns c = (omega arith, λ st i q e k. highest-none st q (i .valid) k (sym ((c .before .count .ensures .1) st i) ∙ sym (c .if1 .taken) ∙ e))
+
+-- src/lib.rt:150:9
+row-at-requires : tie.Need-row-at-requires
+row-at-requires c κs = (c .before .before .before .pre .0, omega (arith, c .before .count .ensures .0))
+
+-- src/lib.rt:151:5
+label-requires : tie.Need-label-requires
+label-requires c κs = (c .before .before .before .before .pre .0, omega (arith, (c .row-at .ensures) (c .before .before .before .before .pre .0 .state) (c .before .before .before .before .pre .0 .is) .0, count-of (c .before .before .before .before .args .map .now) (c .before .before .before .before .pre .0 .state) (c .before .before .before .before .pre .0 .is)))
+
+-- src/lib.rt:151:5
+cast-result : tie.Need-cast-result
+cast-result c = search needs
+
+-- src/lib.rt:141:1
+returns-2 : tie.Need-returns-2
+returns-2 c = (omega (arith, c .label .ok), λ st i q e k. (c .label .ensures) st i ∙ ap (Map.label (st .rows)) ((c .before .row-at .ensures) st i .1) ∙ highest-at st q (i .valid) k (c .before .before .before .before .before .args .p) e (λ z. (c .before .before .if1 .left) (z ∙ sym ((c .before .before .before .count .ensures .1) st i))))
+
+pub highest-spec : {M : Type 1} → statement M
+highest-spec =
+    tie.close
+    (tie.spec count-requires returns row-at-requires label-requires cast-result returns-2)

@@ -1,0 +1,48 @@
+use native.Mathlib.Omega.{arith}
+use mathlib.Core.Path.{_≡_, _∙_, ap, sym}
+use Prim.Native.Nat.{ℕ, _+_, _-_, _≤_, _<_}
+use lib.ListN.{length, getD}
+use Rattle.words.specs.Words.{words}
+use Rattle.fast_compare.specs.Map as Map
+use Rattle.fast_compare.proofs.Exact.{count-of}
+use Rattle.fast_compare.proofs.Giving.{lowest-none, lowest-at}
+use borrow.Author.Needs.{needs}
+use Rattle.fast_compare.proofs.lowest.Statement.{statement}
+use Rattle.fast_compare.proofs.lowest.Tie as tie
+use Rattle.fast_compare.proofs.lowest.Reads as reads
+use Rattle.fast_compare.proofs.lowest.Lts as lts
+use Rattle.fast_compare.proofs.label.Reads as label-reads
+use Rattle.fast_compare.proofs.row_at.Reads as row-at-reads
+
+-- src/lib.rt:134:9
+returns : tie.Need-returns
+returns c = (omega arith, λ st i q e. lowest-none st q (i .valid) (sym (c .if1 .taken) ∙ e))
+
+-- src/lib.rt:136:27
+sub-row-at : tie.Need-sub-row-at
+sub-row-at c = search needs
+
+-- src/lib.rt:136:9
+row-at-requires : tie.Need-row-at-requires
+row-at-requires c κs = (c .before .before .pre .0, omega arith)
+
+-- src/lib.rt:137:5
+label-requires : tie.Need-label-requires
+label-requires c κs = (c .before .before .before .pre .0, omega (arith, (c .row-at .ensures) (c .before .before .before .pre .0 .state) (c .before .before .before .pre .0 .is) .0, count-of (c .before .before .before .args .map .now) (c .before .before .before .pre .0 .state) (c .before .before .before .pre .0 .is)))
+
+-- src/lib.rt:137:5
+cast-result : tie.Need-cast-result
+cast-result c = search needs
+
+-- src/lib.rt:137:5
+add-result : tie.Need-add-result
+add-result c = search needs
+
+-- src/lib.rt:127:1
+returns-2 : tie.Need-returns-2
+returns-2 c = (omega (arith, c .label .ok), λ st i q e. ap (λ (x : ℕ). x + 1) ((c .label .ensures) st i ∙ ap (Map.label (st .rows)) ((c .before .row-at .ensures) st i .1)) ∙ lowest-at st q (i .valid) (c .before .before .before .before .args .p) e (c .before .before .if1 .left))
+
+pub lowest-spec : {M : Type 1} → statement M
+lowest-spec =
+    tie.close
+    (tie.spec returns sub-row-at row-at-requires label-requires cast-result add-result returns-2)

@@ -1,0 +1,74 @@
+use Rattle.fast_compare.proofs.Opening.{opened}
+use Rattle.fast_compare.proofs.Checks.{rows-small}
+use borrow.Author.Needs.{needs}
+use Rattle.fast_compare.proofs.open.Statement.{statement}
+use Rattle.fast_compare.proofs.open.Tie as tie
+use Rattle.fast_compare.proofs.open.Reads as reads
+use Rattle.fast_compare.proofs.open.Lts as lts
+use Rattle.words.proofs.put.Reads as put-reads
+use Rattle.words.proofs.runs.clear.Reads as clear-reads
+
+-- src/lib.rt:241:5
+put-requires : tie.Need-put-requires
+put-requires c κs = search needs
+
+-- src/lib.rt:242:24
+cast-put : tie.Need-cast-put
+cast-put c = search needs
+
+-- src/lib.rt:242:5
+put-requires-2 : tie.Need-put-requires-2
+put-requires-2 c κs = search needs
+
+-- src/lib.rt:243:24
+cast-put-2 : tie.Need-cast-put-2
+cast-put-2 c = search needs
+
+-- src/lib.rt:243:5
+put-requires-3 : tie.Need-put-requires-3
+put-requires-3 c κs = search needs
+
+-- src/lib.rt:244:48
+add-clear : tie.Need-add-clear
+add-clear c = search needs
+
+-- src/lib.rt:244:36
+mul-clear : tie.Need-mul-clear
+mul-clear c = search needs
+
+-- src/lib.rt:244:32
+add-clear-2 : tie.Need-add-clear-2
+add-clear-2 c = search needs
+
+-- src/lib.rt:244:32
+add-clear-3 : tie.Need-add-clear-3
+add-clear-3 c = search needs
+
+-- src/lib.rt:244:5
+clear-requires : tie.Need-clear-requires
+clear-requires c κs = search needs
+
+-- src/lib.rt:236:1
+same-length : tie.Need-same-length
+same-length c = search needs
+
+-- src/lib.rt:236:1
+returns : tie.Need-returns
+returns c = opened (c .before .before .before .before .before .before .before .before .before .before .before .before .before .before .before .before .before .args .map .now) (c .before .before .before .before .before .before .before .before .before .before .before .before .before .before .put .last .0) (c .before .before .before .before .before .before .before .before .before .before .put2 .last .0) (c .before .before .before .before .before .before .put3 .last .0) (c .before .before .clear .last .0) (c .before .before .before .before .before .before .before .before .before .before .before .before .before .before .before .before .before .args .variables) (c .before .before .before .before .before .before .before .before .before .before .before .before .before .before .before .before .before .args .capacity) (c .before .before .before .before .before .before .before .before .before .before .before .before .before .before .before .before .before .pre .1) (c .before .before .before .before .before .before .before .before .before .before .before .before .before .before .put .ensures) (c .before .before .before .before .before .before .before .before .before .before .put2 .ensures) (c .before .before .before .before .before .before .put3 .ensures) (c .before .before .clear .ensures)
+
+pub open-spec : {M : Type 1} → statement M
+open-spec =
+    tie.close
+    (tie.spec
+    put-requires
+    cast-put
+    put-requires-2
+    cast-put-2
+    put-requires-3
+    add-clear
+    mul-clear
+    add-clear-2
+    add-clear-3
+    clear-requires
+    same-length
+    returns)

@@ -1,0 +1,172 @@
+use native.Mathlib.Omega.{arith}
+use borrow.Author.Needs.{needs}
+use mathlib.Core.Path.{_≡_, _∙_, sym}
+use Prim.Native.Nat.{ℕ, _+_, _-_, _*_, _≤_, _<_}
+use lib.ListN.{length, getD}
+use Rattle.words.specs.Words.{words}
+use Rattle.fast_compare.proofs.Rising.{spaced-top}
+use Rattle.fast_compare.proofs.Reading.{Head, HeadOf, head}
+use Rattle.fast_compare.proofs.Respacing.{Respacing, respace-start, respace-end, Spot, spot, respace-more}
+use Rattle.fast_compare.proofs.rebuild.Statement.{statement}
+use Rattle.fast_compare.proofs.rebuild.Tie as tie
+use Rattle.fast_compare.proofs.rebuild.Reads as reads
+use Rattle.fast_compare.proofs.rebuild.Lts as lts
+use Rattle.fast_compare.proofs.spaced.Reads as spaced-reads
+use Rattle.words.proofs.get.Reads as get-reads
+use Rattle.words.proofs.put.Reads as put-reads
+
+abbrev Inv-loop : tie.InvT-loop
+Inv-loop map₀ variables capacity n order k₀ map k = Respacing map₀ map k
+
+abbrev μ-loop : tie.MeasureT-loop
+μ-loop map₀ variables capacity n order k₀ map k = n - k
+
+-- helpers
+record Fit (len v k n : ℕ) : Type 0 where
+  vars : v ≤ 64
+  cap : k ≤ 4096
+  few : n ≤ k
+  rows : k * (v + 3) ≤ 274432
+  room : 16 + 4 * (k * (v + 3)) + 4 * k ≤ len
+
+fit : (len v k n a b c : ℕ) → v ≡ a → k ≡ b → n ≡ c → Head len a b c → Fit len v k n
+fit len v k n a b c ev ek en h = rw (ev, ek, en) (record { vars = h .vars; cap = h .cap; few = h .few; rows = h .rows; room = h .room })
+
+-- end of helpers
+
+-- src/lib.rt:222:21
+get-requires : tie.Need-get-requires Inv-loop μ-loop
+get-requires c κs = omega (arith, head (c .before .before .args .map .now) (c .before .before .pre) .room)
+
+-- src/lib.rt:222:21
+cast-variables : tie.Need-cast-variables Inv-loop μ-loop
+cast-variables c = search needs
+
+-- src/lib.rt:223:20
+get-requires-2 : tie.Need-get-requires-2 Inv-loop μ-loop
+get-requires-2 c κs = omega (arith, head (c .before .before .before .before .args .map .now) (c .before .before .before .before .pre) .room)
+
+-- src/lib.rt:223:20
+cast-capacity : tie.Need-cast-capacity Inv-loop μ-loop
+cast-capacity c = search needs
+
+-- src/lib.rt:224:13
+get-requires-3 : tie.Need-get-requires-3 Inv-loop μ-loop
+get-requires-3 c κs = omega (arith, head (c .before .before .before .before .before .before .args .map .now) (c .before .before .before .before .before .before .pre) .room)
+
+-- src/lib.rt:224:13
+cast-n : tie.Need-cast-n Inv-loop μ-loop
+cast-n c = search needs
+
+-- src/lib.rt:225:33
+add-order : tie.Need-add-order Inv-loop μ-loop
+add-order c = search needs
+
+-- src/lib.rt:225:21
+mul-order : tie.Need-mul-order Inv-loop μ-loop
+mul-order c = let f = fit _ (c .before .before .before .before .get .result) (c .before .before .get2 .result) (c .get3 .result) _ _ _ (c .before .before .before .before .get .ensures) (c .before .before .get2 .ensures) (c .get3 .ensures) (head (c .before .before .before .before .before .before .before .args .map .now) (c .before .before .before .before .before .before .before .pre)) in omega (arith, f .rows)
+
+-- src/lib.rt:225:17
+add-order-2 : tie.Need-add-order-2 Inv-loop μ-loop
+add-order-2 c = let f = fit _ (c .before .before .before .before .get .result) (c .before .before .get2 .result) (c .get3 .result) _ _ _ (c .before .before .before .before .get .ensures) (c .before .before .get2 .ensures) (c .get3 .ensures) (head (c .before .before .before .before .before .before .before .args .map .now) (c .before .before .before .before .before .before .before .pre)) in omega (arith, f .rows)
+
+-- src/lib.rt:227:5
+loop-holds : tie.Need-loop-holds Inv-loop μ-loop
+loop-holds c = respace-start (c .before .before .before .before .before .before .before .args .map .now) (λ j. (c .before .before .before .before .before .before .slice-known .given) j .fits)
+
+-- src/lib.rt:228:35
+add-get : tie.Need-add-get Inv-loop μ-loop
+add-get c = let f = fit _ (c .before .before .before .before .before .before .before .get .result) (c .before .before .before .before .before .get2 .result) (c .before .before .before .get3 .result) _ _ _ (c .before .before .before .before .before .before .before .get .ensures) (c .before .before .before .before .before .get2 .ensures) (c .before .before .before .get3 .ensures) (head (c .before .before .before .before .before .before .before .before .before .before .args .map .now) (c .before .before .before .before .before .before .before .before .before .before .pre)) in omega (arith, f .rows, f .few, f .cap)
+
+-- src/lib.rt:228:19
+get-requires-4 : tie.Need-get-requires-4 Inv-loop μ-loop
+get-requires-4 c κs = let f = fit _ (c .before .before .before .before .before .before .before .get .result) (c .before .before .before .before .before .get2 .result) (c .before .before .before .get3 .result) _ _ _ (c .before .before .before .before .before .before .before .get .ensures) (c .before .before .before .before .before .get2 .ensures) (c .before .before .before .get3 .ensures) (head (c .before .before .before .before .before .before .before .before .before .before .args .map .now) (c .before .before .before .before .before .before .before .before .before .before .pre)) in omega (arith, f .room, f .few, c .before .before .loop .inv .long)
+
+-- src/lib.rt:228:19
+cast-row : tie.Need-cast-row Inv-loop μ-loop
+cast-row c = search needs
+
+-- src/lib.rt:229:31
+add-spaced : tie.Need-add-spaced Inv-loop μ-loop
+add-spaced c = let f = fit _ (c .before .before .before .before .before .before .before .before .get .result) (c .before .before .before .before .before .before .get2 .result) (c .before .before .before .before .get3 .result) _ _ _ (c .before .before .before .before .before .before .before .before .get .ensures) (c .before .before .before .before .before .before .get2 .ensures) (c .before .before .before .before .get3 .ensures) (head (c .before .before .before .before .before .before .before .before .before .before .before .args .map .now) (c .before .before .before .before .before .before .before .before .before .before .before .pre)) in omega (arith, f .few, f .cap)
+
+-- src/lib.rt:229:13
+spaced-requires : tie.Need-spaced-requires Inv-loop μ-loop
+spaced-requires c κs = let f = fit _ (c .before .before .before .before .before .before .before .before .get .result) (c .before .before .before .before .before .before .get2 .result) (c .before .before .before .before .get3 .result) _ _ _ (c .before .before .before .before .before .before .before .before .get .ensures) (c .before .before .before .before .before .before .get2 .ensures) (c .before .before .before .before .get3 .ensures) (head (c .before .before .before .before .before .before .before .before .before .before .before .args .map .now) (c .before .before .before .before .before .before .before .before .before .before .before .pre)) in (omega arith, omega (arith, f .few, f .cap))
+
+-- src/lib.rt:230:36
+add-put : tie.Need-add-put Inv-loop μ-loop
+add-put c = search needs
+
+-- src/lib.rt:230:29
+mul-put : tie.Need-mul-put Inv-loop μ-loop
+mul-put c = let s = spot (c .before .before .before .before .before .before .before .before .before .before .before .before .before .args .map .now) (c .before .before .before .before .before .loop .map) (c .before .before .before .before .before .loop .k) (c .before .before .before .before .before .loop .inv) (c .before .before .before .before .before .before .before .before .before .before .before .before .before .pre) (omega (arith, c .before .before .before .before .before .before .get3 .ensures)) (c .before .before .before .before .before .before .before .before .before .before .get .result) (c .before .before .before .before .before .before .before .before .get2 .result) (c .before .before .before .before .before .before .get3 .result) (c .before .before .get4 .result) (c .before .before .before .before .before .before .before .before .before .before .get .ensures) (c .before .before .before .before .before .before .before .before .get2 .ensures) (c .before .before .before .before .before .before .get3 .ensures) (c .before .before .get4 .ensures) in omega (arith, s .below-c, s .rows)
+
+-- src/lib.rt:230:25
+add-put-2 : tie.Need-add-put-2 Inv-loop μ-loop
+add-put-2 c = let s = spot (c .before .before .before .before .before .before .before .before .before .before .before .before .before .args .map .now) (c .before .before .before .before .before .loop .map) (c .before .before .before .before .before .loop .k) (c .before .before .before .before .before .loop .inv) (c .before .before .before .before .before .before .before .before .before .before .before .before .before .pre) (omega (arith, c .before .before .before .before .before .before .get3 .ensures)) (c .before .before .before .before .before .before .before .before .before .before .get .result) (c .before .before .before .before .before .before .before .before .get2 .result) (c .before .before .before .before .before .before .get3 .result) (c .before .before .get4 .result) (c .before .before .before .before .before .before .before .before .before .before .get .ensures) (c .before .before .before .before .before .before .before .before .get2 .ensures) (c .before .before .before .before .before .before .get3 .ensures) (c .before .before .get4 .ensures) in omega (arith, s .below-c, s .rows, s .vars)
+
+-- src/lib.rt:230:54
+add-put-3 : tie.Need-add-put-3 Inv-loop μ-loop
+add-put-3 c = let s = spot (c .before .before .before .before .before .before .before .before .before .before .before .before .before .args .map .now) (c .before .before .before .before .before .loop .map) (c .before .before .before .before .before .loop .k) (c .before .before .before .before .before .loop .inv) (c .before .before .before .before .before .before .before .before .before .before .before .before .before .pre) (omega (arith, c .before .before .before .before .before .before .get3 .ensures)) (c .before .before .before .before .before .before .before .before .before .before .get .result) (c .before .before .before .before .before .before .before .before .get2 .result) (c .before .before .before .before .before .before .get3 .result) (c .before .before .get4 .result) (c .before .before .before .before .before .before .before .before .before .before .get .ensures) (c .before .before .before .before .before .before .before .before .get2 .ensures) (c .before .before .before .before .before .before .get3 .ensures) (c .before .before .get4 .ensures) in omega (arith, s .below-c, s .rows, s .vars)
+
+-- src/lib.rt:230:25
+add-put-4 : tie.Need-add-put-4 Inv-loop μ-loop
+add-put-4 c = let s = spot (c .before .before .before .before .before .before .before .before .before .before .before .before .before .args .map .now) (c .before .before .before .before .before .loop .map) (c .before .before .before .before .before .loop .k) (c .before .before .before .before .before .loop .inv) (c .before .before .before .before .before .before .before .before .before .before .before .before .before .pre) (omega (arith, c .before .before .before .before .before .before .get3 .ensures)) (c .before .before .before .before .before .before .before .before .before .before .get .result) (c .before .before .before .before .before .before .before .before .get2 .result) (c .before .before .before .before .before .before .get3 .result) (c .before .before .get4 .result) (c .before .before .before .before .before .before .before .before .before .before .get .ensures) (c .before .before .before .before .before .before .before .before .get2 .ensures) (c .before .before .before .before .before .before .get3 .ensures) (c .before .before .get4 .ensures) in omega (arith, s .below-c, s .rows, s .vars)
+
+-- src/lib.rt:230:9
+put-requires : tie.Need-put-requires Inv-loop μ-loop
+put-requires c κs = let s = spot (c .before .before .before .before .before .before .before .before .before .before .before .before .before .args .map .now) (c .before .before .before .before .before .loop .map) (c .before .before .before .before .before .loop .k) (c .before .before .before .before .before .loop .inv) (c .before .before .before .before .before .before .before .before .before .before .before .before .before .pre) (omega (arith, c .before .before .before .before .before .before .get3 .ensures)) (c .before .before .before .before .before .before .before .before .before .before .get .result) (c .before .before .before .before .before .before .before .before .get2 .result) (c .before .before .before .before .before .before .get3 .result) (c .before .before .get4 .result) (c .before .before .before .before .before .before .before .before .before .before .get .ensures) (c .before .before .before .before .before .before .before .before .get2 .ensures) (c .before .before .before .before .before .before .get3 .ensures) (c .before .before .get4 .ensures) in omega (arith, s .below-c, s .room, c .before .before .before .before .before .loop .inv .long)
+
+-- src/lib.rt:231:9
+add-k : tie.Need-add-k Inv-loop μ-loop
+add-k c = let f = fit _ (c .before .before .before .before .before .before .before .before .before .before .before .before .before .get .result) (c .before .before .before .before .before .before .before .before .before .before .before .get2 .result) (c .before .before .before .before .before .before .before .before .before .get3 .result) _ _ _ (c .before .before .before .before .before .before .before .before .before .before .before .before .before .get .ensures) (c .before .before .before .before .before .before .before .before .before .before .before .get2 .ensures) (c .before .before .before .before .before .before .before .before .before .get3 .ensures) (head (c .before .before .before .before .before .before .before .before .before .before .before .before .before .before .before .before .args .map .now) (c .before .before .before .before .before .before .before .before .before .before .before .before .before .before .before .before .pre)) in omega (arith, f .few, f .cap)
+
+-- src/lib.rt:227:5
+loop-less : tie.Need-loop-less Inv-loop μ-loop
+loop-less c = search needs
+
+-- src/lib.rt:227:5
+loop-again : tie.Need-loop-again Inv-loop μ-loop
+loop-again c = respace-more (c .before .before .before .before .before .before .before .before .before .before .before .before .before .before .before .before .args .map .now) (c .before .before .before .before .before .before .before .before .loop .map) (c .before .before .before .before .before .before .before .before .loop .k) (c .before .before .before .before .before .before .before .before .loop .inv) (c .before .before .before .before .before .before .before .before .before .before .before .before .before .before .before .before .pre) (omega (arith, c .before .before .before .before .before .before .before .before .before .get3 .ensures)) (c .before .before .before .before .before .before .before .before .before .before .before .before .before .get .result) (c .before .before .before .before .before .before .before .before .before .before .before .get2 .result) (c .before .before .before .before .before .before .before .before .before .get3 .result) (c .before .before .before .before .before .get4 .result) (c .before .before .before .before .before .before .before .before .before .before .before .before .before .get .ensures) (c .before .before .before .before .before .before .before .before .before .before .before .get2 .ensures) (c .before .before .before .before .before .before .before .before .before .get3 .ensures) (c .before .before .before .before .before .get4 .ensures) (c .before .before .put .last .0) (c .before .before .before .before .spaced .result) (c .before .before .before .before .spaced .ensures) (omega (arith, c .before .before .before .before .spaced .ensures, spaced-top (c .before .before .before .before .before .before .before .before .before .get3 .result) ((c .before .before .before .before .before .before .before .before .loop .k) + 1) (omega arith))) (c .before .before .put .ensures)
+
+-- src/lib.rt:218:1
+same-length : tie.Need-same-length Inv-loop μ-loop
+same-length c = c .before .loop .inv .long
+
+-- src/lib.rt:218:1
+returns : tie.Need-returns Inv-loop μ-loop
+returns c = λ st i. respace-end (c .before .before .before .before .before .before .before .before .before .args .map .now) (c .before .loop .map) (c .before .loop .k) (c .before .loop .inv) (omega (arith, c .before .before .get3 .ensures)) st i
+
+pub rebuild-spec : {M : Type 1} → statement M
+rebuild-spec =
+    tie.close
+    (tie.spec
+    Inv-loop
+    μ-loop
+    get-requires
+    cast-variables
+    get-requires-2
+    cast-capacity
+    get-requires-3
+    cast-n
+    add-order
+    mul-order
+    add-order-2
+    loop-holds
+    add-get
+    get-requires-4
+    cast-row
+    add-spaced
+    spaced-requires
+    add-put
+    mul-put
+    add-put-2
+    add-put-3
+    add-put-4
+    put-requires
+    add-k
+    loop-less
+    loop-again
+    same-length
+    returns)

@@ -1,0 +1,203 @@
+use native.Mathlib.Omega.{arith}
+use mathlib.Core.Path.{_≡_, _∙_, ap, sym}
+use Prim.Native.Nat.{ℕ, _+_, _-_, _*_, _≤_, _<_}
+use lib.ListN.{length, getD}
+use Rattle.words.specs.Words.{words}
+use Rattle.words.proofs.Laws.{length-words}
+use Rattle.words.proofs.Tables.{row-fits}
+use Rattle.fast_compare.specs.Map.{valueOf}
+use Rattle.fast_compare.proofs.Images.{ratio-length}
+use Rattle.fast_compare.proofs.Exact.{count-of}
+use Rattle.fast_compare.proofs.Reading.{Head, HeadOf, head, vars-of, cap-of}
+use Rattle.fast_compare.proofs.Storing.{stored-call}
+use borrow.Author.Needs.{needs}
+use Rattle.fast_compare.proofs.store.Statement.{statement}
+use Rattle.fast_compare.proofs.store.Tie as tie
+use Rattle.fast_compare.proofs.store.Reads as reads
+use Rattle.fast_compare.proofs.store.Lts as lts
+use Rattle.words.proofs.get.Reads as get-reads
+use Rattle.words.proofs.index_word.Reads as index-word-reads
+use Rattle.words.proofs.put.Reads as put-reads
+use Rattle.words.proofs.runs.insert.Reads as insert-reads
+use Rattle.words.proofs.runs.paste.Reads as paste-reads
+
+-- helpers
+-- the numbers of the header, and that the row, its ratio and the order fit
+record Fit (s : tie.Start) (v k t : ℕ) : Type 0 where
+  vars : v ≤ 64
+  cap : k ≤ 4096
+  less : t < k
+  place : s .args .p ≤ t
+  rows : k * (v + 3) ≤ 274432
+  used : t * (v + 3) + (v + 3) ≤ k * (v + 3)
+  room : 16 + 4 * (k * (v + 3)) + 4 * k ≤ length (s .args .map .now)
+  ratio : length (s .args .ratio .now) ≤ 4 * (v + 1) + 3
+
+fit : (s : tie.Start) (v k t : ℕ) → v ≡ getD (words (s .args .map .now)) 1 0 → k ≡ getD (words (s .args .map .now)) 2 0 → t ≡ getD (words (s .args .map .now)) 3 0 → Fit s v k t
+fit s v k t ev ek et =
+    let h : HeadOf (s .args .map .now) = head (s .args .map .now) (s .pre .0) in
+    let l = ratio-length (getD (words (s .args .map .now)) 1 0) (words (s .args .ratio .now)) (omega (arith, h .vars)) (s .pre .1 .0 .canonical) in
+    let u = row-fits (getD (words (s .args .map .now)) 3 0) (getD (words (s .args .map .now)) 2 0) (getD (words (s .args .map .now)) 1 0 + 3) (s .pre .1 .1 .1) in
+    rw (ev, ek, et) (record {
+      vars = h .vars;
+      cap = h .cap;
+      less = s .pre .1 .1 .1;
+      place = s .pre .1 .1 .0;
+      rows = h .rows;
+      used = u;
+      room = h .room;
+      ratio = omega (arith, length-words (s .args .ratio .now));
+    })
+
+-- end of helpers
+
+-- src/lib.rt:161:21
+get-requires : tie.Need-get-requires
+get-requires c κs = search needs
+
+-- src/lib.rt:161:21
+cast-variables : tie.Need-cast-variables
+cast-variables c = search needs
+
+-- src/lib.rt:162:20
+get-requires-2 : tie.Need-get-requires-2
+get-requires-2 c κs = search needs
+
+-- src/lib.rt:162:20
+cast-capacity : tie.Need-cast-capacity
+cast-capacity c = search needs
+
+-- src/lib.rt:163:13
+get-requires-3 : tie.Need-get-requires-3
+get-requires-3 c κs = search needs
+
+-- src/lib.rt:163:13
+cast-n : tie.Need-cast-n
+cast-n c = search needs
+
+-- src/lib.rt:164:33
+add-order : tie.Need-add-order
+add-order c = search needs
+
+-- src/lib.rt:164:21
+mul-order : tie.Need-mul-order
+mul-order c = let f = fit (c .before .before .before .before .before .before .before .before) (c .before .before .before .before .get .result) (c .before .before .get2 .result) (c .get3 .result) (c .before .before .before .before .get .ensures) (c .before .before .get2 .ensures) (c .get3 .ensures) in omega (arith, f .vars, f .cap, f .less, f .rows, f .used)
+
+-- src/lib.rt:164:17
+add-order-2 : tie.Need-add-order-2
+add-order-2 c = let f = fit (c .before .before .before .before .before .before .before .before) (c .before .before .before .before .get .result) (c .before .before .get2 .result) (c .get3 .result) (c .before .before .before .before .get .ensures) (c .before .before .get2 .ensures) (c .get3 .ensures) in omega (arith, f .vars, f .cap, f .less, f .place, f .rows, f .used)
+
+-- src/lib.rt:165:23
+add-at : tie.Need-add-at
+add-at c = search needs
+
+-- src/lib.rt:165:18
+mul-at : tie.Need-mul-at
+mul-at c = let f = fit (c .before .before .before .before .before .before .before .before) (c .before .before .before .before .get .result) (c .before .before .get2 .result) (c .get3 .result) (c .before .before .before .before .get .ensures) (c .before .before .get2 .ensures) (c .get3 .ensures) in omega (arith, f .vars, f .cap, f .less, f .rows, f .used)
+
+-- src/lib.rt:165:14
+add-at-2 : tie.Need-add-at-2
+add-at-2 c = let f = fit (c .before .before .before .before .before .before .before .before) (c .before .before .before .before .get .result) (c .before .before .get2 .result) (c .get3 .result) (c .before .before .before .before .get .ensures) (c .before .before .get2 .ensures) (c .get3 .ensures) in omega (arith, f .vars, f .cap, f .less, f .place, f .rows, f .used)
+
+-- src/lib.rt:166:30
+add-insert : tie.Need-add-insert
+add-insert c = let f = fit (c .before .before .before .before .before .before .before .before .before) (c .before .before .before .before .before .get .result) (c .before .before .before .get2 .result) (c .before .get3 .result) (c .before .before .before .before .before .get .ensures) (c .before .before .before .get2 .ensures) (c .before .get3 .ensures) in omega (arith, f .vars, f .cap, f .less, f .place, f .rows, f .used)
+
+-- src/lib.rt:166:41
+add-insert-2 : tie.Need-add-insert-2
+add-insert-2 c = let f = fit (c .before .before .before .before .before .before .before .before .before) (c .before .before .before .before .before .get .result) (c .before .before .before .get2 .result) (c .before .get3 .result) (c .before .before .before .before .before .get .ensures) (c .before .before .before .get2 .ensures) (c .before .get3 .ensures) in omega (arith, f .vars, f .cap, f .less, f .place, f .rows, f .used)
+
+-- src/lib.rt:166:52
+cast-insert : tie.Need-cast-insert
+cast-insert c = search needs
+
+-- src/lib.rt:166:5
+insert-requires : tie.Need-insert-requires
+insert-requires c κs = let f = fit (c .before .before .before .before .before .before .before .before .before) (c .before .before .before .before .before .get .result) (c .before .before .before .get2 .result) (c .before .get3 .result) (c .before .before .before .before .before .get .ensures) (c .before .before .before .get2 .ensures) (c .before .get3 .ensures) in (omega (arith, f .place), omega (arith, f .less, f .room))
+
+-- src/lib.rt:167:25
+index-word-requires : tie.Need-index-word-requires
+index-word-requires c κs = search needs
+
+-- src/lib.rt:167:5
+put-requires : tie.Need-put-requires
+put-requires c κs = let f = fit (c .before .before .before .before .before .before .before .before .before .before .before .before .before .before) (c .before .before .before .before .before .before .before .before .before .before .get .result) (c .before .before .before .before .before .before .before .before .get2 .result) (c .before .before .before .before .before .before .get3 .result) (c .before .before .before .before .before .before .before .before .before .before .get .ensures) (c .before .before .before .before .before .before .before .before .get2 .ensures) (c .before .before .before .before .before .before .get3 .ensures) in omega (arith, f .used, f .room, c .before .before .before .before .insert .kept .0)
+
+-- src/lib.rt:168:29
+add-paste : tie.Need-add-paste
+add-paste c = let f = fit (c .before .before .before .before .before .before .before .before .before .before .before .before .before .before .before .before .before .before) (c .before .before .before .before .before .before .before .before .before .before .before .before .before .before .get .result) (c .before .before .before .before .before .before .before .before .before .before .before .before .get2 .result) (c .before .before .before .before .before .before .before .before .before .before .get3 .result) (c .before .before .before .before .before .before .before .before .before .before .before .before .before .before .get .ensures) (c .before .before .before .before .before .before .before .before .before .before .before .before .get2 .ensures) (c .before .before .before .before .before .before .before .before .before .before .get3 .ensures) in omega (arith, f .vars, f .cap, f .less, f .place, f .rows, f .used)
+
+-- src/lib.rt:168:5
+paste-requires : tie.Need-paste-requires
+paste-requires c κs = let f = fit (c .before .before .before .before .before .before .before .before .before .before .before .before .before .before .before .before .before .before) (c .before .before .before .before .before .before .before .before .before .before .before .before .before .before .get .result) (c .before .before .before .before .before .before .before .before .before .before .before .before .get2 .result) (c .before .before .before .before .before .before .before .before .before .before .get3 .result) (c .before .before .before .before .before .before .before .before .before .before .before .before .before .before .get .ensures) (c .before .before .before .before .before .before .before .before .before .before .before .before .get2 .ensures) (c .before .before .before .before .before .before .before .before .before .before .get3 .ensures) in omega (arith, f .used, f .room, f .ratio, c .before .before .before .before .before .before .before .before .insert .kept .0, c .before .before .before .put .kept .0)
+
+-- src/lib.rt:169:27
+add-put : tie.Need-add-put
+add-put c = let f = fit (c .before .before .before .before .before .before .before .before .before .before .before .before .before .before .before .before .before .before .before .before .before .before) (c .before .before .before .before .before .before .before .before .before .before .before .before .before .before .before .before .before .before .get .result) (c .before .before .before .before .before .before .before .before .before .before .before .before .before .before .before .before .get2 .result) (c .before .before .before .before .before .before .before .before .before .before .before .before .before .before .get3 .result) (c .before .before .before .before .before .before .before .before .before .before .before .before .before .before .before .before .before .before .get .ensures) (c .before .before .before .before .before .before .before .before .before .before .before .before .before .before .before .before .get2 .ensures) (c .before .before .before .before .before .before .before .before .before .before .before .before .before .before .get3 .ensures) in omega (arith, f .vars, f .cap, f .less, f .place, f .rows, f .used)
+
+-- src/lib.rt:169:21
+add-put-2 : tie.Need-add-put-2
+add-put-2 c = let f = fit (c .before .before .before .before .before .before .before .before .before .before .before .before .before .before .before .before .before .before .before .before .before .before) (c .before .before .before .before .before .before .before .before .before .before .before .before .before .before .before .before .before .before .get .result) (c .before .before .before .before .before .before .before .before .before .before .before .before .before .before .before .before .get2 .result) (c .before .before .before .before .before .before .before .before .before .before .before .before .before .before .get3 .result) (c .before .before .before .before .before .before .before .before .before .before .before .before .before .before .before .before .before .before .get .ensures) (c .before .before .before .before .before .before .before .before .before .before .before .before .before .before .before .before .get2 .ensures) (c .before .before .before .before .before .before .before .before .before .before .before .before .before .before .get3 .ensures) in omega (arith, f .vars, f .cap, f .less, f .place, f .rows, f .used)
+
+-- src/lib.rt:169:5
+put-requires-2 : tie.Need-put-requires-2
+put-requires-2 c κs = let f = fit (c .before .before .before .before .before .before .before .before .before .before .before .before .before .before .before .before .before .before .before .before .before .before) (c .before .before .before .before .before .before .before .before .before .before .before .before .before .before .before .before .before .before .get .result) (c .before .before .before .before .before .before .before .before .before .before .before .before .before .before .before .before .get2 .result) (c .before .before .before .before .before .before .before .before .before .before .before .before .before .before .get3 .result) (c .before .before .before .before .before .before .before .before .before .before .before .before .before .before .before .before .before .before .get .ensures) (c .before .before .before .before .before .before .before .before .before .before .before .before .before .before .before .before .get2 .ensures) (c .before .before .before .before .before .before .before .before .before .before .before .before .before .before .get3 .ensures) in omega (arith, f .used, f .room, c .before .before .before .before .before .before .before .before .before .before .before .before .insert .kept .0, c .before .before .before .before .before .before .before .put .kept .0, c .before .before .before .paste .kept .0)
+
+-- src/lib.rt:170:24
+cast-put : tie.Need-cast-put
+cast-put c = search needs
+
+-- src/lib.rt:170:24
+add-put-3 : tie.Need-add-put-3
+add-put-3 c = let f = fit (c .before .before .before .before .before .before .before .before .before .before .before .before .before .before .before .before .before .before .before .before .before .before .before .before .before .before) (c .before .before .before .before .before .before .before .before .before .before .before .before .before .before .before .before .before .before .before .before .before .before .get .result) (c .before .before .before .before .before .before .before .before .before .before .before .before .before .before .before .before .before .before .before .before .get2 .result) (c .before .before .before .before .before .before .before .before .before .before .before .before .before .before .before .before .before .before .get3 .result) (c .before .before .before .before .before .before .before .before .before .before .before .before .before .before .before .before .before .before .before .before .before .before .get .ensures) (c .before .before .before .before .before .before .before .before .before .before .before .before .before .before .before .before .before .before .before .before .get2 .ensures) (c .before .before .before .before .before .before .before .before .before .before .before .before .before .before .before .before .before .before .get3 .ensures) in omega (arith, f .vars, f .cap, f .less, f .place, f .rows, f .used)
+
+-- src/lib.rt:170:5
+put-requires-3 : tie.Need-put-requires-3
+put-requires-3 c κs = let f = fit (c .before .before .before .before .before .before .before .before .before .before .before .before .before .before .before .before .before .before .before .before .before .before .before .before .before .before) (c .before .before .before .before .before .before .before .before .before .before .before .before .before .before .before .before .before .before .before .before .before .before .get .result) (c .before .before .before .before .before .before .before .before .before .before .before .before .before .before .before .before .before .before .before .before .get2 .result) (c .before .before .before .before .before .before .before .before .before .before .before .before .before .before .before .before .before .before .get3 .result) (c .before .before .before .before .before .before .before .before .before .before .before .before .before .before .before .before .before .before .before .before .before .before .get .ensures) (c .before .before .before .before .before .before .before .before .before .before .before .before .before .before .before .before .before .before .before .before .get2 .ensures) (c .before .before .before .before .before .before .before .before .before .before .before .before .before .before .before .before .before .before .get3 .ensures) in omega (arith, f .used, f .room, c .before .before .before .before .before .before .before .before .before .before .before .before .before .before .before .before .insert .kept .0, c .before .before .before .before .before .before .before .before .before .before .before .put .kept .0, c .before .before .before .before .before .before .before .paste .kept .0, c .before .before .before .put2 .kept .0)
+
+-- src/lib.rt:155:1
+same-length : tie.Need-same-length
+same-length c = search needs
+
+-- src/lib.rt:155:1
+returns : tie.Need-returns
+returns c = λ st i e. let bs = (c .before .before .before .before .before .before .before .before .before .before .before .before .before .before .before .before .before .before .before .before .before .before .before .before .before .before .before .before .before .args .map .now) in
+    let q = valueOf (c .before .before .before .before .before .before .before .before .before .before .before .before .before .before .before .before .before .before .before .before .before .before .before .before .before .before .before .before .before .args .index) (words (c .before .before .before .before .before .before .before .before .before .before .before .before .before .before .before .before .before .before .before .before .before .before .before .before .before .before .before .before .before .args .ratio .now)) in
+    let ev = c .before .before .before .before .before .before .before .before .before .before .before .before .before .before .before .before .before .before .before .before .before .before .before .before .before .get .ensures ∙ vars-of bs st i in
+    let ek = c .before .before .before .before .before .before .before .before .before .before .before .before .before .before .before .before .before .before .before .before .before .before .before .get2 .ensures ∙ cap-of bs st i in
+    let et = c .before .before .before .before .before .before .before .before .before .before .before .before .before .before .before .before .before .before .before .before .before .get3 .ensures ∙ count-of bs st i in
+    stored-call bs st (λ j. (c .before .before .before .before .before .before .before .before .before .before .before .before .before .before .before .before .before .before .before .before .before .before .before .before .before .before .before .before .slice-known .given) j .fits) i (omega (arith, c .before .before .before .before .before .before .before .before .before .before .before .before .before .before .before .before .before .before .before .before .before .before .before .before .before .before .before .before .before .pre .1 .1 .1, vars-of bs st i, cap-of bs st i, count-of bs st i)) q (c .before .before .before .before .before .before .before .before .before .before .before .before .before .before .before .before .before .before .before .before .before .before .before .before .before .before .before .before .before .args .label) (c .before .before .before .before .before .before .before .before .before .before .before .before .before .before .before .before .before .before .before .before .before .before .before .before .before .before .before .before .before .args .p) (rw (vars-of bs st i) at (c .before .before .before .before .before .before .before .before .before .before .before .before .before .before .before .before .before .before .before .before .before .before .before .before .before .before .before .before .before .pre .1 .0)) e
+    (c .before .before .before .before .before .before .before .before .before .before .before .before .before .before .before .before .before .before .before .before .before .before .before .before .before .get .result) (c .before .before .before .before .before .before .before .before .before .before .before .before .before .before .before .before .before .before .before .before .before .before .before .get2 .result) (c .before .before .before .before .before .before .before .before .before .before .before .before .before .before .before .before .before .before .before .before .before .get3 .result) (c .before .before .before .before .before .before .before .before .before .before .before .before .before .before .before .index-word .result) (c .before .before .before .before .before .before .before .before .before .before .before .before .before .before .before .before .before .before .before .insert .last .0) (c .before .before .before .before .before .before .before .before .before .before .before .before .before .before .put .last .0) (c .before .before .before .before .before .before .before .before .before .before .paste .last .0) (c .before .before .before .before .before .before .put2 .last .0) (c .before .before .put3 .last .0) ev ek et (c .before .before .before .before .before .before .before .before .before .before .before .before .before .before .before .index-word .ensures) (c .before .before .before .before .before .before .before .before .before .before .before .before .before .before .before .before .before .before .before .insert .ensures) (c .before .before .before .before .before .before .before .before .before .before .before .before .before .before .put .ensures) (c .before .before .before .before .before .before .before .before .before .before .paste .ensures) (c .before .before .before .before .before .before .put2 .ensures) (c .before .before .put3 .ensures)
+
+pub store-spec : {M : Type 1} → statement M
+store-spec =
+    tie.close
+    (tie.spec
+    get-requires
+    cast-variables
+    get-requires-2
+    cast-capacity
+    get-requires-3
+    cast-n
+    add-order
+    mul-order
+    add-order-2
+    add-at
+    mul-at
+    add-at-2
+    add-insert
+    add-insert-2
+    cast-insert
+    insert-requires
+    index-word-requires
+    put-requires
+    add-paste
+    paste-requires
+    add-put
+    add-put-2
+    put-requires-2
+    cast-put
+    add-put-3
+    put-requires-3
+    same-length
+    returns)
