@@ -1,4 +1,6 @@
 // 32-bit words, low byte first, in byte slices: read and written at any place, taken apart and built.
+pub mod runs;
+
 ghost use mathlib.Core.Path.{_≡_};
 ghost use Prim.Native.Nat.{_+_, _*_, _<_, _≤_};
 ghost use lib.ListN.{length, getD};

@@ -1,0 +1,82 @@
+use native.Mathlib.Omega.{arith}
+use mathlib.Core.Path.{_≡_, sym, ap, _∙_}
+use Prim.Native.Nat.{ℕ, _+_, _-_, _*_, _/_, _≤_, _<_}
+use lib.ListN.{length}
+use Rattle.words.specs.Words.{words}
+use Rattle.words.proofs.Laws.{length-words}
+use Rattle.fast_compare.specs.Layout.{ratioWords}
+use Rattle.fast_compare.proofs.Images.{ratio-within}
+use Rattle.fast_compare.proofs.Checks.{refuse}
+use borrow.Author.Needs.{needs}
+use Rattle.fast_compare.proofs.soundness.row_ok.Statement.{statement}
+use Rattle.fast_compare.proofs.soundness.row_ok.Tie as tie
+use Rattle.fast_compare.proofs.soundness.row_ok.Reads as reads
+use Rattle.fast_compare.proofs.soundness.row_ok.Lts as lts
+use Rattle.monomial.proofs.canonical_words.Reads as canonical-words-reads
+use Rattle.words.proofs.get.Reads as get-reads
+use Rattle.words.proofs.runs.is_blank.Reads as is-blank-reads
+
+-- src/soundness.rt:17:9
+get-requires : tie.Need-get-requires
+get-requires c κs = search needs
+
+-- src/soundness.rt:19:9
+returns : tie.Need-returns
+returns c = refuse (λ h. (c .if1 .taken) (ap (λ (x : ℕ). x / 268435456) (c .before .get .ensures) ∙ h .kinded))
+
+-- src/soundness.rt:21:44
+add-canonical-words : tie.Need-add-canonical-words
+add-canonical-words c = search needs
+
+-- src/soundness.rt:21:55
+cast-canonical-words : tie.Need-cast-canonical-words
+cast-canonical-words c = search needs
+
+-- src/soundness.rt:21:9
+canonical-words-requires : tie.Need-canonical-words-requires
+canonical-words-requires c κs = search needs
+
+-- src/soundness.rt:23:9
+returns-2 : tie.Need-returns-2
+returns-2 c = refuse (λ h. h .some (sym (c .before .canonical-words .ensures) ∙ c .if2 .taken))
+
+-- src/soundness.rt:25:32
+add-is-blank : tie.Need-add-is-blank
+add-is-blank c = omega (arith, ratio-within (words (c .before .before .before .before .before .args .map .now)) (c .before .before .before .before .before .args .variables) ((c .before .before .before .before .before .args .at) + 1) (omega arith) (λ z. (c .if2 .left) (c .before .canonical-words .ensures ∙ z)) .0, c .before .canonical-words .ensures)
+
+-- src/soundness.rt:25:32
+add-is-blank-2 : tie.Need-add-is-blank-2
+add-is-blank-2 c = omega (arith, ratio-within (words (c .before .before .before .before .before .args .map .now)) (c .before .before .before .before .before .args .variables) ((c .before .before .before .before .before .args .at) + 1) (omega arith) (λ z. (c .if2 .left) (c .before .canonical-words .ensures ∙ z)) .0, c .before .canonical-words .ensures)
+
+-- src/soundness.rt:25:44
+add-is-blank-3 : tie.Need-add-is-blank-3
+add-is-blank-3 c = omega (arith, ratio-within (words (c .before .before .before .before .before .args .map .now)) (c .before .before .before .before .before .args .variables) ((c .before .before .before .before .before .args .at) + 1) (omega arith) (λ z. (c .if2 .left) (c .before .canonical-words .ensures ∙ z)) .0, c .before .canonical-words .ensures)
+
+-- src/soundness.rt:25:44
+sub-is-blank : tie.Need-sub-is-blank
+sub-is-blank c = omega (arith, ratio-within (words (c .before .before .before .before .before .args .map .now)) (c .before .before .before .before .before .args .variables) ((c .before .before .before .before .before .args .at) + 1) (omega arith) (λ z. (c .if2 .left) (c .before .canonical-words .ensures ∙ z)) .0, c .before .canonical-words .ensures)
+
+-- src/soundness.rt:25:5
+is-blank-requires : tie.Need-is-blank-requires
+is-blank-requires c κs = omega (arith, ratio-within (words (c .before .before .before .before .before .args .map .now)) (c .before .before .before .before .before .args .variables) ((c .before .before .before .before .before .args .at) + 1) (omega arith) (λ z. (c .if2 .left) (c .before .canonical-words .ensures ∙ z)) .0, c .before .canonical-words .ensures)
+
+-- src/soundness.rt:12:1
+returns-3 : tie.Need-returns-3
+returns-3 c = (λ z. record { kinded = ap (λ (x : ℕ). x / 268435456) (sym (c .before .before .before .before .get .ensures)) ∙ c .before .before .before .if1 .left; some = λ y. (c .before .if2 .left) (c .before .before .canonical-words .ensures ∙ y); rest = rw (c .before .before .canonical-words .ensures) at ((c .is-blank .ensures .0) z) }, λ h. (c .is-blank .ensures .1) (rw (c .before .before .canonical-words .ensures) (h .rest)))
+
+pub row-ok-spec : {M : Type 1} → statement M
+row-ok-spec =
+    tie.close
+    (tie.spec
+    get-requires
+    returns
+    add-canonical-words
+    cast-canonical-words
+    canonical-words-requires
+    returns-2
+    add-is-blank
+    add-is-blank-2
+    add-is-blank-3
+    sub-is-blank
+    is-blank-requires
+    returns-3)

@@ -1,0 +1,44 @@
+use native.Mathlib.Omega.{arith}
+use mathlib.Core.Path.{_≡_, sym, ap, _∙_}
+use lib.ListN.{getD}
+use Rattle.words.specs.Words.{words}
+use Rattle.words.proofs.Laws.{words-small}
+use Rattle.fast_compare.proofs.Checks.{refuse, accept, failed, passed}
+use Rattle.fast_compare.proofs.Exact.{sound-for-iff}
+use borrow.Author.Needs.{needs}
+use Rattle.fast_compare.proofs.soundness.sound_for.Statement.{statement}
+use Rattle.fast_compare.proofs.soundness.sound_for.Tie as tie
+use Rattle.fast_compare.proofs.soundness.sound_for.Reads as reads
+use Rattle.fast_compare.proofs.soundness.sound_for.Lts as lts
+use Rattle.fast_compare.proofs.soundness.head_ok.Reads as head-ok-reads
+use Rattle.fast_compare.proofs.soundness.tables_ok.Reads as tables-ok-reads
+use Rattle.words.proofs.get.Reads as get-reads
+
+-- src/soundness.rt:128:9
+head-ok-requires : tie.Need-head-ok-requires
+head-ok-requires c κs = search needs
+
+-- src/soundness.rt:129:9
+returns : tie.Need-returns
+returns c = refuse (λ s. failed _ (c .before .head-ok .ensures) (c .if1 .taken) (sound-for-iff (c .before .before .before .args .map .now) (c .before .before .before .args .variables) (c .before .before .before .args .capacity) (words-small (c .before .before .before .args .map .now) (λ j. (c .before .before .shared-slice-known .given) j .fits)) .1 s .0))
+
+-- src/soundness.rt:131:13
+get-requires : tie.Need-get-requires
+get-requires c κs = let h = passed _ (c .before .head-ok .ensures) (c .if1 .left) in omega (arith, h .room)
+
+-- src/soundness.rt:131:13
+cast-n : tie.Need-cast-n
+cast-n c = search needs
+
+-- src/soundness.rt:132:5
+tables-ok-requires : tie.Need-tables-ok-requires
+tables-ok-requires c κs = let h = passed _ (c .before .before .head-ok .ensures) (c .before .if1 .left) in ((h .vars-to, (h .cap-to, omega (arith, h .few, c .get .ensures))), h .room)
+
+-- src/soundness.rt:125:1
+returns-2 : tie.Need-returns-2
+returns-2 c = let t = rw (c .before .get .ensures) at (c .tables-ok .ensures) in
+    (λ z. sound-for-iff (c .before .before .before .before .before .args .map .now) (c .before .before .before .before .before .args .variables) (c .before .before .before .before .before .args .capacity) (words-small (c .before .before .before .before .before .args .map .now) (λ j. (c .before .before .before .before .shared-slice-known .given) j .fits)) .0 (passed _ (c .before .before .before .head-ok .ensures) (c .before .before .if1 .left), t .0 z), λ s. t .1 (sound-for-iff (c .before .before .before .before .before .args .map .now) (c .before .before .before .before .before .args .variables) (c .before .before .before .before .before .args .capacity) (words-small (c .before .before .before .before .before .args .map .now) (λ j. (c .before .before .before .before .shared-slice-known .given) j .fits)) .1 s .1))
+
+pub sound-for-spec : {M : Type 1} → statement M
+sound-for-spec =
+    tie.close (tie.spec head-ok-requires returns get-requires cast-n tables-ok-requires returns-2)

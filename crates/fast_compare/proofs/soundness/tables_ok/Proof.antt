@@ -1,0 +1,122 @@
+use native.Mathlib.Omega.{arith}
+use mathlib.Core.Path.{_≡_, sym, ap, _∙_}
+use Prim.Native.Nat.{ℕ, suc, _+_, _*_, _-_, _≤_, _<_}
+use Rattle.words.proofs.Tables.{split-rows}
+use Rattle.fast_compare.proofs.Checks.{refuse, accept, failed, passed, rows-small}
+use borrow.Author.Needs.{needs}
+use Rattle.fast_compare.proofs.soundness.tables_ok.Statement.{statement}
+use Rattle.fast_compare.proofs.soundness.tables_ok.Tie as tie
+use Rattle.fast_compare.proofs.soundness.tables_ok.Reads as reads
+use Rattle.fast_compare.proofs.soundness.tables_ok.Lts as lts
+use Rattle.fast_compare.proofs.soundness.numbers_ok.Reads as numbers-ok-reads
+use Rattle.fast_compare.proofs.soundness.rising_ok.Reads as rising-ok-reads
+use Rattle.fast_compare.proofs.soundness.rows_ok.Reads as rows-ok-reads
+use Rattle.words.proofs.runs.is_blank.Reads as is-blank-reads
+
+-- src/soundness.rt:85:15
+add-row : tie.Need-add-row
+add-row c = search needs
+
+-- src/soundness.rt:86:21
+mul-order : tie.Need-mul-order
+mul-order c = omega (arith, rows-small (c .before .args .variables) (c .before .args .capacity) (omega arith) (omega arith), split-rows (c .before .args .n) (c .before .args .capacity) ((c .before .args .variables) + 3) (omega arith))
+
+-- src/soundness.rt:86:17
+add-order : tie.Need-add-order
+add-order c = omega (arith, rows-small (c .before .args .variables) (c .before .args .capacity) (omega arith) (omega arith), split-rows (c .before .args .n) (c .before .args .capacity) ((c .before .args .variables) + 3) (omega arith))
+
+-- src/soundness.rt:87:9
+rows-ok-requires : tie.Need-rows-ok-requires
+rows-ok-requires c κs = ((omega arith, omega arith), omega (arith, split-rows (c .before .args .n) (c .before .args .capacity) ((c .before .args .variables) + 3) (omega arith)))
+
+-- src/soundness.rt:88:9
+returns : tie.Need-returns
+returns c = refuse (λ h. failed _ (c .before .rows-ok .ensures) (c .if1 .taken) (h .rows))
+
+-- src/soundness.rt:90:40
+mul-is-blank : tie.Need-mul-is-blank
+mul-is-blank c = omega (arith, rows-small (c .before .before .before .args .variables) (c .before .before .before .args .capacity) (omega arith) (omega arith), split-rows (c .before .before .before .args .n) (c .before .before .before .args .capacity) ((c .before .before .before .args .variables) + 3) (omega arith))
+
+-- src/soundness.rt:90:36
+add-is-blank : tie.Need-add-is-blank
+add-is-blank c = omega (arith, rows-small (c .before .before .before .args .variables) (c .before .before .before .args .capacity) (omega arith) (omega arith), split-rows (c .before .before .before .args .n) (c .before .before .before .args .capacity) ((c .before .before .before .args .variables) + 3) (omega arith))
+
+-- src/soundness.rt:90:50
+sub-is-blank : tie.Need-sub-is-blank
+sub-is-blank c = search needs
+
+-- src/soundness.rt:90:49
+mul-is-blank-2 : tie.Need-mul-is-blank-2
+mul-is-blank-2 c = omega (arith, rows-small (c .before .before .before .args .variables) (c .before .before .before .args .capacity) (omega arith) (omega arith), split-rows (c .before .before .before .args .n) (c .before .before .before .args .capacity) ((c .before .before .before .args .variables) + 3) (omega arith))
+
+-- src/soundness.rt:90:9
+is-blank-requires : tie.Need-is-blank-requires
+is-blank-requires c κs = omega (arith, split-rows (c .before .before .before .args .n) (c .before .before .before .args .capacity) ((c .before .before .before .args .variables) + 3) (omega arith))
+
+-- src/soundness.rt:91:9
+returns-2 : tie.Need-returns-2
+returns-2 c = refuse (λ h. failed _ (c .before .is-blank .ensures) (c .if2 .taken) (h .rows-rest))
+
+-- src/soundness.rt:93:9
+numbers-ok-requires : tie.Need-numbers-ok-requires
+numbers-ok-requires c κs = search needs
+
+-- src/soundness.rt:94:9
+returns-3 : tie.Need-returns-3
+returns-3 c = refuse (λ h. failed _ (c .before .numbers-ok .ensures) (c .if3 .taken) (h .order .inside))
+
+-- src/soundness.rt:96:9
+rising-ok-requires : tie.Need-rising-ok-requires
+rising-ok-requires c κs = ((omega arith, omega arith), ((omega arith, omega (arith, split-rows (c .before .before .before .before .before .before .before .args .n) (c .before .before .before .before .before .before .before .args .capacity) ((c .before .before .before .before .before .before .before .args .variables) + 3) (omega arith))), (passed _ (c .before .before .before .before .before .rows-ok .ensures) (c .before .before .before .before .if1 .left), passed _ (c .before .numbers-ok .ensures) (c .if3 .left))))
+
+-- src/soundness.rt:97:9
+returns-4 : tie.Need-returns-4
+returns-4 c = refuse (λ h. failed _ (c .before .rising-ok .ensures) (c .if4 .taken) (h .order .up))
+
+-- src/soundness.rt:99:32
+add-is-blank-2 : tie.Need-add-is-blank-2
+add-is-blank-2 c = omega (arith, rows-small (c .before .before .before .before .before .before .before .before .before .args .variables) (c .before .before .before .before .before .before .before .before .before .args .capacity) (omega arith) (omega arith), split-rows (c .before .before .before .before .before .before .before .before .before .args .n) (c .before .before .before .before .before .before .before .before .before .args .capacity) ((c .before .before .before .before .before .before .before .before .before .args .variables) + 3) (omega arith))
+
+-- src/soundness.rt:99:43
+sub-is-blank-2 : tie.Need-sub-is-blank-2
+sub-is-blank-2 c = search needs
+
+-- src/soundness.rt:99:5
+is-blank-requires-2 : tie.Need-is-blank-requires-2
+is-blank-requires-2 c κs = search needs
+
+-- src/soundness.rt:80:1
+returns-5 : tie.Need-returns-5
+returns-5 c = (
+  λ z. record {
+    rows = passed _ (c .before .before .before .before .before .before .before .before .rows-ok .ensures) (c .before .before .before .before .before .before .before .if1 .left);
+    rows-rest = passed _ (c .before .before .before .before .before .before .is-blank .ensures) (c .before .before .before .before .before .if2 .left);
+    order = record { inside = passed _ (c .before .before .before .before .numbers-ok .ensures) (c .before .before .before .if3 .left); up = passed _ (c .before .before .rising-ok .ensures) (c .before .if4 .left) };
+    order-rest = (c .is-blank2 .ensures .0) z;
+  },
+  λ h. (c .is-blank2 .ensures .1) (h .order-rest),
+)
+
+pub tables-ok-spec : {M : Type 1} → statement M
+tables-ok-spec =
+    tie.close
+    (tie.spec
+    add-row
+    mul-order
+    add-order
+    rows-ok-requires
+    returns
+    mul-is-blank
+    add-is-blank
+    sub-is-blank
+    mul-is-blank-2
+    is-blank-requires
+    returns-2
+    numbers-ok-requires
+    returns-3
+    rising-ok-requires
+    returns-4
+    add-is-blank-2
+    sub-is-blank-2
+    is-blank-requires-2
+    returns-5)

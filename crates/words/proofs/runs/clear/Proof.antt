@@ -1,0 +1,66 @@
+use native.Mathlib.Omega.{arith}
+use borrow.Author.Needs.{needs}
+use mathlib.Core.Path.{_≡_, refl, sym, ap, _∙_}
+use Prim.Native.Nat.{ℕ, _+_, _-_, _*_, _≤_}
+use lib.ListN.{length}
+use Rattle.words.specs.Words.{pasteW}
+use Rattle.words.specs.Tables.{zeros}
+use Rattle.words.proofs.Tables.{clear-none, clear-more}
+use Rattle.words.proofs.runs.clear.Statement.{statement}
+use Rattle.words.proofs.runs.clear.Tie as tie
+use Rattle.words.proofs.runs.clear.Reads as reads
+use Rattle.words.proofs.runs.clear.Lts as lts
+use Rattle.words.proofs.put.Reads as put-reads
+
+abbrev Inv-loop : tie.InvT-loop
+Inv-loop s₀ at n i₀ s i = (i ≤ n) × ((s ≡ pasteW s₀ at (zeros i)) × (length s ≡ length s₀))
+
+abbrev μ-loop : tie.MeasureT-loop
+μ-loop s₀ at n i₀ s i = n - i
+
+-- src/runs.rt:32:5
+loop-holds : tie.Need-loop-holds Inv-loop μ-loop
+loop-holds c = (omega arith, (clear-none (c .before .args .s .now) (c .before .args .at), refl))
+
+-- src/runs.rt:33:23
+add-put : tie.Need-add-put Inv-loop μ-loop
+add-put c = search needs
+
+-- src/runs.rt:33:9
+put-requires : tie.Need-put-requires Inv-loop μ-loop
+put-requires c κs = search needs
+
+-- src/runs.rt:34:9
+add-i : tie.Need-add-i Inv-loop μ-loop
+add-i c = search needs
+
+-- src/runs.rt:32:5
+loop-less : tie.Need-loop-less Inv-loop μ-loop
+loop-less c = search needs
+
+-- src/runs.rt:32:5
+loop-again : tie.Need-loop-again Inv-loop μ-loop
+loop-again c = (omega arith, (c .before .before .put .ensures ∙ clear-more (c .before .before .before .before .before .before .before .args .s .now) (c .before .before .before .before .before .loop .s) (c .before .before .before .before .before .before .before .args .at) (c .before .before .before .before .before .loop .i) (c .before .before .before .before .before .loop .inv .1 .0) (omega arith), c .before .before .put .kept .0 ∙ c .before .before .before .before .before .loop .inv .1 .1))
+
+-- src/runs.rt:27:1
+same-length : tie.Need-same-length Inv-loop μ-loop
+same-length c = search needs
+
+-- src/runs.rt:27:1
+returns : tie.Need-returns Inv-loop μ-loop
+returns c = c .before .loop .inv .1 .0 ∙ ap (λ (z : ℕ). pasteW (c .before .before .before .args .s .now) (c .before .before .before .args .at) (zeros z)) (omega arith)
+
+pub clear-spec : {M : Type 1} → statement M
+clear-spec =
+    tie.close
+    (tie.spec
+    Inv-loop
+    μ-loop
+    loop-holds
+    add-put
+    put-requires
+    add-i
+    loop-less
+    loop-again
+    same-length
+    returns)

@@ -1,0 +1,36 @@
+use native.Mathlib.Omega.{arith}
+use mathlib.Core.Path.{_≡_, _∙_}
+use Prim.Native.Nat.{_+_, _-_, _≤_}
+use lib.ListN.{length}
+use Rattle.words.specs.Words.{words}
+use Rattle.words.specs.Tables.{part}
+use Rattle.words.proofs.Laws.{length-words}
+use Rattle.words.proofs.Tables.{length-part, pasteW-cons}
+use borrow.Author.Needs.{needs}
+use Rattle.words.proofs.runs.insert.Statement.{statement}
+use Rattle.words.proofs.runs.insert.Tie as tie
+use Rattle.words.proofs.runs.insert.Reads as reads
+use Rattle.words.proofs.runs.insert.Lts as lts
+use Rattle.words.proofs.put.Reads as put-reads
+use Rattle.words.proofs.runs.move_up.Reads as move-up-reads
+
+-- src/runs.rt:72:5
+move-up-requires : tie.Need-move-up-requires
+move-up-requires c κs = search needs
+
+-- src/runs.rt:73:5
+put-requires : tie.Need-put-requires
+put-requires c κs = search needs
+
+-- src/runs.rt:67:1
+same-length : tie.Need-same-length
+same-length c = search needs
+
+-- src/runs.rt:67:1
+returns : tie.Need-returns
+returns c = let W = words (c .before .before .before .before .before .before .before .before .before .args .s .now) in
+    let l : length (part W (c .before .before .before .before .before .before .before .before .before .args .at) ((c .before .before .before .before .before .before .before .before .before .args .end) - (c .before .before .before .before .before .before .before .before .before .args .at))) ≡ (c .before .before .before .before .before .before .before .before .before .args .end) - (c .before .before .before .before .before .before .before .before .before .args .at) = length-part W (c .before .before .before .before .before .before .before .before .before .args .at) ((c .before .before .before .before .before .before .before .before .before .args .end) - (c .before .before .before .before .before .before .before .before .before .args .at)) (omega (arith, length-words (c .before .before .before .before .before .before .before .before .before .args .s .now))) in
+    (c .before .before .put .ensures) ∙ rw (c .before .before .before .before .before .before .move-up .ensures) (pasteW-cons (c .before .before .before .before .before .before .before .before .before .args .s .now) (c .before .before .before .before .before .before .before .before .before .args .at) (part W (c .before .before .before .before .before .before .before .before .before .args .at) ((c .before .before .before .before .before .before .before .before .before .args .end) - (c .before .before .before .before .before .before .before .before .before .args .at))) (c .before .before .before .before .before .before .before .before .before .args .w) (omega arith))
+
+pub insert-spec : {M : Type 1} → statement M
+insert-spec = tie.close (tie.spec move-up-requires put-requires same-length returns)

@@ -1,0 +1,75 @@
+use native.Mathlib.Omega.{arith}
+use borrow.Author.Needs.{needs}
+use mathlib.Core.Path.{_≡_, refl, sym, ap, _∙_}
+use Prim.Native.Nat.{ℕ, _+_, _-_, _*_, _≤_}
+use lib.ListN.{length}
+use Rattle.words.specs.Words.{words, pasteW}
+use Rattle.words.specs.Tables.{part}
+use Rattle.words.proofs.Tables.{up-none, up-more}
+use Rattle.words.proofs.runs.move_up.Statement.{statement}
+use Rattle.words.proofs.runs.move_up.Tie as tie
+use Rattle.words.proofs.runs.move_up.Reads as reads
+use Rattle.words.proofs.runs.move_up.Lts as lts
+use Rattle.words.proofs.get.Reads as get-reads
+use Rattle.words.proofs.put.Reads as put-reads
+
+abbrev Inv-loop : tie.InvT-loop
+Inv-loop s₀ at end i₀ s i = ((at ≤ i) × (i ≤ end)) × ((s ≡ pasteW s₀ (i + 1) (part (words s₀) i (end - i))) × (length s ≡ length s₀))
+
+abbrev μ-loop : tie.MeasureT-loop
+μ-loop s₀ at end i₀ s i = i
+
+-- src/runs.rt:59:5
+loop-holds : tie.Need-loop-holds Inv-loop μ-loop
+loop-holds c = ((omega arith, omega arith), (up-none (c .before .args .s .now) (c .before .args .end), refl))
+
+-- src/runs.rt:60:9
+sub-i : tie.Need-sub-i Inv-loop μ-loop
+sub-i c = search needs
+
+-- src/runs.rt:61:13
+get-requires : tie.Need-get-requires Inv-loop μ-loop
+get-requires c κs = search needs
+
+-- src/runs.rt:62:23
+add-put : tie.Need-add-put Inv-loop μ-loop
+add-put c = search needs
+
+-- src/runs.rt:62:9
+put-requires : tie.Need-put-requires Inv-loop μ-loop
+put-requires c κs = search needs
+
+-- src/runs.rt:59:5
+loop-less : tie.Need-loop-less Inv-loop μ-loop
+loop-less c = search needs
+
+-- src/runs.rt:59:5
+loop-again : tie.Need-loop-again Inv-loop μ-loop
+loop-again c = let i = (c .before .before .before .before .before .before .before .loop .i) - 1 in
+    let e : (c .before .before .before .before .before .before .before .loop .i) ≡ i + 1 = omega arith in
+    let now : (c .before .before .before .before .before .before .before .loop .s) ≡ pasteW (c .before .before .before .before .before .before .before .before .before .args .s .now) (i + 1 + 1) (part (words (c .before .before .before .before .before .before .before .before .before .args .s .now)) (i + 1) ((c .before .before .before .before .before .before .before .before .before .args .end) - (i + 1))) = c .before .before .before .before .before .before .before .loop .inv .1 .0 ∙ ap (λ (n : ℕ). pasteW (c .before .before .before .before .before .before .before .before .before .args .s .now) (n + 1) (part (words (c .before .before .before .before .before .before .before .before .before .args .s .now)) n ((c .before .before .before .before .before .before .before .before .before .args .end) - n))) e in
+    ((omega arith, omega arith), (c .before .before .put .ensures ∙ up-more (c .before .before .before .before .before .before .before .before .before .args .s .now) (c .before .before .before .before .before .before .before .loop .s) i (c .before .before .before .before .before .before .before .before .before .args .end) (c .before .before .before .before .get .result) (omega arith) (omega arith) now (c .before .before .before .before .get .ensures), c .before .before .put .kept .0 ∙ c .before .before .before .before .before .before .before .loop .inv .1 .1))
+
+-- src/runs.rt:53:1
+same-length : tie.Need-same-length Inv-loop μ-loop
+same-length c = search needs
+
+-- src/runs.rt:53:1
+returns : tie.Need-returns Inv-loop μ-loop
+returns c = let e : (c .before .loop .i) ≡ (c .before .before .before .args .at) = omega arith in rw e at (c .before .loop .inv .1 .0)
+
+pub move-up-spec : {M : Type 1} → statement M
+move-up-spec =
+    tie.close
+    (tie.spec
+    Inv-loop
+    μ-loop
+    loop-holds
+    sub-i
+    get-requires
+    add-put
+    put-requires
+    loop-less
+    loop-again
+    same-length
+    returns)

@@ -1,0 +1,78 @@
+use native.Mathlib.Omega.{arith}
+use borrow.Author.Needs.{needs}
+use mathlib.Core.Path.{_≡_, refl, sym, ap, _∙_}
+use mathlib.Core.List.{List}
+use Prim.Native.Nat.{ℕ, _+_, _-_, _*_, _≤_, _<_}
+use native.Mathlib.Numerals.{add-one}
+use lib.ListN.{length, getD, take}
+use lib.Seq.{take-suc, take-all, length-take-le}
+use Rattle.words.specs.Words.{words, pasteW}
+use Rattle.words.proofs.Laws.{length-words, pasteW-nil, pasteW-snoc}
+use Rattle.words.proofs.runs.paste.Statement.{statement}
+use Rattle.words.proofs.runs.paste.Tie as tie
+use Rattle.words.proofs.runs.paste.Reads as reads
+use Rattle.words.proofs.runs.paste.Lts as lts
+use Rattle.words.proofs.get.Reads as get-reads
+use Rattle.words.proofs.put.Reads as put-reads
+
+abbrev Inv-loop : tie.InvT-loop
+Inv-loop s₀ at row n i₀ s i = (i ≤ n) × ((s ≡ pasteW s₀ at (take i (words row))) × (length s ≡ length s₀))
+
+abbrev μ-loop : tie.MeasureT-loop
+μ-loop s₀ at row n i₀ s i = n - i
+
+-- src/runs.rt:45:5
+loop-holds : tie.Need-loop-holds Inv-loop μ-loop
+loop-holds c = (omega arith, (sym (pasteW-nil (c .before .before .args .s .now) (c .before .before .args .at)), refl))
+
+-- src/runs.rt:46:13
+get-requires : tie.Need-get-requires Inv-loop μ-loop
+get-requires c κs = search needs
+
+-- src/runs.rt:47:23
+add-put : tie.Need-add-put Inv-loop μ-loop
+add-put c = search needs
+
+-- src/runs.rt:47:9
+put-requires : tie.Need-put-requires Inv-loop μ-loop
+put-requires c κs = search needs
+
+-- src/runs.rt:48:9
+add-i : tie.Need-add-i Inv-loop μ-loop
+add-i c = search needs
+
+-- src/runs.rt:45:5
+loop-less : tie.Need-loop-less Inv-loop μ-loop
+loop-less c = search needs
+
+-- src/runs.rt:45:5
+loop-again : tie.Need-loop-again Inv-loop μ-loop
+loop-again c = let xs = words (c .before .before .before .before .before .before .before .before .before .args .row .now) in
+    let i = (c .before .before .before .before .before .before .loop .i) in
+    let len : i < length xs = omega (arith, length-words (c .before .before .before .before .before .before .before .before .before .args .row .now)) in
+    let el : (c .before .before .before .before .before .before .before .before .before .args .at) + i ≡ (c .before .before .before .before .before .before .before .before .before .args .at) + length (take i xs) = rw (length-take-le i xs (omega arith)) in
+    (omega arith, (c .before .before .put .ensures ∙ rw (c .before .before .before .before .before .before .loop .inv .1 .0, c .before .before .before .before .get .ensures, pasteW-snoc (c .before .before .before .before .before .before .before .before .before .args .s .now) (c .before .before .before .before .before .before .before .before .before .args .at) (take i xs) ((c .before .before .before .before .before .before .before .before .before .args .at) + i) (getD xs i 0) el (omega arith), add-one, take-suc xs i 0 len), c .before .before .put .kept .0 ∙ c .before .before .before .before .before .before .loop .inv .1 .1))
+
+-- src/runs.rt:39:1
+same-length : tie.Need-same-length Inv-loop μ-loop
+same-length c = search needs
+
+-- src/runs.rt:39:1
+returns : tie.Need-returns Inv-loop μ-loop
+returns c = c .before .loop .inv .1 .0 ∙ ap (pasteW (c .before .before .before .before .args .s .now) (c .before .before .before .before .args .at)) (take-all (c .before .loop .i) (words (c .before .before .before .before .args .row .now)) (omega (arith, length-words (c .before .before .before .before .args .row .now))))
+
+pub paste-spec : {M : Type 1} → statement M
+paste-spec =
+    tie.close
+    (tie.spec
+    Inv-loop
+    μ-loop
+    loop-holds
+    get-requires
+    add-put
+    put-requires
+    add-i
+    loop-less
+    loop-again
+    same-length
+    returns)
