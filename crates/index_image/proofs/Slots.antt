@@ -7,15 +7,18 @@ use Prim.Native.Nat.{ℕ, suc, _+_, _-_, _*_, _≤_, _<_}
 use native.Mathlib.Omega.{arith}
 use lib.Dec.{eqb}
 use lib.ListN.{length, getD, take, drop, length-append, length-take, length-drop}
-use Rattle.words.specs.Words.{words}
+use lib.Seq.{take-at, length-take-le}
+use Rattle.words.specs.Words.{words, bytes, pasteW}
 use Rattle.words.specs.Tables.{part, zeros}
 use borrow.Author.Tests.{eqb-true, eq-eqb}
-use Rattle.words.proofs.Laws.{words-part, length-words}
+use Rattle.words.proofs.Laws.{words-part, length-words, length-pasteW, pasteW-front, length-bytes, words-bytes}
 use Rattle.words.proofs.Tables.{never}
 use Rattle.monomial.specs.Monomial.{front, Canonical, pow, varsOf}
 use Rattle.monomial.proofs.Canon.{Canon, canon-of, front-short}
 use Rattle.monomial.proofs.Powers.{determined, vars-length}
-use Rattle.monomial.proofs.Laws.{front-canonical}
+use Rattle.monomial.specs.Operations.{result}
+use Rattle.monomial.specs.declared.ordered_ops.Op.{Op}
+use Rattle.monomial.proofs.Laws.{front-canonical, canonical-more, length-result, result-small}
 use Rattle.divmask.specs.Mask.{mask}
 use Rattle.index_image.specs.Door.{slotLength, slotIn, MaskedSlot}
 
@@ -78,3 +81,23 @@ masked-iff W m xs i n x y e some rest ex ey =
 
 pub range-words : (bs : List ℕ) (a n : ℕ) → words (take (4 * a + 4 * n - 4 * a) (drop (4 * a) bs)) ≡ part (words bs) a n
 range-words bs a n = part-words bs a n (4 * a + 4 * n - 4 * a) (omega arith)
+
+-- ---- an operation's words, made aside in 65 words
+pub record MadeAside (made ws : List ℕ) (n : ℕ) : Type 0 where
+  pub room : 4 * n ≤ length made
+  pub size : length (take (4 * n) made) ≡ 4 * n
+  pub are : words (take (4 * n) made) ≡ ws
+
+pub made-aside : (o : Op) (a b space made : List ℕ) (n : ℕ) → Canonical 1 64 a → Canonical 1 64 b → length space ≡ 260
+    → n ≡ length (result o a b) → made ≡ pasteW space 0 (result o a b) → MadeAside made (result o a b) n
+made-aside o a b space made n ca cb h en em =
+    let few = length-result 64 a b ca cb o (omega arith) in
+    let len : length made ≡ 260 = ap length em ∙ length-pasteW space 0 (result o a b) (omega arith) ∙ h in
+    let front : take (4 * n) made ≡ bytes (result o a b) =
+    rw (em, pasteW-front space (result o a b))
+    (take-at (bytes (result o a b)) _ (4 * n) (length-bytes (result o a b) ∙ ap (λ (i : ℕ). 4 * i) (sym en))) in
+    record {
+      room = omega arith;
+      size = length-take-le (4 * n) made (omega arith);
+      are = ap words front ∙ words-bytes (result o a b) (result-small 64 a b ca cb o);
+    }

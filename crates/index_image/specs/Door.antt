@@ -26,3 +26,38 @@ pub record MaskedSlot (W : List ℕ) (m : ℕ) (xs : List ℕ) (i : ℕ) : Type 
   pub some : slotLength W m i ≡ 0 → ⊥
   pub rest : part W (i + slotLength W m i) (m + 1 - slotLength W m i) ≡ zeros (m + 1 - slotLength W m i)
   pub masked : getD W (i + (m + 1)) 0 ≡ mask m xs (pow 1 (slotIn W m i))
+
+-- ---- the entry at place i. In a ratio index its ratio is the value of a row of the label map.
+abbrev pub indexIn : List ℕ → Shape → ℕ → ℕ
+indexIn W s i = payload (getD W (at.entryAt s i + (s .variables + 2)) 0)
+
+unfoldable pub signIn : List ℕ → Shape → ℕ → List ℕ
+signIn W s i = slotIn W (s .variables) (at.entryAt s i + (s .variables + 3))
+
+-- the words from the label map on, and the number of its rows
+abbrev pub labelsIn : List ℕ → Shape → List ℕ
+labelsIn W s = drop (at.labelsAt s) W
+
+abbrev pub rowsIn : List ℕ → Shape → ℕ
+rowsIn W s = getD W (at.labelsAt s + 3) 0
+
+abbrev pub rowValue : List ℕ → Shape → ℕ → map.Value
+rowValue W s j = labels.valueAt (labelsIn W s) (s .variables) (labels.rowAt (s .variables) j)
+
+pub record RatioOk (W : List ℕ) (s : Shape) (i : ℕ) : Type 0 where
+  pub kinded : kind (getD W (at.entryAt s i + (s .variables + 2)) 0) ≡ 3
+  pub sign : MaskedSlot W (s .variables) (mapMaxima W s) (at.entryAt s i + (s .variables + 3))
+  pub row : rowIn W s i < rowsIn W s
+  pub ratio : rowValue W s (rowIn W s i) ≡ quotientOf (indexIn W s i) (signIn W s i) (lmIn W s i)
+
+pub record EntryOk (W : List ℕ) (s : Shape) (i : ℕ) : Type 0 where
+  pub lm : MaskedSlot W (s .variables) (mapMaxima W s) (at.entryAt s i)
+  pub ratio : s .kind ≡ 1 → RatioOk W s i
+
+-- what is known of an entry of a ratio index before its ratio is looked at
+pub record Named (W : List ℕ) (s : Shape) (i : ℕ) : Type 0 where
+  pub kinded : kind (getD W (at.entryAt s i + (s .variables + 2)) 0) ≡ 3
+  pub sign : slotLength W (s .variables) (at.entryAt s i + (s .variables + 3)) ≡ 0 → ⊥
+  pub lm : slotLength W (s .variables) (at.entryAt s i) ≡ 0 → ⊥
+  pub row : rowIn W s i < s .capacity
+  pub row-ok : labels.RowOk (labelsIn W s) (s .variables) (labels.rowAt (s .variables) (rowIn W s i))

@@ -1,13 +1,20 @@
 // The door's checks of the entries: canonical slots with their masks, ratios that the label map has, and unused rows that are 0.
+use crate::Shape;
 ghost use mathlib.Core.Path.{_≡_};
 ghost use mathlib.Core.Bool.{true};
 ghost use mathlib.Core.Logic.{_↔_};
-ghost use Prim.Native.Nat.{_+_, _*_, _≤_};
+ghost use Prim.Native.Nat.{_+_, _*_, _≤_, _<_};
 ghost use lib.ListN.{length};
 ghost use Rattle.words.specs.Words.{words};
 ghost use Rattle.words.specs.Tables.{part};
+ghost use Rattle.monomial.specs.Monomial.{Canonical};
+ghost use Rattle.monomial.specs.Operations.{result, equal};
+ghost use Rattle.monomial.specs.declared.ordered_ops.Op.{Op};
 ghost use Rattle.divmask.specs.Tracker.{Maxima};
+ghost use Rattle.index_theory.specs.Entries.{quotientOf};
 ghost use Rattle.index_image.specs.Door as door;
+ghost use Rattle.index_image.specs.Shape as at;
+ghost use Rattle.index_image.specs.Walk.{lmIn, rowIn};
 
 // Whether a canonical monomial stands in the slot at word i, zeros behind it, and then its mask.
 pub fn masked_slot(image: &[u8], map: usize, variables: usize, i: usize) -> bool
@@ -30,4 +37,38 @@ pub fn masked_slot(image: &[u8], map: usize, variables: usize, i: usize) -> bool
     let d = c + 4 * n;
     let mask = divmask::map(&image[a..b], m, &image[c..d]);
     words::get(image, i + (variables + 1)) == mask
+}
+
+// Whether c is the ratio a / b.
+fn is_ratio(a: &[u8], b: &[u8], c: &[u8]) -> bool
+    requires { ⌜ Canonical 1 64 (words (now a)) ⌝ }
+    requires { ⌜ Canonical 1 64 (words (now b)) ⌝ }
+    ensures { λ r. ⌜ r ≡ equal (result Op.Ratio (words (now (a .entry))) (words (now (b .entry)))) (words (now (c .entry))) ⌝ }
+{
+    let mut made = [0u8; 260];
+    let n = monomial::fraction_division(a, b, &mut made);
+    let e = 4 * n;
+    monomial::eq(&made[..e], c)
+}
+
+// Whether the label map's row that entry i names has the entry's ratio.
+fn has_ratio(image: &[u8], s: Shape, i: usize) -> bool
+    requires { ⌜ at.InRange s ⌝ }
+    requires { ⌜ 4 * at.size s ≤ length (now image) ⌝ }
+    requires { ⌜ (s .kind ≡ 1) × (i < s .entries) ⌝ }
+    requires { ⌜ door.Named (words (now image)) s i ⌝ }
+    ensures { λ r. ⌜ (r ≡ true) ↔ (door.rowValue (words (now (image .entry))) s (rowIn (words (now (image .entry))) s i) ≡ quotientOf (door.indexIn (words (now (image .entry))) s i) (door.signIn (words (now (image .entry))) s i) (lmIn (words (now (image .entry))) s i)) ⌝ }
+{
+    let m = s.variables;
+    let v = m as u32;
+    let e = s.entry_at(i);
+    let row = words::get(image, e + (2 * m + 5)) as usize;
+    let r = s.labels_at() + (4 + row * (m + 3));
+    if words::get(image, e + (m + 2)) != words::get(image, r) {
+        return false;
+    }
+    let sign = monomial::monomial_at(image, e + (m + 3), v);
+    let lm = monomial::monomial_at(image, e, v);
+    let ratio = monomial::ratio_at(image, r + 1, v);
+    is_ratio(sign, lm, ratio)
 }
