@@ -3,7 +3,7 @@ use mathlib.Core.Path.{_≡_, ap, _∙_}
 use Prim.Native.Nat.{ℕ, _+_, _-_, _*_, _≤_, _<_}
 use native.Mathlib.Omega.{arith}
 use native.Mathlib.Nat.{mul-le-mul}
-use Rattle.words.proofs.Tables.{row-fits}
+use Rattle.words.proofs.Tables.{row-fits, split-rows}
 use Rattle.index_image.specs.declared.Shape.{Shape}
 use Rattle.index_image.specs.Shape.{InRange, entryWidth, entryAt, permutationAt, labelsAt, labelsSize, size}
 
@@ -61,3 +61,26 @@ module _ (s : Shape) (r : InRange s) where
         small = size-small;
         row-small = omega (arith, rows-small);
       }
+
+  -- ---- in any index
+  pub width-least : s .variables + 2 ≤ entryWidth s
+  width-least = omega (arith, times 1 (s .variables + 2) (s .kind + 1) (s .variables + 2) (omega arith) (omega arith))
+
+  -- the entry at place i, the map's maxima and the first words of the label map lie within the image
+  pub record Inside (i : ℕ) : Type 0 where
+    pub entry : entryAt s i + (s .variables + 2) ≤ size s
+    pub maxima : 16 + s .variables + s .variables ≤ size s
+    pub small : size s ≤ 1405008
+
+  pub inside : (i : ℕ) → i < s .capacity → Inside i
+  inside i h = record { entry = omega (arith, entry-inside i h, width-least); maxima = omega arith; small = size-small }
+
+  -- the unused rows of the entries
+  pub record Rest : Type 0 where
+    pub fits : (s .capacity - s .entries) * entryWidth s ≤ 548864
+    pub room : entryAt s (s .entries) + (s .capacity - s .entries) * entryWidth s ≤ size s
+
+  pub rest : Rest
+  rest =
+      let e = split-rows (s .entries) (s .capacity) (entryWidth s) (r .few) in
+      record { fits = omega (arith, entries-small (s .capacity) (omega arith)); room = omega arith }

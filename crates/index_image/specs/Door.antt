@@ -61,3 +61,13 @@ pub record Named (W : List ℕ) (s : Shape) (i : ℕ) : Type 0 where
   pub lm : slotLength W (s .variables) (at.entryAt s i) ≡ 0 → ⊥
   pub row : rowIn W s i < s .capacity
   pub row-ok : labels.RowOk (labelsIn W s) (s .variables) (labels.rowAt (s .variables) (rowIn W s i))
+
+-- what is known of the tables before the entries are looked at: the map's maxima, and in a ratio index the rows of the label map
+pub record Tables (W : List ℕ) (s : Shape) : Type 0 where
+  pub map : Maxima (s .variables) (mapMaxima W s)
+  pub few : s .kind ≡ 1 → rowsIn W s ≤ s .capacity
+  pub rows : s .kind ≡ 1 → (j : ℕ) → j < rowsIn W s → labels.RowOk (labelsIn W s) (s .variables) (labels.rowAt (s .variables) j)
+
+pub record EntriesOk (W : List ℕ) (s : Shape) : Type 0 where
+  pub each : (i : ℕ) → i < s .entries → EntryOk W s i
+  pub rest : part W (at.entryAt s (s .entries)) ((s .capacity - s .entries) * at.entryWidth s) ≡ zeros ((s .capacity - s .entries) * at.entryWidth s)

@@ -3,7 +3,7 @@ use crate::Shape;
 ghost use mathlib.Core.Path.{_≡_};
 ghost use mathlib.Core.Bool.{true};
 ghost use mathlib.Core.Logic.{_↔_};
-ghost use Prim.Native.Nat.{_+_, _*_, _≤_, _<_};
+ghost use Prim.Native.Nat.{ℕ, _+_, _*_, _≤_, _<_};
 ghost use lib.ListN.{length};
 ghost use Rattle.words.specs.Words.{words};
 ghost use Rattle.words.specs.Tables.{part};
@@ -14,7 +14,7 @@ ghost use Rattle.divmask.specs.Tracker.{Maxima};
 ghost use Rattle.index_theory.specs.Entries.{quotientOf};
 ghost use Rattle.index_image.specs.Door as door;
 ghost use Rattle.index_image.specs.Shape as at;
-ghost use Rattle.index_image.specs.Walk.{lmIn, rowIn};
+ghost use Rattle.index_image.specs.Walk.{lmIn, rowIn, mapMaxima};
 
 // Whether a canonical monomial stands in the slot at word i, zeros behind it, and then its mask.
 pub fn masked_slot(image: &[u8], map: usize, variables: usize, i: usize) -> bool
@@ -71,4 +71,81 @@ fn has_ratio(image: &[u8], s: Shape, i: usize) -> bool
     let lm = monomial::monomial_at(image, e, v);
     let ratio = monomial::ratio_at(image, r + 1, v);
     is_ratio(sign, lm, ratio)
+}
+
+// Whether the entry at place i of a ratio index has an index, a signature monomial and a ratio.
+fn ratio_ok(image: &[u8], s: Shape, i: usize) -> bool
+    requires { ⌜ at.InRange s ⌝ }
+    requires { ⌜ 4 * at.size s ≤ length (now image) ⌝ }
+    requires { ⌜ (s .kind ≡ 1) × (i < s .entries) ⌝ }
+    requires { ⌜ door.Tables (words (now image)) s ⌝ }
+    requires { ⌜ door.MaskedSlot (words (now image)) (s .variables) (mapMaxima (words (now image)) s) (at.entryAt s i) ⌝ }
+    ensures { λ r. ⌜ (r ≡ true) ↔ door.RatioOk (words (now (image .entry))) s i ⌝ }
+{
+    let m = s.variables;
+    let e = s.entry_at(i);
+    if words::get(image, e + (m + 2)) / 268435456 != 3 {
+        return false;
+    }
+    if !masked_slot(image, 16 + m, m, e + (m + 3)) {
+        return false;
+    }
+    if words::get(image, s.labels_at() + 3) <= words::get(image, e + (2 * m + 5)) {
+        return false;
+    }
+    has_ratio(image, s, i)
+}
+
+// Whether the entry at place i is one.
+fn entry_ok(image: &[u8], s: Shape, i: usize) -> bool
+    requires { ⌜ at.InRange s ⌝ }
+    requires { ⌜ 4 * at.size s ≤ length (now image) ⌝ }
+    requires { ⌜ i < s .entries ⌝ }
+    requires { ⌜ door.Tables (words (now image)) s ⌝ }
+    ensures { λ r. ⌜ (r ≡ true) ↔ door.EntryOk (words (now (image .entry))) s i ⌝ }
+{
+    let m = s.variables;
+    let k = s.kind;
+    let e = s.entry_at(i);
+    if !masked_slot(image, 16 + m, m, e) {
+        return false;
+    }
+    if k == 0 {
+        return true;
+    }
+    ratio_ok(image, s, i)
+}
+
+// Whether each place below the number of entries has an entry.
+fn all_entries(image: &[u8], s: Shape) -> bool
+    requires { ⌜ at.InRange s ⌝ }
+    requires { ⌜ 4 * at.size s ≤ length (now image) ⌝ }
+    requires { ⌜ door.Tables (words (now image)) s ⌝ }
+    ensures { λ r. ⌜ (r ≡ true) ↔ ((i : ℕ) → i < s .entries → door.EntryOk (words (now (image .entry))) s i) ⌝ }
+{
+    let n = s.entries;
+    let mut i: usize = 0;
+    while i < n {
+        if !entry_ok(image, s, i) {
+            return false;
+        }
+        i += 1;
+    }
+    true
+}
+
+// Whether the entries are sound, and the rows behind them 0.
+pub fn entries_ok(image: &[u8], s: Shape) -> bool
+    requires { ⌜ at.InRange s ⌝ }
+    requires { ⌜ 4 * at.size s ≤ length (now image) ⌝ }
+    requires { ⌜ door.Tables (words (now image)) s ⌝ }
+    ensures { λ r. ⌜ (r ≡ true) ↔ door.EntriesOk (words (now (image .entry))) s ⌝ }
+{
+    let n = s.entries;
+    let c = s.capacity;
+    let rest = (c - n) * s.entry_width();
+    if !words::runs::is_blank(image, s.entry_at(n), rest) {
+        return false;
+    }
+    all_entries(image, s)
 }
