@@ -2,3 +2,4 @@ pub mod Layout
 pub mod Shape
 pub mod Walk
 pub mod Door
+pub mod Marks
