@@ -3,3 +3,4 @@ pub mod Shape
 pub mod Walk
 pub mod Door
 pub mod Marks
+pub mod Head
