@@ -1,0 +1,103 @@
+-- Slots of canonical monomials in the words of an image. Assumes nothing.
+use mathlib.Core.Path.{_≡_, refl, sym, ap, _∙_}
+use mathlib.Core.Bool.{Bool, true, false}
+use mathlib.Core.List.{List, [], _∷_, _++_}
+use mathlib.Core.Logic.{_↔_}
+use Prim.Native.Nat.{ℕ, suc, _+_, _-_, _*_, _≤_, _<_}
+use native.Mathlib.Omega.{arith}
+use lib.Dec.{eqb}
+use lib.ListN.{length, getD, take, drop, length-append, length-take, length-drop}
+use lib.Seq.{take-at, length-take-le}
+use Rattle.words.specs.Words.{words, bytes, pasteW}
+use Rattle.words.specs.Tables.{part, zeros}
+use borrow.Author.Tests.{eqb-true, eq-eqb}
+use Rattle.words.proofs.Laws.{words-part, length-words, length-pasteW, pasteW-front, length-bytes, words-bytes}
+use Rattle.words.proofs.Tables.{never}
+use Rattle.monomial.specs.Monomial.{front, Canonical, pow, varsOf}
+use Rattle.monomial.proofs.Canon.{Canon, canon-of, front-short}
+use Rattle.monomial.proofs.Powers.{determined, vars-length}
+use Rattle.monomial.specs.Operations.{result}
+use Rattle.monomial.specs.declared.ordered_ops.Op.{Op}
+use Rattle.monomial.proofs.Laws.{front-canonical, canonical-more, length-result, result-small}
+use Rattle.divmask.specs.Mask.{mask}
+use Rattle.index_image.specs.Door.{slotLength, slotIn, MaskedSlot}
+
+-- a canonical monomial has at most a word a variable, and its end word
+pub canonical-length : (k m : ℕ) (ws : List ℕ) → 0 < k → m ≤ 4096 → Canonical k m ws → length ws ≤ m + 1
+canonical-length k m ws pos h c =
+    let e = ap length (determined k m 0 ws pos h (canon-of c)) ∙ length-append (varsOf k m (pow k ws)) _ in
+    omega (arith, vars-length k m (pow k ws))
+
+module _ (W : List ℕ) (m i : ℕ) (few : m ≤ 4096) (some : slotLength W m i ≡ 0 → ⊥) where
+  pub slot-canonical : Canonical 1 m (slotIn W m i)
+  unfolding slotIn part
+  slot-canonical = front-canonical 1 m (drop i W) (omega arith) some
+
+  pub slot-inside : i + slotLength W m i ≤ length W
+  slot-inside = omega (arith, front-short 1 m 0 (drop i W), length-drop i W)
+
+  pub slot-length : length (slotIn W m i) ≡ slotLength W m i
+  unfolding slotIn part
+  slot-length = simp (length-take, length-drop) (omega (arith, slot-inside))
+
+  pub slot-short : slotLength W m i ≤ m + 1
+  slot-short = omega (arith, slot-length, canonical-length 1 m (slotIn W m i) (omega arith) few slot-canonical)
+
+-- ---- answers of checks
+pub refuse : {M : Type 0} → (M → ⊥) → (false ≡ true) ↔ M
+refuse h = (λ (e : false ≡ true). never e, λ m. absurd (h m))
+
+pub test : {M : Type 0} (x y : ℕ) → (x ≡ y → M) → (M → x ≡ y) → (eqb x y ≡ true) ↔ M
+test {M} x y f g = (λ (e : eqb x y ≡ true). f (eqb-true x y e), λ (m : M). eq-eqb x y (g m))
+
+-- the words of a part that is handed on
+pub part-words : (bs : List ℕ) (a n k : ℕ) → k ≡ 4 * n → words (take k (drop (4 * a) bs)) ≡ part (words bs) a n
+unfolding part
+part-words bs a n k e = words-part bs a n k e
+
+-- what is known of the monomial that was found in a slot
+pub record FoundSlot (bs : List ℕ) (m i n : ℕ) : Type 0 where
+  pub short : n ≤ m + 1
+  pub inside : 4 * (i + n) ≤ length bs
+  pub canonical : Canonical 1 m (part (words bs) i n)
+
+pub found-slot : (bs : List ℕ) (m i n : ℕ) → m ≤ 64 → n ≡ slotLength (words bs) m i → (n ≡ 0 → ⊥) → FoundSlot bs m i n
+unfolding slotIn
+found-slot bs m i n few e some =
+    let some′ : slotLength (words bs) m i ≡ 0 → ⊥ = λ z. some (e ∙ z) in
+    rw e (record {
+      short = slot-short (words bs) m i (omega arith) some′;
+      inside = omega (arith, slot-inside (words bs) m i (omega arith) some′, length-words bs);
+      canonical = slot-canonical (words bs) m i (omega arith) some′;
+    })
+
+pub masked-iff : (W : List ℕ) (m : ℕ) (xs : List ℕ) (i n x y : ℕ) → n ≡ slotLength W m i → (n ≡ 0 → ⊥) → part W (i + n) (m + 1 - n) ≡ zeros (m + 1 - n)
+    → x ≡ getD W (i + (m + 1)) 0 → y ≡ mask m xs (pow 1 (part W i n)) → (eqb x y ≡ true) ↔ MaskedSlot W m xs i
+unfolding slotIn
+masked-iff W m xs i n x y e some rest ex ey =
+    test x y
+    (λ z. record { some = λ q. some (e ∙ q); rest = rw (← e) rest; masked = sym ex ∙ z ∙ ey ∙ rw e })
+    (λ s. ex ∙ s .masked ∙ rw (← e) (sym ey))
+
+pub range-words : (bs : List ℕ) (a n : ℕ) → words (take (4 * a + 4 * n - 4 * a) (drop (4 * a) bs)) ≡ part (words bs) a n
+range-words bs a n = part-words bs a n (4 * a + 4 * n - 4 * a) (omega arith)
+
+-- ---- an operation's words, made aside in 65 words
+pub record MadeAside (made ws : List ℕ) (n : ℕ) : Type 0 where
+  pub room : 4 * n ≤ length made
+  pub size : length (take (4 * n) made) ≡ 4 * n
+  pub are : words (take (4 * n) made) ≡ ws
+
+pub made-aside : (o : Op) (a b space made : List ℕ) (n : ℕ) → Canonical 1 64 a → Canonical 1 64 b → length space ≡ 260
+    → n ≡ length (result o a b) → made ≡ pasteW space 0 (result o a b) → MadeAside made (result o a b) n
+made-aside o a b space made n ca cb h en em =
+    let few = length-result 64 a b ca cb o (omega arith) in
+    let len : length made ≡ 260 = ap length em ∙ length-pasteW space 0 (result o a b) (omega arith) ∙ h in
+    let front : take (4 * n) made ≡ bytes (result o a b) =
+    rw (em, pasteW-front space (result o a b))
+    (take-at (bytes (result o a b)) _ (4 * n) (length-bytes (result o a b) ∙ ap (λ (i : ℕ). 4 * i) (sym en))) in
+    record {
+      room = omega arith;
+      size = length-take-le (4 * n) made (omega arith);
+      are = ap words front ∙ words-bytes (result o a b) (result-small 64 a b ca cb o);
+    }

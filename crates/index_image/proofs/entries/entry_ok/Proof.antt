@@ -1,0 +1,54 @@
+use native.Mathlib.Omega.{arith}
+use mathlib.Core.Path.{_≡_, refl, sym, ap, _∙_}
+use borrow.Author.Tests.{not-true, not-false}
+use Rattle.words.proofs.Tables.{never}
+use Rattle.index_image.proofs.Bounds.{Inside, inside}
+use Rattle.index_image.proofs.Slots.{refuse}
+use borrow.Author.Needs.{needs}
+use Rattle.index_image.proofs.entries.entry_ok.Statement.{statement}
+use Rattle.index_image.proofs.entries.entry_ok.Tie as tie
+use Rattle.index_image.proofs.entries.entry_ok.Reads as reads
+use Rattle.index_image.proofs.entries.entry_ok.Lts as lts
+use Rattle.index_image.proofs.Shape.entry_at.Reads as entry-at-reads
+use Rattle.index_image.proofs.entries.masked_slot.Reads as masked-slot-reads
+use Rattle.index_image.proofs.entries.ratio_ok.Reads as ratio-ok-reads
+
+-- src/entries.rt:109:9
+entry-at-requires : tie.Need-entry-at-requires
+entry-at-requires c κs = ((c .before .pre .0), omega (arith, (c .before .pre .1 .1 .0), (c .before .pre .0) .few))
+
+-- src/entries.rt:110:28
+add-masked-slot : tie.Need-add-masked-slot
+add-masked-slot c = search needs
+
+-- src/entries.rt:110:9
+masked-slot-requires : tie.Need-masked-slot-requires
+masked-slot-requires c κs = ((c .before .before .pre .1 .1 .1) .map, (omega (arith, inside (c .before .before .args .s) (c .before .before .pre .0) (c .before .before .args .i) (omega (arith, (c .before .before .pre .1 .1 .0), (c .before .before .pre .0) .few))), omega (arith, c .entry-at .ensures, inside (c .before .before .args .s) (c .before .before .pre .0) (c .before .before .args .i) (omega (arith, (c .before .before .pre .1 .1 .0), (c .before .before .pre .0) .few)))))
+
+-- src/entries.rt:111:9
+returns : tie.Need-returns
+returns c = refuse (λ q. never (sym (not-true _ (c .if1 .taken)) ∙ (rw (c .before .before .entry-at .ensures) at (c .before .masked-slot .ensures)) .1 (q .lm)))
+
+-- src/entries.rt:114:9
+returns-2 : tie.Need-returns-2
+returns-2 c = (λ z. record { lm = (rw (c .before .before .before .entry-at .ensures) at (c .before .before .masked-slot .ensures)) .0 (not-false _ (c .before .if1 .left)); ratio = λ k. absurd (omega (arith, c .if2 .taken)) }, λ q. refl)
+
+-- src/entries.rt:116:5
+ratio-ok-requires : tie.Need-ratio-ok-requires
+ratio-ok-requires c κs = ((c .before .before .before .before .before .pre .0), (c .before .before .before .before .before .pre .1 .0, ((omega (arith, c .if2 .left, (c .before .before .before .before .before .pre .0) .kind-to), (c .before .before .before .before .before .pre .1 .1 .0)), ((c .before .before .before .before .before .pre .1 .1 .1), (rw (c .before .before .before .entry-at .ensures) at (c .before .before .masked-slot .ensures)) .0 (not-false _ (c .before .if1 .left))))))
+
+-- src/entries.rt:100:1
+returns-3 : tie.Need-returns-3
+returns-3 c = (λ z. record { lm = (rw (c .before .before .before .before .entry-at .ensures) at (c .before .before .before .masked-slot .ensures)) .0 (not-false _ (c .before .before .if1 .left)); ratio = λ k. (c .ratio-ok .ensures .0) z }, λ q. (c .ratio-ok .ensures .1) (q .ratio (omega (arith, c .before .if2 .left, (c .before .before .before .before .before .before .pre .0) .kind-to))))
+
+pub entry-ok-spec : {M : Type 1} → statement M
+entry-ok-spec =
+    tie.close
+    (tie.spec
+    entry-at-requires
+    add-masked-slot
+    masked-slot-requires
+    returns
+    returns-2
+    ratio-ok-requires
+    returns-3)

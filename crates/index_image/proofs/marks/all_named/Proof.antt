@@ -1,0 +1,40 @@
+use mathlib.Core.Path.{_≡_, refl, sym, ap, _∙_}
+use lib.ListN.{length, getD}
+use Rattle.index_image.proofs.Marking.{blank-array, named-marked}
+use borrow.Author.Needs.{needs}
+use Rattle.index_image.proofs.marks.all_named.Statement.{statement}
+use Rattle.index_image.proofs.marks.all_named.Tie as tie
+use Rattle.index_image.proofs.marks.all_named.Reads as reads
+use Rattle.index_image.proofs.marks.all_named.Lts as lts
+use Rattle.index_image.proofs.marks.all_marked.Reads as all-marked-reads
+use Rattle.index_image.proofs.marks.mark.Reads as mark-reads
+
+-- src/marks.rt:64:27
+slice-aggregate-mark : tie.Need-slice-aggregate-mark
+slice-aggregate-mark c = search needs
+
+-- src/marks.rt:64:5
+mark-requires : tie.Need-mark-requires
+mark-requires c κs = ((c .before .before .pre .0 .0, (c .before .before .pre .0 .1 .0, c .before .before .pre .0 .1 .1 .0)), (c .before .before .pre .1 .0, (c .before .before .pre .1 .1, λ j. blank-array 4096 j)))
+
+-- src/marks.rt:65:16
+slice-aggregate-all-marked : tie.Need-slice-aggregate-all-marked
+slice-aggregate-all-marked c = search needs
+
+-- src/marks.rt:65:5
+all-marked-requires : tie.Need-all-marked-requires
+all-marked-requires c κs = search needs
+
+-- src/marks.rt:57:1
+returns : tie.Need-returns
+returns c = (λ z j h. (c .before .before .before .mark .ensures .only) j ((c .all-marked .ensures .0) z j h), λ q. (c .all-marked .ensures .1) (λ j h. named-marked _ _ _ _ _ (c .before .before .before .mark .ensures) j (q j h)))
+
+pub all-named-spec : {M : Type 1} → statement M
+all-named-spec =
+    tie.close
+    (tie.spec
+    slice-aggregate-mark
+    mark-requires
+    slice-aggregate-all-marked
+    all-marked-requires
+    returns)

@@ -1,0 +1,83 @@
+use native.Mathlib.Omega.{arith}
+use borrow.Author.Needs.{needs}
+use mathlib.Core.Path.{_≡_, refl, sym, _∙_}
+use Prim.Native.Nat.{ℕ, _+_, _-_, _*_, _<_, _≤_}
+use native.Mathlib.Numerals.{add-one}
+use lib.ListN.{length, length-set}
+use Rattle.words.specs.Words.{words}
+use Rattle.index_image.specs.Marks.{nameAt, Marked}
+use Rattle.index_image.proofs.Bounds.{times}
+use Rattle.index_image.proofs.Marking.{none-marked, one-more}
+use Rattle.index_image.proofs.marks.mark.Statement.{statement}
+use Rattle.index_image.proofs.marks.mark.Tie as tie
+use Rattle.index_image.proofs.marks.mark.Reads as reads
+use Rattle.index_image.proofs.marks.mark.Lts as lts
+use Rattle.words.proofs.get.Reads as get-reads
+
+abbrev Inv-loop : tie.InvT-loop
+Inv-loop image at w n seen₀ i₀ seen i = (i ≤ n) × ((length seen ≡ length seen₀) × Marked (words image) at w i seen)
+
+abbrev μ-loop : tie.MeasureT-loop
+μ-loop image at w n seen₀ i₀ seen i = n - i
+
+-- src/marks.rt:34:5
+loop-holds : tie.Need-loop-holds Inv-loop μ-loop
+loop-holds c = (omega arith, (refl, none-marked (words (c .before .before .args .image .now)) (c .before .before .args .at) (c .before .before .args .w) (c .before .before .args .seen .now) (c .before .before .pre .1 .1 .1)))
+
+-- src/marks.rt:35:40
+mul-get : tie.Need-mul-get Inv-loop μ-loop
+mul-get c = omega (arith, times (c .before .loop .i) (c .before .before .before .before .args .w) 4096 134 (omega (arith, c .before .before .before .before .pre .0 .0)) (c .before .before .before .before .pre .0 .1 .0))
+
+-- src/marks.rt:35:35
+add-get : tie.Need-add-get Inv-loop μ-loop
+add-get c = omega (arith, times (c .before .loop .i) (c .before .before .before .before .args .w) 4096 134 (omega (arith, c .before .before .before .before .pre .0 .0)) (c .before .before .before .before .pre .0 .1 .0), c .before .before .before .before .pre .0 .1 .1)
+
+-- src/marks.rt:35:17
+get-requires : tie.Need-get-requires Inv-loop μ-loop
+get-requires c κs = (c .before .before .before .before .pre .1 .0) (c .before .loop .i) (c .loop-test .taken)
+
+-- src/marks.rt:35:17
+cast-j : tie.Need-cast-j Inv-loop μ-loop
+cast-j c = search needs
+
+-- src/marks.rt:36:9
+slice-write-seen : tie.Need-slice-write-seen Inv-loop μ-loop
+slice-write-seen c = omega (arith, c .get .ensures, c .before .before .loop .inv .1 .0, (c .before .before .before .before .before .pre .1 .1 .0) (c .before .before .loop .i) (c .before .loop-test .taken))
+
+-- src/marks.rt:37:9
+add-i : tie.Need-add-i Inv-loop μ-loop
+add-i c = search needs
+
+-- src/marks.rt:34:5
+loop-less : tie.Need-loop-less Inv-loop μ-loop
+loop-less c = search needs
+
+-- src/marks.rt:34:5
+loop-again : tie.Need-loop-again Inv-loop μ-loop
+loop-again c = (omega arith, (simp length-set (c .before .before .loop .inv .1 .0), one-more (words (c .before .before .before .before .before .args .image .now)) (c .before .before .before .before .before .args .at) (c .before .before .before .before .before .args .w) (c .before .before .loop .i) (c .before .before .loop .seen) (c .get .result) (c .get .ensures) (omega (arith, c .get .ensures, c .before .before .loop .inv .1 .0, (c .before .before .before .before .before .pre .1 .1 .0) (c .before .before .loop .i) (c .before .loop-test .taken))) (c .before .before .loop .inv .1 .1)))
+
+-- src/marks.rt:26:1
+same-length : tie.Need-same-length Inv-loop μ-loop
+same-length c = c .before .loop .inv .1 .0
+
+-- src/marks.rt:26:1
+returns : tie.Need-returns Inv-loop μ-loop
+returns c = let e : (c .before .loop .i) ≡ (c .before .before .before .before .args .n) = omega arith in rw e at (c .before .loop .inv .1 .1)
+
+pub mark-spec : {M : Type 1} → statement M
+mark-spec =
+    tie.close
+    (tie.spec
+    Inv-loop
+    μ-loop
+    loop-holds
+    mul-get
+    add-get
+    get-requires
+    cast-j
+    slice-write-seen
+    add-i
+    loop-less
+    loop-again
+    same-length
+    returns)

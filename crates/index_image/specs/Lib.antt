@@ -1,0 +1,6 @@
+pub mod Layout
+pub mod Shape
+pub mod Walk
+pub mod Door
+pub mod Marks
+pub mod Head

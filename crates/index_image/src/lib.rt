@@ -1,0 +1,74 @@
+// The image of an index: where its tables are, and the door's question whether it is sound. docs/LAYOUT.md has the tables.
+pub mod entries;
+pub mod head;
+pub mod marks;
+
+ghost use mathlib.Core.Path.{_≡_};
+ghost use Prim.Native.Nat.{_≤_};
+ghost use Rattle.index_image.specs.Shape as at;
+
+// The numbers of an image's header. They say where its tables begin, in words.
+pub struct Shape {
+    pub kind: usize,
+    pub variables: usize,
+    pub capacity: usize,
+    pub entries: usize,
+    pub nodes: usize,
+}
+
+impl Shape {
+    pub fn entry_width(self) -> usize
+        requires { ⌜ at.InRange self ⌝ }
+        ensures { λ r. ⌜ r ≡ at.entryWidth self ⌝ }
+    {
+        (self.kind + 1) * (self.variables + 2) + 2 * self.kind
+    }
+
+    // Entry i.
+    pub fn entry_at(self, i: usize) -> usize
+        requires { ⌜ at.InRange self ⌝ }
+        requires { ⌜ i ≤ self .capacity ⌝ }
+        ensures { λ r. ⌜ r ≡ at.entryAt self i ⌝ }
+    {
+        16 + 2 * self.variables + i * self.entry_width()
+    }
+
+    // The permutation: the places of the entries, in the order of the leaves.
+    pub fn permutation_at(self) -> usize
+        requires { ⌜ at.InRange self ⌝ }
+        ensures { λ r. ⌜ r ≡ at.permutationAt self ⌝ }
+    {
+        self.entry_at(self.capacity)
+    }
+
+    pub fn labels_at(self) -> usize
+        requires { ⌜ at.InRange self ⌝ }
+        ensures { λ r. ⌜ r ≡ at.labelsAt self ⌝ }
+    {
+        self.permutation_at() + self.capacity
+    }
+
+    pub fn labels_size(self) -> usize
+        requires { ⌜ at.InRange self ⌝ }
+        ensures { λ r. ⌜ r ≡ at.labelsSize self ⌝ }
+    {
+        self.kind * (4 + self.capacity * (self.variables + 3) + self.capacity)
+    }
+
+    // Node k, in preorder.
+    pub fn node_at(self, k: usize) -> usize
+        requires { ⌜ at.InRange self ⌝ }
+        requires { ⌜ k ≤ 8191 ⌝ }
+        ensures { λ r. ⌜ r ≡ at.nodeAt self k ⌝ }
+    {
+        self.labels_at() + self.labels_size() + k * (self.variables + 6)
+    }
+
+    // The length of the image in words.
+    pub fn size(self) -> usize
+        requires { ⌜ at.InRange self ⌝ }
+        ensures { λ r. ⌜ r ≡ at.size self ⌝ }
+    {
+        self.node_at(2 * self.capacity - 1)
+    }
+}
