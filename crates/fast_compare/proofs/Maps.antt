@@ -16,12 +16,12 @@ use Rattle.monomial.specs.declared.monomial_ordering.CmpOrd.{CmpOrd}
 use Rattle.monomial.specs.declared.monomial_ordering.CmpOrd.the-variants.{Less, Equal, Greater}
 use Rattle.monomial.proofs.Lawful.{Lawful, compare-lawful, by-lawful, then-lawful}
 use Rattle.monomial.proofs.Laws.{order-lawful, order-equal, compare-same}
-use Rattle.fast_compare.specs.Labels.{known, free, half, rebuilt, Labelled}
+use Rattle.fast_compare.specs.Labels.{sorted, known, free, half, rebuilt, Labelled}
 use Rattle.fast_compare.specs.Map.{Value, cmp, Good, Row, State, row, value, label, Valid, given, answer, stored, after, relabelled, rebuild}
 use Rattle.fast_compare.specs.declared.Comparer.{Comparer}
 use Rattle.fast_compare.specs.declared.Comparer.the-variants.{Known, New, Full, NoLabel}
 use Rattle.words.proofs.Tables.{never}
-use Rattle.fast_compare.proofs.Ranks.{less-equal, equal-greater, self}
+use Rattle.fast_compare.proofs.Ranks.{less-equal, equal-greater, self, sorted-ext}
 use Rattle.fast_compare.proofs.Neighbours.{known-none, none-known, some-known}
 use Rattle.fast_compare.proofs.Rising.{Between, free-iff, half-between, insert-labelled, rebuilt-labelled, rebuilt-free}
 
@@ -301,3 +301,10 @@ module _ (st : State) (q : Value) (val : Valid st) (good : Good (st .variables) 
 
   pub old-known : (i : ℕ) → i < length (st .rows) → answer (after st q) (value (st .rows) i) ≡ Known (label (st .rows) i)
   old-known i h = rw after-new (known-label next (value (st .rows) i) next-valid i (omega (arith, length-next)) (value-old (st .rows) _ i h) ∙ rw (label-old (st .rows) (record { value = q; label = x }) i h))
+
+-- a rebuild keeps the order: the same rows at the same places
+pub rebuild-order : (st : State) → sorted cmp (value (rebuild st .rows)) (length (rebuild st .rows)) ≡ sorted cmp (value (st .rows)) (length (st .rows))
+unfolding rebuild
+rebuild-order st =
+    let l = rebuilt cmp (value (st .rows)) (length (st .rows)) in
+    rw (length-relabelled l (st .rows)) (sorted-ext cmp-lawful (value (relabelled l (st .rows))) (value (st .rows)) (length (st .rows)) (λ i h. value-relabelled l (st .rows) i))
