@@ -1,9 +1,7 @@
 -- Document 01's worked labels, on values that are numbers. Assumes nothing.
 use mathlib.Core.Path.{_≡_, refl}
-use mathlib.Core.Bool.{Bool, true, false}
-use mathlib.Core.List.{List, [], _∷_, _++_}
-use Prim.Native.Nat.{ℕ, zero, suc, _+_}
-use lib.Dec.{ltb}
+use mathlib.Core.List.{List, [], _∷_}
+use Prim.Native.Nat.{ℕ}
 use lib.ListN.{length, getD}
 use Rattle.monomial.specs.Order.{compare}
 use Rattle.fast_compare.specs.Labels.{count, below, greater, nearest, floor, ceiling, lowest, highest, half, rebuilt}

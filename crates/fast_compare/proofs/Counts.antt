@@ -4,13 +4,11 @@ use mathlib.Core.Bool.{Bool, true, false, cond, _||_}
 use mathlib.Core.Option.{Option, none, some}
 use Prim.Native.Nat.{ℕ, zero, suc, _+_, _≤_, _<_}
 use native.Mathlib.Omega.{arith}
-use native.Mathlib.Decide.{ℕ-discrete, decLe}
+use native.Mathlib.Decide.{ℕ-discrete}
 use lib.Dec.{eqb}
 use borrow.Author.Tests.{eq-eqb, eqb-true}
+use Rattle.words.proofs.Tables.{never}
 use Rattle.fast_compare.specs.Labels.{one, count, pick}
-
-pub never : {X : Type 0} → false ≡ true → X
-never e = absurd (let z : _≡_ {A = ℕ} 0 1 = cc in omega arith)
 
 pub count-suc : (n : ℕ) (p : ℕ → Bool) → count (suc n) p ≡ one (p n) + count n p
 unfolding count

@@ -1,23 +1,22 @@
 -- The checks pass exactly for the image of a valid map; that image is one, and its bytes hold one state. Assumes nothing.
-use mathlib.Core.Path.{_≡_, refl, sym, ap, _∙_, subst}
-use mathlib.Core.List.{List, [], _∷_, _++_}
+use mathlib.Core.Path.{_≡_, refl, sym, ap, _∙_}
+use mathlib.Core.List.{List, [], _∷_}
 use mathlib.Core.Logic.{_↔_}
-use Prim.Native.Nat.{ℕ, zero, suc, _+_, _-_, _*_, _/_, _^_, _≤_, _<_}
+use Prim.Native.Nat.{ℕ, _+_, _-_, _*_, _/_, _^_, _≤_, _<_}
 use native.Mathlib.Omega.{arith}
-use lib.ListN.{length, getD, take, drop, length-append}
+use lib.ListN.{length, getD, drop}
 use lib.Seq.{ext-getD}
-use Rattle.words.specs.Kinds.{indexWord}
 use Rattle.words.specs.Words.{words, pasteW}
-use Rattle.words.specs.Tables.{part, zeros, table}
-use Rattle.words.proofs.Laws.{Words, Bytes, length-words, words-pasteW, length-pasteW}
+use Rattle.words.specs.Tables.{part, table}
+use Rattle.words.proofs.Laws.{Words, length-words, words-pasteW, length-pasteW}
 use Rattle.monomial.proofs.Canon.{canon-of}
 use Rattle.words.proofs.Tables.{part-mid, Small, small-append, small-nil, small-cons, small-zeros, small-table, small-each, table-iff, row-fits, split-rows, length-table}
 use Rattle.fast_compare.specs.Labels.{sorted, Labelled}
 use Rattle.fast_compare.specs.Map.{Value, cmp, Good, Row, State, row, value, label, Valid}
-use Rattle.fast_compare.specs.Layout.{rowWords, encode, size, rowAt, orderAt, Is, Sound, SoundFor, valueAt, RowOk, TablesOk, HeadOk}
-use Rattle.fast_compare.proofs.Ranks.{Ranked, sorted-ranked, sorted-ext, ranked-unique}
+use Rattle.fast_compare.specs.Layout.{rowWords, encode, size, rowAt, orderAt, Is, SoundFor, valueAt, TablesOk, HeadOk}
+use Rattle.fast_compare.proofs.Ranks.{sorted-ranked, sorted-ext, ranked-unique}
 use Rattle.fast_compare.proofs.Maps.{cmp-lawful}
-use Rattle.fast_compare.proofs.Images.{canon-small, of-row, four, together, Pieces, ranked, rows-long, encode-length, header, row-is, tables, found-ranked, found-distinct, found-labelled, rowsTo, length-rowsTo, row-rowsTo, length-row}
+use Rattle.fast_compare.proofs.Images.{canon-small, of-row, four, together, ranked, encode-length, header, row-is, tables, found-ranked, found-distinct, found-labelled, rowsTo, length-rowsTo, row-rowsTo, length-row}
 
 -- ---- what passes
 module _ (W : List ℕ) (m c : ℕ) (len : ℕ) (small : Words W) (lw : length W ≡ len / 4) (hd : HeadOk W m c len) (ok : TablesOk W m c (getD W 3 0)) where

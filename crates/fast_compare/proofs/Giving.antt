@@ -1,25 +1,23 @@
 -- From the place of a value to its neighbours' labels and the answer. Assumes nothing.
 use mathlib.Core.Path.{_≡_, refl, sym, ap, _∙_}
-use mathlib.Core.Bool.{Bool, true, false}
+use mathlib.Core.Bool.{true, false}
 use mathlib.Core.List.{List}
 use mathlib.Core.Option.{Option, none, some}
-use Prim.Native.Nat.{ℕ, _+_, _-_, _*_, _/_, _≤_, _<_}
+use Prim.Native.Nat.{ℕ, _+_, _-_, _/_, _≤_, _<_}
 use native.Mathlib.Omega.{arith}
-use lib.Dec.{ltb}
 use lib.ListN.{length, getD}
 use borrow.Author.Tests.{lt-ltb, le-ltb}
 use Rattle.words.specs.Words.{pasteW}
 use Rattle.words.proofs.Laws.{Bytes}
-use Rattle.monomial.specs.declared.monomial_ordering.CmpOrd.the-variants.{Less, Equal}
-use Rattle.fast_compare.specs.Labels.{below, known, nearest, floor, ceiling, lowest, highest, free, half, sorted}
-use Rattle.fast_compare.specs.Map.{Value, cmp, Good, State, value, label, Valid, placed, place, answer, stored, after}
+use Rattle.fast_compare.specs.Labels.{below, known, floor, ceiling, lowest, highest, free, half, sorted}
+use Rattle.fast_compare.specs.Map.{Value, cmp, State, value, label, Valid, placed, place, answer, stored}
 use Rattle.fast_compare.specs.Layout.{encode, Is, Gave}
 use Rattle.fast_compare.specs.declared.Comparer.{Comparer}
 use Rattle.fast_compare.specs.declared.Comparer.the-variants.{Known, New, Full, NoLabel}
 use Rattle.fast_compare.specs.declared.Place.the-variants.{At, Before}
 use Rattle.fast_compare.proofs.Ranks.{below-alike, below-most, below-top, place-of}
 use Rattle.fast_compare.proofs.Neighbours.{none-known, some-known, lower-none, lower-at, upper-at, upper-none}
-use Rattle.fast_compare.proofs.Maps.{cmp-lawful, answer-known, answer-full, answer-none, answer-new, after-as, stored-same, known-same}
+use Rattle.fast_compare.proofs.Maps.{cmp-lawful, answer-known, answer-full, answer-none, answer-new, after-as, stored-same}
 use Rattle.fast_compare.proofs.Images.{ranked}
 use Rattle.fast_compare.proofs.Storing.{holds}
 

@@ -1,26 +1,24 @@
 -- The image of a map by its words, table by table. Assumes nothing.
 use mathlib.Core.Path.{_≡_, refl, sym, ap, _∙_}
 use mathlib.Core.List.{List, [], _∷_, _++_}
-use mathlib.Core.Logic.{_⊎_, inl, inr, _↔_}
-use Prim.Native.Nat.{ℕ, zero, suc, _+_, _-_, _*_, _/_, _%_, _^_, _≤_, _<_}
+use mathlib.Core.Logic.{_⊎_, inl, inr}
+use Prim.Native.Nat.{ℕ, zero, suc, _+_, _-_, _*_, _≤_, _<_}
 use native.Mathlib.Omega.{arith}
-use native.Mathlib.Decide.{decLt, ℕ-discrete}
-use lib.ListN.{length, getD, take, drop, length-append, length-take, length-drop, take-append-drop}
-use lib.Seq.{length-take-le, drop-drop, ext-getD}
-use Rattle.words.specs.Kinds.{kind, payload, ident, indexWord}
-use Rattle.words.specs.Words.{words, pasteW}
+use lib.ListN.{length, getD, take, drop, length-append, length-drop, take-append-drop}
+use lib.Seq.{length-take-le}
+use Rattle.words.specs.Kinds.{payload, ident, indexWord}
 use Rattle.words.specs.Tables.{part, zeros, table}
-use Rattle.words.proofs.Laws.{Words, Bytes, length-words, words-small, words-pasteW, length-pasteW}
-use Rattle.words.proofs.Tables.{length-part, part-get, part-nil, part-cons, part-one, part-append, part-mid, length-zeros, zeros-get, length-table, table-iff, row-fits, split-rows}
+use Rattle.words.proofs.Laws.{Words}
+use Rattle.words.proofs.Tables.{length-part, part-get, part-nil, part-cons, part-one, part-append, length-zeros, length-table, table-iff, row-fits, split-rows}
 use Rattle.monomial.specs.Monomial.{front, Canonical}
-use Rattle.monomial.specs.declared.monomial_ordering.CmpOrd.the-variants.{Less, Equal}
-use Rattle.monomial.proofs.Canon.{Canon, IsVar, IsEnd, canon-of, front-short}
+use Rattle.monomial.specs.declared.monomial_ordering.CmpOrd.the-variants.{Less}
+use Rattle.monomial.proofs.Canon.{Canon, IsVar, IsEnd, front-short}
 use Rattle.monomial.proofs.Powers.{canonical-powers, monomial-length, absent-above}
 use Rattle.monomial.proofs.Laws.{front-canonical, canonical-front}
-use Rattle.fast_compare.specs.Labels.{top, below, sorted, Labelled}
+use Rattle.fast_compare.specs.Labels.{below, sorted, Labelled}
 use Rattle.fast_compare.specs.Map.{Value, cmp, Good, Row, State, row, value, label, Valid}
-use Rattle.fast_compare.specs.Layout.{rowWords, encode, size, rowAt, orderAt, Is, Sound, SoundFor, ratioWords, valueAt, RowOk, Rises, OrderOk, TablesOk, HeadOk}
-use Rattle.fast_compare.proofs.Ranks.{by-cases, below-less, below-top, Distinct, Ranked, less-place, place-of, sorted-ranked, sorted-ext, ranked-unique, rising-ranked, rising-distinct}
+use Rattle.fast_compare.specs.Layout.{rowWords, encode, size, rowAt, orderAt, ratioWords, valueAt, RowOk, Rises, TablesOk}
+use Rattle.fast_compare.proofs.Ranks.{below-less, below-top, Distinct, Ranked, less-place, place-of, sorted-ranked, rising-ranked, rising-distinct}
 use Rattle.fast_compare.proofs.Maps.{cmp-lawful}
 
 -- ---- canonical ratios

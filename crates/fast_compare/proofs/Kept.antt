@@ -1,23 +1,22 @@
 -- Calls keep a map sound, and what its place says of a query against every row. Assumes nothing.
-use mathlib.Core.Path.{_≡_, refl, sym, ap, _∙_}
+use mathlib.Core.Path.{_≡_, refl}
 use mathlib.Core.List.{List}
 use mathlib.Core.Logic.{_↔_}
 use mathlib.Core.Bool.{Bool, true, false, cond}
-use Prim.Native.Nat.{ℕ, _+_, _*_, _≤_, _<_}
+use Prim.Native.Nat.{ℕ, _≤_, _<_}
 use native.Mathlib.Omega.{arith}
 use lib.ListN.{length, getD}
 use Rattle.words.specs.Words.{words, pasteW}
 use Rattle.monomial.specs.Order.{compare}
-use Rattle.monomial.specs.declared.monomial_ordering.CmpOrd.the-variants.{Less, Equal}
-use Rattle.fast_compare.specs.Labels.{below, sorted}
+use Rattle.monomial.specs.declared.monomial_ordering.CmpOrd.the-variants.{Less}
+use Rattle.fast_compare.specs.Labels.{sorted}
 use Rattle.fast_compare.specs.Map.{Value, valueOf, cmp, Good, State, value, label, Valid, place, answer, stored, after, rebuild}
-use Rattle.fast_compare.specs.Layout.{encode, size, Is, Sound, Gave}
-use Rattle.fast_compare.specs.Door.{valueLent, left, Asking, Replied, Rebuilt}
+use Rattle.fast_compare.specs.Layout.{encode, Is, Gave}
+use Rattle.fast_compare.specs.Door.{valueLent, left, Asking, Rebuilt}
 use Rattle.fast_compare.specs.declared.Comparer.{Comparer}
 use Rattle.fast_compare.specs.declared.Comparer.the-variants.{Known, New, Full, NoLabel}
 use Rattle.fast_compare.specs.declared.doors.Answer.{Answer}
 use Rattle.fast_compare.specs.declared.Place.the-variants.{At, Before}
-use Rattle.fast_compare.proofs.Ranks.{below-most}
 use Rattle.fast_compare.proofs.Neighbours.{none-known, some-known}
 use Rattle.fast_compare.proofs.Rising.{compare-at, compare-before, compare-last}
 use Rattle.fast_compare.proofs.Maps.{cmp-lawful, after-valid, rebuild-valid}

@@ -1,14 +1,22 @@
+-- The theory, over any total order:
 -- `Counts`, `Ranks`: counting, and the sorted order by rank. `Neighbours`: the values next to a value, found by rank.
 -- `Rising`: labels rise with values, kept by an insert and by a rebuild, which leaves room everywhere.
--- `Maps`: the map stays valid, and what its answers mean.
+-- `Cases`: document 01's worked labels.
 pub mod Counts
 pub mod Ranks
 pub mod Neighbours
 pub mod Rising
-pub mod Maps
 pub mod Cases
+-- The map and its image:
+-- `Maps`: the map stays valid, and what its answers mean. `Images`, `Exact`: the checks pass exactly for a valid map's image.
+-- `Kept`: calls keep a map sound, and a query's place compares as its value.
+pub mod Maps
 pub mod Images
 pub mod Exact
+pub mod Kept
+-- The code's steps:
+-- `Scans`, `Reading`, `Checks`: reading rows, searching, checking. `Storing`, `Giving`: a label given. `Respacing`: rebuild.
+-- `Opening`, `Replies`: the doors.
 pub mod Scans
 pub mod Checks
 pub mod Reading
@@ -17,4 +25,3 @@ pub mod Giving
 pub mod Respacing
 pub mod Opening
 pub mod Replies
-pub mod Kept

@@ -1,31 +1,29 @@
 -- The label map stays valid, and what its answers mean. Assumes nothing.
 use mathlib.Core.Path.{_≡_, refl, sym, ap, _∙_}
-use mathlib.Core.Bool.{Bool, true, false, cond}
+use mathlib.Core.Bool.{Bool, true, false}
 use mathlib.Core.Option.{Option, none, some}
 use mathlib.Core.List.{List, [], _∷_, _++_}
 use mathlib.Core.Logic.{_↔_}
-use Prim.Native.Nat.{ℕ, zero, suc, _+_, _*_, _≤_, _<_}
+use Prim.Native.Nat.{ℕ, zero, suc, _+_, _≤_, _<_}
 use native.Mathlib.Omega.{arith}
 use native.Mathlib.Decide.{decLt}
 use lib.Dec.{ltb}
-use lib.ListN.{length, getD, length-append, List·getD-append}
+use lib.ListN.{length, length-append, List·getD-append}
 use lib.Seq.{getD-at}
 use borrow.Author.Tests.{ltb-true, ltb-false, lt-ltb, le-ltb}
-use Rattle.monomial.specs.Monomial.{Canonical}
 use Rattle.monomial.specs.Order.{compare, andThen, order}
 use Rattle.monomial.specs.declared.monomial_ordering.CmpOrd.{CmpOrd}
 use Rattle.monomial.specs.declared.monomial_ordering.CmpOrd.the-variants.{Less, Equal, Greater}
 use Rattle.monomial.proofs.Lawful.{Lawful, compare-lawful, by-lawful, then-lawful}
 use Rattle.monomial.proofs.Laws.{order-lawful, order-equal, compare-same}
-use Rattle.fast_compare.specs.Labels.{top, below, known, free, half, sorted, rebuilt, Labelled}
-use Rattle.fast_compare.specs.Map.{Value, cmp, Good, Row, State, row, value, label, Valid, placed, place, given, answer, stored, after, relabelled, rebuild}
+use Rattle.fast_compare.specs.Labels.{sorted, known, free, half, rebuilt, Labelled}
+use Rattle.fast_compare.specs.Map.{Value, cmp, Good, Row, State, row, value, label, Valid, given, answer, stored, after, relabelled, rebuild}
 use Rattle.fast_compare.specs.declared.Comparer.{Comparer}
 use Rattle.fast_compare.specs.declared.Comparer.the-variants.{Known, New, Full, NoLabel}
-use Rattle.fast_compare.specs.declared.Place.the-variants.{At, Before}
-use Rattle.fast_compare.proofs.Counts.{never}
-use Rattle.fast_compare.proofs.Ranks.{less-equal, equal-greater, self, below-ext}
+use Rattle.words.proofs.Tables.{never}
+use Rattle.fast_compare.proofs.Ranks.{less-equal, equal-greater, self, sorted-ext}
 use Rattle.fast_compare.proofs.Neighbours.{known-none, none-known, some-known}
-use Rattle.fast_compare.proofs.Rising.{Between, free-iff, half-between, insert-labelled, labels-compare, rebuilt-labelled, rebuilt-free}
+use Rattle.fast_compare.proofs.Rising.{Between, free-iff, half-between, insert-labelled, rebuilt-labelled, rebuilt-free}
 
 -- ---- values
 pub cmp-lawful : Lawful cmp
@@ -209,7 +207,7 @@ module _ (st : State) (q : Value) where
     never-empty e z =
         no-label-iff .0 z .1 0 (record { over = λ i h. absurd (omega arith); under = λ i h. absurd (omega arith); small = omega arith })
 
-    -- a value found or stored is known after, by the label answered
+    -- a new value with a label between its neighbours' keeps the map valid
     new-valid : Good (st .variables) q → (x : ℕ) → known cmp f n q ≡ none → n < st .capacity → Between cmp f l n q x → Valid (stored (New x) st q)
     new-valid g x e h b =
         let rs = st .rows in
@@ -303,3 +301,10 @@ module _ (st : State) (q : Value) (val : Valid st) (good : Good (st .variables) 
 
   pub old-known : (i : ℕ) → i < length (st .rows) → answer (after st q) (value (st .rows) i) ≡ Known (label (st .rows) i)
   old-known i h = rw after-new (known-label next (value (st .rows) i) next-valid i (omega (arith, length-next)) (value-old (st .rows) _ i h) ∙ rw (label-old (st .rows) (record { value = q; label = x }) i h))
+
+-- a rebuild keeps the order: the same rows at the same places
+pub rebuild-order : (st : State) → sorted cmp (value (rebuild st .rows)) (length (rebuild st .rows)) ≡ sorted cmp (value (st .rows)) (length (st .rows))
+unfolding rebuild
+rebuild-order st =
+    let l = rebuilt cmp (value (st .rows)) (length (st .rows)) in
+    rw (length-relabelled l (st .rows)) (sorted-ext cmp-lawful (value (relabelled l (st .rows))) (value (st .rows)) (length (st .rows)) (λ i h. value-relabelled l (st .rows) i))

@@ -11,8 +11,9 @@ use Rattle.monomial.specs.declared.monomial_ordering.CmpOrd.{CmpOrd}
 use Rattle.monomial.specs.declared.monomial_ordering.CmpOrd.the-variants.{Less, Equal, Greater}
 use Rattle.monomial.proofs.Lawful.{Lawful, reverse-lawful}
 use Rattle.fast_compare.specs.Labels.{isLess, isEqual, below, known, greater, nearest}
-use Rattle.fast_compare.proofs.Counts.{never, pick-none, none-pick, some-pick, pick-only, pick-ext}
-use Rattle.fast_compare.proofs.Ranks.{less-equal, less-greater, is-less, is-equal, self, turn, turn-less, turn-equal, by-cases, below-less, below-mono, below-most, below-alike, below-top, place-of, Distinct, Ranked, place-less, place-equal, place-greater, less-place}
+use Rattle.words.proofs.Tables.{never}
+use Rattle.fast_compare.proofs.Counts.{pick-none, none-pick, some-pick, pick-only}
+use Rattle.fast_compare.proofs.Ranks.{less-equal, is-less, is-equal, self, turn-equal, by-cases, below-less, below-mono, below-most, below-alike, below-top, place-of, Distinct, Ranked, place-less, less-place}
 
 not-less : (o : CmpOrd) → isLess o ≡ false → o ≡ Less → ⊥
 not-less o e h = never (sym e ∙ ap isLess h)

@@ -1,16 +1,16 @@
 -- The image of an empty map. Assumes nothing.
-use mathlib.Core.Path.{_≡_, refl, sym, ap, _∙_}
+use mathlib.Core.Path.{_≡_, sym, ap, _∙_}
 use mathlib.Core.List.{List, [], _∷_, _++_}
-use Prim.Native.Nat.{ℕ, _+_, _-_, _*_, _≤_, _<_}
+use Prim.Native.Nat.{ℕ, _+_, _-_, _*_, _≤_}
 use native.Mathlib.Omega.{arith}
 use lib.ListN.{length}
 use Rattle.words.specs.Words.{putW, pasteW}
 use Rattle.words.specs.Tables.{zeros, table}
-use Rattle.words.proofs.Laws.{pasteW-nil, pasteW-snoc}
-use Rattle.words.proofs.Tables.{zeros-nil, zeros-suc, zeros-add, table-none, putW-paste, pasteW-append}
+use Rattle.words.proofs.Laws.{pasteW-snoc}
+use Rattle.words.proofs.Tables.{zeros-nil, zeros-suc, zeros-add, putW-paste, pasteW-append}
 use Rattle.fast_compare.specs.Labels.{sorted}
-use Rattle.fast_compare.specs.Map.{Asked, State, Valid, empty}
-use Rattle.fast_compare.specs.Layout.{encode, size, Is, Sound}
+use Rattle.fast_compare.specs.Map.{Asked, Valid, empty}
+use Rattle.fast_compare.specs.Layout.{encode, size, Is}
 use Rattle.fast_compare.proofs.Exact.{pasted}
 
 pub empty-words : (m c : ℕ) → encode (empty m c) ≡ (1 ∷ m ∷ c ∷ []) ++ zeros (1 + c * (m + 3) + c)

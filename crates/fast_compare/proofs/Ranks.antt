@@ -1,17 +1,18 @@
 -- Values by rank: how many lie below. The sorted order of the rows is the one list whose k-th row has k values below it. Assumes nothing.
 use mathlib.Core.Path.{_≡_, refl, sym, ap, _∙_}
-use mathlib.Core.Bool.{Bool, true, false}
-use mathlib.Core.List.{List, [], _∷_, _++_}
+use mathlib.Core.Bool.{Bool, true}
+use mathlib.Core.List.{List, _∷_, _++_}
 use Prim.Native.Nat.{ℕ, zero, suc, _+_, _-_, _≤_, _<_}
 use native.Mathlib.Omega.{arith}
-use native.Mathlib.Decide.{ℕ-discrete, decLe, decLt}
+use native.Mathlib.Decide.{ℕ-discrete, decLt}
 use lib.ListN.{length, getD, take, drop, length-append, length-take, length-drop, List·getD-append}
 use lib.Seq.{ext-getD, getD-take, getD-drop, getD-append-add, length-take-le}
 use Rattle.monomial.specs.declared.monomial_ordering.CmpOrd.{CmpOrd}
 use Rattle.monomial.specs.declared.monomial_ordering.CmpOrd.the-variants.{Less, Equal, Greater}
 use Rattle.monomial.proofs.Lawful.{Lawful, flip, alike-right}
 use Rattle.fast_compare.specs.Labels.{isLess, isEqual, one, count, insertAt, below, sorted}
-use Rattle.fast_compare.proofs.Counts.{never, count-suc, count-ext, count-most, count-le, count-lt, count-two, count-some}
+use Rattle.words.proofs.Tables.{never}
+use Rattle.fast_compare.proofs.Counts.{count-suc, count-ext, count-most, count-le, count-lt, count-two}
 
 -- ---- comparisons and their tests
 pub less-equal : {X : Type 0} → Less ≡ Equal → X

@@ -1,8 +1,8 @@
 -- What a sound map's words say of its state, and the binary search in its order. Assumes nothing.
-use mathlib.Core.Path.{_≡_, refl, sym, ap, _∙_}
+use mathlib.Core.Path.{_≡_, sym, ap, _∙_}
 use mathlib.Core.List.{List}
-use mathlib.Core.Option.{Option, none, some}
-use Prim.Native.Nat.{ℕ, suc, _+_, _-_, _*_, _/_, _≤_, _<_}
+use mathlib.Core.Option.{some}
+use Prim.Native.Nat.{ℕ, _+_, _-_, _*_, _/_, _≤_, _<_}
 use native.Mathlib.Nat.{mul-le-mul-right}
 use native.Mathlib.Omega.{arith}
 use lib.ListN.{length, getD}
@@ -10,15 +10,15 @@ use Rattle.words.specs.Words.{words}
 use Rattle.words.proofs.Tables.{row-fits}
 use Rattle.monomial.specs.declared.monomial_ordering.CmpOrd.{CmpOrd}
 use Rattle.monomial.specs.declared.monomial_ordering.CmpOrd.the-variants.{Less, Equal, Greater}
-use Rattle.fast_compare.specs.Labels.{below, known, sorted}
-use Rattle.fast_compare.specs.Map.{Value, cmp, State, row, value, label, placed, place}
-use Rattle.fast_compare.specs.Layout.{size, rowAt, orderAt, Is, Sound, ratioWords, valueAt, HasRatio}
+use Rattle.fast_compare.specs.Labels.{below, sorted}
+use Rattle.fast_compare.specs.Map.{Value, cmp, State, value, label, placed, place}
+use Rattle.fast_compare.specs.Layout.{size, Is, Sound, ratioWords, valueAt, HasRatio}
 use Rattle.fast_compare.specs.declared.Place.the-variants.{At, Before}
 use Rattle.fast_compare.proofs.Checks.{rows-small}
 use Rattle.fast_compare.proofs.Ranks.{less-equal, turn, turn-equal, below-most, place-less, place-equal, place-greater}
 use Rattle.fast_compare.proofs.Neighbours.{known-at, known-none, new-at}
 use Rattle.fast_compare.proofs.Maps.{cmp-lawful}
-use Rattle.fast_compare.proofs.Images.{ranked, header, row-is, row-fit, order-get, order-inside}
+use Rattle.fast_compare.proofs.Images.{ranked, header, row-is, order-get}
 use Rattle.fast_compare.proofs.Exact.{fits-words, head-of, count-of}
 
 -- the numbers of the header, m variables, capacity c and n rows, and that what they name fits

@@ -1,26 +1,25 @@
 -- What the doors answer, case by case. Assumes nothing.
 use mathlib.Core.Path.{_≡_, refl, sym, ap, _∙_}
-use mathlib.Core.Bool.{Bool, true, false, cond, _&&_}
+use mathlib.Core.Bool.{Bool, true, false, _&&_}
 use mathlib.Core.List.{List}
 use mathlib.Core.Logic.{_↔_}
-use Prim.Native.Nat.{ℕ, _+_, _*_, _≤_, _<_}
+use Prim.Native.Nat.{ℕ, _*_, _≤_, _<_}
 use native.Mathlib.Omega.{arith}
-use lib.Dec.{leb, ltb, eqb}
-use lib.ListN.{length, getD}
-use borrow.Author.Tests.{leb-true, le-leb, lt-leb, ltb-true, lt-ltb, le-ltb, eq-eqb}
+use lib.Dec.{leb, ltb}
+use lib.ListN.{length}
+use borrow.Author.Tests.{leb-true, le-leb, lt-leb, ltb-true, lt-ltb, le-ltb}
 use Rattle.words.specs.Words.{words, pasteW}
 use Rattle.words.proofs.Laws.{Bytes}
-use Rattle.words.proofs.Tables.{never}
 use Rattle.monomial.specs.Monomial.{lent}
 use Rattle.monomial.proofs.Canon.{both-true}
 use Rattle.monomial.proofs.Laws.{lent-canonical}
-use Rattle.fast_compare.specs.Map.{Value, valueOf, Good, Asked, State, answer, stored, after, empty, rebuild}
+use Rattle.fast_compare.specs.Map.{Value, valueOf, Good, Asked, State, empty, rebuild}
 use Rattle.fast_compare.specs.Layout.{encode, size, Is, Sound, Gave}
-use Rattle.fast_compare.specs.Door.{refusal, askedFor, lengthFor, openingFor, openedBytes, number, told, valueLent, asked, left, Asking, Replied, Rebuilt}
+use Rattle.fast_compare.specs.Door.{askedFor, lengthFor, openingFor, openedBytes, number, told, valueLent, asked, left, Asking, Replied, Rebuilt}
 use Rattle.fast_compare.specs.declared.Comparer.{Comparer}
-use Rattle.fast_compare.specs.declared.Comparer.the-variants.{Known, New, Full, NoLabel}
+use Rattle.fast_compare.specs.declared.Comparer.the-variants.{New}
 use Rattle.fast_compare.specs.declared.doors.Answer.{Answer}
-use Rattle.fast_compare.specs.declared.doors.Answer.the-variants.{Label, Unsound, BadValue, NoRoom, NoFree}
+use Rattle.fast_compare.specs.declared.doors.Answer.the-variants.{Label, Unsound, BadValue}
 use Rattle.fast_compare.proofs.Maps.{after-as, stored-same}
 use Rattle.fast_compare.proofs.Storing.{holds}
 

@@ -1,27 +1,27 @@
 -- A rebuild, row by row in rising order of value. Assumes nothing.
 use mathlib.Core.Path.{_≡_, refl, sym, ap, _∙_}
-use mathlib.Core.Bool.{Bool, true, false, cond}
-use mathlib.Core.List.{List, [], _∷_, _++_, append-assoc, append-nil}
-use Prim.Native.Nat.{ℕ, zero, suc, _+_, _-_, _*_, _/_, _^_, _≤_, _<_}
+use mathlib.Core.Bool.{cond}
+use mathlib.Core.List.{List, [], _∷_, _++_, append-assoc}
+use Prim.Native.Nat.{ℕ, _+_, _-_, _*_, _^_, _≤_, _<_}
 use native.Mathlib.Omega.{arith}
-use native.Mathlib.Decide.{ℕ-discrete, decLt}
+use native.Mathlib.Decide.{decLt}
 use lib.Dec.{ltb}
-use lib.ListN.{length, getD, set, length-append}
+use lib.ListN.{length, getD, length-append}
 use lib.Seq.{getD-set-other}
 use borrow.Author.Tests.{lt-ltb, le-ltb}
 use Rattle.words.specs.Kinds.{indexWord}
 use Rattle.words.specs.Words.{words, putW, pasteW}
-use Rattle.words.specs.Tables.{part, zeros, table, over}
+use Rattle.words.specs.Tables.{zeros, table, over}
 use Rattle.words.proofs.Laws.{Bytes, words-putW, length-putW}
 use Rattle.words.proofs.Tables.{length-zeros, length-table, table-agree, split-rows, row-fits, over-mid, over-inside, over-table}
 use Rattle.fast_compare.specs.Labels.{below, sorted, spaced, rebuilt}
 use Rattle.fast_compare.specs.Map.{Value, cmp, Good, Row, State, row, value, label, Valid, relabelled, rebuild}
-use Rattle.fast_compare.specs.Layout.{rowWords, encode, size, rowAt, orderAt, Is, Sound}
+use Rattle.fast_compare.specs.Layout.{rowWords, encode, size, rowAt, Is, Sound}
 use Rattle.fast_compare.proofs.Ranks.{below-top, place-of, sorted-ext}
 use Rattle.fast_compare.proofs.Maps.{cmp-lawful, length-relabelled, value-relabelled, label-relabelled}
-use Rattle.fast_compare.proofs.Images.{ratio-length, length-row, ranked, encode-length}
+use Rattle.fast_compare.proofs.Images.{ratio-length, length-row, ranked}
 use Rattle.fast_compare.proofs.Exact.{count-of}
-use Rattle.fast_compare.proofs.Reading.{Head, HeadOf, head, vars-of, cap-of, place-at, place-inside, row-used}
+use Rattle.fast_compare.proofs.Reading.{HeadOf, head, vars-of, cap-of, place-at, place-inside, row-used}
 use Rattle.fast_compare.proofs.Storing.{holds, put-wrote}
 
 -- the image of a map with other labels

@@ -1,24 +1,24 @@
 -- Labels rise strictly with values: kept by an insert and by a rebuild, after which a label is free next to every value. Assumes nothing.
-use mathlib.Core.Path.{_≡_, refl, sym, ap, _∙_}
-use mathlib.Core.Bool.{Bool, true, false}
+use mathlib.Core.Path.{_≡_, sym, ap, _∙_}
+use mathlib.Core.Bool.{true}
 use mathlib.Core.Option.{Option, none, some}
 use mathlib.Core.List.{List}
 use mathlib.Core.Logic.{_↔_}
-use Prim.Native.Nat.{ℕ, zero, suc, _+_, _-_, _*_, _/_, _≤_, _<_}
-use native.Mathlib.Nat.{le-div-iff-mul-le, div-lt-iff-lt-mul, div-mul-le-self, mul-le-mul-left, mul-le-mul-right, add-mul, mul-comm}
+use Prim.Native.Nat.{ℕ, suc, _+_, _-_, _*_, _/_, _≤_, _<_}
+use native.Mathlib.Nat.{le-div-iff-mul-le, div-lt-iff-lt-mul, div-mul-le-self, mul-le-mul-left, add-mul}
 use native.Mathlib.Omega.{arith}
-use native.Mathlib.Decide.{ℕ-discrete, decLt, decLe}
+use native.Mathlib.Decide.{decLt}
 use lib.Dec.{ltb}
 use lib.ListN.{getD}
 use borrow.Author.Tests.{ltb-true, lt-ltb}
 use Rattle.monomial.specs.Order.{compare}
 use Rattle.monomial.specs.declared.monomial_ordering.CmpOrd.{CmpOrd}
-use Rattle.monomial.specs.declared.monomial_ordering.CmpOrd.the-variants.{Less, Equal, Greater}
+use Rattle.monomial.specs.declared.monomial_ordering.CmpOrd.the-variants.{Less, Equal}
 use Rattle.monomial.proofs.Lawful.{Lawful, reverse-lawful, alike-right}
 use Rattle.monomial.proofs.Orders.{compare-less, compare-equal, compare-greater}
 use Rattle.fast_compare.specs.Labels.{top, below, nearest, floor, ceiling, lowest, highest, free, half, spaced, rebuilt, Labelled}
-use Rattle.fast_compare.proofs.Ranks.{less-equal, less-greater, self, turn, turn-less, by-cases, below-less, below-mono, below-top, Ranked, less-place, place-of}
-use Rattle.fast_compare.proofs.Neighbours.{Greatest, Near, nearest-near, above-place}
+use Rattle.fast_compare.proofs.Ranks.{less-equal, self, turn-less, by-cases, below-less, below-mono, below-top, Ranked, less-place, place-of}
+use Rattle.fast_compare.proofs.Neighbours.{Near, nearest-near, above-place}
 
 -- ---- spaced labels
 -- neighbours after a rebuild of n values lie at least (2^32 − 1) / (n + 1) apart

@@ -1,8 +1,8 @@
 -- The walk to the end word of a ratio in the image, and the part that it finds. Assumes nothing.
 use mathlib.Core.Path.{_≡_, refl, sym, ap, _∙_}
 use mathlib.Core.Logic.{_⊎_, inl, inr}
-use mathlib.Core.List.{List, [], _∷_}
-use Prim.Native.Nat.{ℕ, suc, _+_, _-_, _*_, _/_, _≤_, _<_}
+use mathlib.Core.List.{List, _∷_}
+use Prim.Native.Nat.{ℕ, _+_, _-_, _*_, _≤_, _<_}
 use native.Mathlib.Omega.{arith}
 use lib.ListN.{length, getD, take, drop, length-drop}
 use Rattle.words.specs.Kinds.{kind, payload, ident}
@@ -10,9 +10,8 @@ use Rattle.words.specs.Words.{words}
 use Rattle.words.specs.Tables.{part}
 use Rattle.words.proofs.Laws.{word-and-rest, words-part}
 use Rattle.monomial.specs.Monomial.{front, Canonical}
-use Rattle.monomial.specs.Order.{compare, andThen, order}
-use Rattle.monomial.specs.declared.monomial_ordering.CmpOrd.{CmpOrd}
-use Rattle.monomial.specs.declared.monomial_ordering.CmpOrd.the-variants.{Less, Equal, Greater}
+use Rattle.monomial.specs.Order.{order}
+use Rattle.monomial.specs.declared.monomial_ordering.CmpOrd.the-variants.{Less, Greater}
 use Rattle.monomial.proofs.Orders.{compare-less, compare-equal, compare-greater}
 use Rattle.monomial.proofs.Canon.{IsVar, front-nil, front-cases, front-end, front-var, var-is, canon-of, canonical-of, lower}
 use Rattle.monomial.proofs.Laws.{front-canonical}

@@ -1,24 +1,23 @@
 -- What a new row's words leave of the image: the image of the map with the row. Assumes nothing.
 use mathlib.Core.Path.{_≡_, refl, sym, ap, _∙_}
-use mathlib.Core.List.{List, [], _∷_, _++_, append-assoc, append-nil}
-use Prim.Native.Nat.{ℕ, zero, suc, _+_, _-_, _*_, _/_, _≤_, _<_}
+use mathlib.Core.List.{List, [], _∷_, _++_, append-assoc}
+use Prim.Native.Nat.{ℕ, suc, _+_, _-_, _*_, _≤_, _<_}
 use native.Mathlib.Nat.{suc-mul}
 use native.Mathlib.Omega.{arith}
-use lib.ListN.{length, getD, take, drop, length-append, length-take, length-drop, take-append-drop}
-use lib.Seq.{length-take-le, drop-at}
+use lib.ListN.{length, take, drop, length-append, length-drop, take-append-drop}
+use lib.Seq.{length-take-le}
 use Rattle.words.specs.Kinds.{indexWord}
 use Rattle.words.specs.Words.{words, putW, pasteW}
 use Rattle.words.specs.Tables.{part, zeros, table, over}
-use Rattle.words.proofs.Laws.{Bytes, length-words, length-pasteW}
-use Rattle.words.proofs.Tables.{length-part, part-append, length-zeros, zeros-nil, zeros-suc, zeros-add, length-table, table-agree, table-suc, split-rows, row-fits, length-over, over-mid, over-inside, over-all, over-table, putW-paste, paste-own, paste-over}
-use Rattle.monomial.specs.Monomial.{Canonical}
+use Rattle.words.proofs.Laws.{Bytes, length-pasteW}
+use Rattle.words.proofs.Tables.{part-append, length-zeros, zeros-nil, zeros-suc, zeros-add, table-agree, table-suc, split-rows, row-fits, length-over, over-mid, over-inside, putW-paste, paste-own, paste-over}
 use Rattle.fast_compare.specs.Labels.{insertAt, below, sorted}
 use Rattle.fast_compare.specs.Map.{Value, cmp, Good, Row, State, row, value, label, Valid, stored}
 use Rattle.fast_compare.specs.declared.Comparer.the-variants.{New}
 use Rattle.fast_compare.specs.Layout.{rowWords, encode, size, rowAt, orderAt, Is}
 use Rattle.fast_compare.proofs.Ranks.{below-ext, below-most, sorted-ext, sorted-suc}
 use Rattle.fast_compare.proofs.Maps.{cmp-lawful, row-old, row-new, value-old, value-new, stored-new}
-use Rattle.fast_compare.proofs.Images.{ratio-length, length-row, ranked, rows-long, encode-length, pieces, header}
+use Rattle.fast_compare.proofs.Images.{ratio-length, ranked, rows-long, encode-length, pieces}
 use Rattle.fast_compare.proofs.Exact.{fits-words}
 
 -- ---- a row written into a slot of zeros, word by word

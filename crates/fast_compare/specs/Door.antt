@@ -2,12 +2,12 @@
 use mathlib.Core.Path.{_≡_}
 use mathlib.Core.Bool.{Bool, cond, _&&_}
 use mathlib.Core.List.{List}
-use Prim.Native.Nat.{ℕ, _+_, _*_, _≤_, _<_}
+use Prim.Native.Nat.{ℕ, _*_, _≤_}
 use lib.Dec.{leb, ltb, eqb}
 use lib.ListN.{length}
 use Rattle.words.specs.Words.{words, pasteW}
 use Rattle.monomial.specs.Monomial.{lent}
-use Rattle.fast_compare.specs.Map.{Value, valueOf, State, answer, after, rebuild, empty}
+use Rattle.fast_compare.specs.Map.{valueOf, State, answer, after, rebuild, empty}
 use Rattle.fast_compare.specs.Layout.{encode, size, Is, Sound}
 use Rattle.fast_compare.specs.declared.Comparer.{Comparer}
 use Rattle.fast_compare.specs.declared.Comparer.the-variants.{Known, New, Full, NoLabel}

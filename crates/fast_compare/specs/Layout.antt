@@ -2,7 +2,7 @@
 use mathlib.Core.Path.{_≡_}
 use mathlib.Core.List.{List, [], _∷_, _++_}
 use Prim.Native.Nat.{ℕ, suc, _+_, _-_, _*_, _≤_, _<_}
-use lib.ListN.{length, getD, take, drop}
+use lib.ListN.{length, getD, drop}
 use Rattle.words.specs.Kinds.{kind, payload, indexWord}
 use Rattle.words.specs.Words.{words, pasteW}
 use Rattle.words.specs.Tables.{part, zeros, table}

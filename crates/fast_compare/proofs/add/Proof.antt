@@ -1,11 +1,8 @@
 use native.Mathlib.Omega.{arith}
-use mathlib.Core.Path.{_≡_, _∙_, ap, sym}
-use Prim.Native.Nat.{ℕ, _+_, _-_, _*_, _≤_, _<_}
-use lib.ListN.{length, getD}
+use Prim.Native.Nat.{_-_}
 use Rattle.words.specs.Words.{words}
 use Rattle.fast_compare.specs.Map.{valueOf}
-use Rattle.fast_compare.proofs.Exact.{count-of}
-use Rattle.fast_compare.proofs.Reading.{Head, HeadOf, head, vars-of, cap-of}
+use Rattle.fast_compare.proofs.Reading.{head, cap-of}
 use Rattle.fast_compare.proofs.Giving.{before-place, gave-full, gave-none, gave-new}
 use borrow.Author.Needs.{needs}
 use Rattle.fast_compare.proofs.add.Statement.{statement}

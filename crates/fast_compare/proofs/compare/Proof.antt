@@ -5,7 +5,7 @@ use lib.ListN.{length, getD}
 use Rattle.words.specs.Words.{words}
 use Rattle.fast_compare.specs.Map.{Value, valueOf, cmp}
 use Rattle.fast_compare.proofs.Exact.{count-of}
-use Rattle.fast_compare.proofs.Reading.{Head, HeadOf, head, row-used, value-of, ratio-of, has-ratio}
+use Rattle.fast_compare.proofs.Reading.{HeadOf, head, row-used, value-of, ratio-of, has-ratio}
 use borrow.Author.Needs.{needs}
 use Rattle.fast_compare.proofs.compare.Statement.{statement}
 use Rattle.fast_compare.proofs.compare.Tie as tie

@@ -1,4 +1,4 @@
-use mathlib.Core.Path.{_≡_, _∙_}
+use mathlib.Core.Path.{_∙_}
 use Rattle.fast_compare.proofs.Exact.{count-of}
 use borrow.Author.Needs.{needs}
 use Rattle.fast_compare.proofs.count.Statement.{statement}

@@ -1,7 +1,7 @@
 use native.Mathlib.Omega.{arith}
-use mathlib.Core.Path.{_≡_, _∙_, ap, sym}
-use Prim.Native.Nat.{ℕ, _+_, _-_, _*_, _≤_, _<_}
-use lib.ListN.{length, getD}
+use mathlib.Core.Path.{_∙_, ap, sym}
+use Prim.Native.Nat.{_-_}
+use lib.ListN.{getD}
 use Rattle.words.specs.Words.{words}
 use Rattle.fast_compare.specs.Map as Map
 use Rattle.fast_compare.specs.Map.{valueOf}

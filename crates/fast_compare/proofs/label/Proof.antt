@@ -1,10 +1,10 @@
 use native.Mathlib.Omega.{arith}
 use mathlib.Core.Path.{_≡_, _∙_}
-use Prim.Native.Nat.{ℕ, _+_, _*_, _≤_, _<_}
+use Prim.Native.Nat.{ℕ, _+_, _*_, _≤_}
 use lib.ListN.{length, getD}
 use Rattle.words.specs.Words.{words}
 use Rattle.fast_compare.proofs.Exact.{count-of}
-use Rattle.fast_compare.proofs.Reading.{Head, HeadOf, head, row-used, label-of}
+use Rattle.fast_compare.proofs.Reading.{HeadOf, head, row-used, label-of}
 use borrow.Author.Needs.{needs}
 use Rattle.fast_compare.proofs.label.Statement.{statement}
 use Rattle.fast_compare.proofs.label.Tie as tie

@@ -1,8 +1,6 @@
 use native.Mathlib.Omega.{arith}
-use mathlib.Core.Path.{_≡_, _∙_, ap, sym}
-use Prim.Native.Nat.{ℕ, _+_, _-_, _≤_, _<_}
-use lib.ListN.{length, getD}
-use Rattle.words.specs.Words.{words}
+use mathlib.Core.Path.{_∙_, ap, sym}
+use Prim.Native.Nat.{ℕ, _+_, _-_}
 use Rattle.fast_compare.specs.Map as Map
 use Rattle.fast_compare.proofs.Exact.{count-of}
 use Rattle.fast_compare.proofs.Giving.{lowest-none, lowest-at}

@@ -1,5 +1,4 @@
 use Rattle.fast_compare.proofs.Opening.{opened}
-use Rattle.fast_compare.proofs.Checks.{rows-small}
 use borrow.Author.Needs.{needs}
 use Rattle.fast_compare.proofs.open.Statement.{statement}
 use Rattle.fast_compare.proofs.open.Tie as tie

@@ -1,12 +1,10 @@
 use native.Mathlib.Omega.{arith}
 use borrow.Author.Needs.{needs}
-use mathlib.Core.Path.{_≡_, _∙_, sym}
-use Prim.Native.Nat.{ℕ, _+_, _-_, _*_, _≤_, _<_}
-use lib.ListN.{length, getD}
-use Rattle.words.specs.Words.{words}
+use mathlib.Core.Path.{_≡_}
+use Prim.Native.Nat.{ℕ, _+_, _-_, _*_, _≤_}
 use Rattle.fast_compare.proofs.Rising.{spaced-top}
-use Rattle.fast_compare.proofs.Reading.{Head, HeadOf, head}
-use Rattle.fast_compare.proofs.Respacing.{Respacing, respace-start, respace-end, Spot, spot, respace-more}
+use Rattle.fast_compare.proofs.Reading.{Head, head}
+use Rattle.fast_compare.proofs.Respacing.{Respacing, respace-start, respace-end, spot, respace-more}
 use Rattle.fast_compare.proofs.rebuild.Statement.{statement}
 use Rattle.fast_compare.proofs.rebuild.Tie as tie
 use Rattle.fast_compare.proofs.rebuild.Reads as reads

@@ -6,7 +6,7 @@ use Prim.Native.Nat.{ℕ, _+_, _*_, _≤_, _<_}
 use lib.ListN.{length, getD}
 use Rattle.words.specs.Words.{words}
 use Rattle.fast_compare.proofs.Exact.{count-of}
-use Rattle.fast_compare.proofs.Reading.{Head, HeadOf, head, place-at, place-inside}
+use Rattle.fast_compare.proofs.Reading.{HeadOf, head, place-at, place-inside}
 use borrow.Author.Needs.{needs}
 use Rattle.fast_compare.proofs.row_at.Statement.{statement}
 use Rattle.fast_compare.proofs.row_at.Tie as tie

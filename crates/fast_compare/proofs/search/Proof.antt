@@ -1,13 +1,12 @@
 use native.Mathlib.Omega.{arith}
 use borrow.Author.Needs.{needs}
-use mathlib.Core.Path.{_≡_, _∙_, sym}
-use Prim.Native.Nat.{ℕ, _+_, _-_, _*_, _/_, _≤_, _<_}
-use lib.ListN.{length, getD}
+use Prim.Native.Nat.{_+_, _-_, _/_, _≤_}
+use lib.ListN.{getD}
 use Rattle.words.specs.Words.{words}
 use Rattle.fast_compare.specs.Map.{State, valueOf}
 use Rattle.fast_compare.specs.Layout.{Is}
 use Rattle.fast_compare.proofs.Exact.{count-of}
-use Rattle.fast_compare.proofs.Reading.{Head, head, Seeking, seek-start, mid-high, seek-less, seek-greater, seek-equal, seek-end}
+use Rattle.fast_compare.proofs.Reading.{head, Seeking, seek-start, mid-high, seek-less, seek-greater, seek-equal, seek-end}
 use Rattle.fast_compare.proofs.search.Statement.{statement}
 use Rattle.fast_compare.proofs.search.Tie as tie
 use Rattle.fast_compare.proofs.search.Reads as reads

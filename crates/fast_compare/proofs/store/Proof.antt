@@ -1,5 +1,5 @@
 use native.Mathlib.Omega.{arith}
-use mathlib.Core.Path.{_≡_, _∙_, ap, sym}
+use mathlib.Core.Path.{_≡_, _∙_}
 use Prim.Native.Nat.{ℕ, _+_, _-_, _*_, _≤_, _<_}
 use lib.ListN.{length, getD}
 use Rattle.words.specs.Words.{words}
@@ -8,7 +8,7 @@ use Rattle.words.proofs.Tables.{row-fits}
 use Rattle.fast_compare.specs.Map.{valueOf}
 use Rattle.fast_compare.proofs.Images.{ratio-length}
 use Rattle.fast_compare.proofs.Exact.{count-of}
-use Rattle.fast_compare.proofs.Reading.{Head, HeadOf, head, vars-of, cap-of}
+use Rattle.fast_compare.proofs.Reading.{HeadOf, head, vars-of, cap-of}
 use Rattle.fast_compare.proofs.Storing.{stored-call}
 use borrow.Author.Needs.{needs}
 use Rattle.fast_compare.proofs.store.Statement.{statement}

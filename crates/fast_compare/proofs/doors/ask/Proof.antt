@@ -1,13 +1,10 @@
 use native.Mathlib.Omega.{arith}
-use mathlib.Core.Path.{_≡_, sym, ap, _∙_}
-use mathlib.Core.Bool.{Bool, true, false}
-use Prim.Native.Nat.{ℕ, _<_}
+use mathlib.Core.Path.{sym, _∙_}
 use lib.ListN.{getD}
 use borrow.Author.Tests.{not-true, not-false}
 use Rattle.words.specs.Words.{words}
-use Rattle.monomial.specs.Monomial.{lent}
 use Rattle.fast_compare.proofs.Checks.{failed, passed}
-use Rattle.fast_compare.proofs.Reading.{Head, head, vars-of}
+use Rattle.fast_compare.proofs.Reading.{head, vars-of}
 use Rattle.fast_compare.proofs.Replies.{lent-good, large-index, bad-ratio, asking-unsound, asking-bad, asking-given}
 use borrow.Author.Needs.{needs}
 use Rattle.fast_compare.proofs.doors.ask.Statement.{statement}

@@ -1,4 +1,4 @@
-use mathlib.Core.Path.{_≡_, sym, ap, _∙_}
+use mathlib.Core.Path.{_∙_}
 use Rattle.fast_compare.proofs.Checks.{failed, passed}
 use Rattle.fast_compare.proofs.Replies.{length-refused, length-served}
 use borrow.Author.Needs.{needs}

@@ -1,5 +1,4 @@
 use native.Mathlib.Omega.{arith}
-use mathlib.Core.Path.{_≡_, sym, ap, _∙_}
 use Rattle.fast_compare.proofs.Checks.{failed, passed}
 use Rattle.fast_compare.proofs.Replies.{open-unasked, open-short, open-served}
 use borrow.Author.Needs.{needs}

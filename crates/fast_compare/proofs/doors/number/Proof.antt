@@ -1,6 +1,6 @@
 use native.Mathlib.Omega.{arith}
 use Prim.Native.Nat.{ℕ}
-use mathlib.Core.Path.{_≡_, sym, ap, _∙_, refl}
+use mathlib.Core.Path.{_≡_, sym, ap, _∙_}
 use Rattle.fast_compare.specs.Door.{number}
 use borrow.Author.Needs.{needs}
 use Rattle.fast_compare.proofs.doors.number.Statement.{statement}

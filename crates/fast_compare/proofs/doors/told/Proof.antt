@@ -1,4 +1,4 @@
-use mathlib.Core.Path.{_≡_, sym, ap, _∙_}
+use mathlib.Core.Path.{sym, ap}
 use Rattle.fast_compare.specs.Door.{told}
 use borrow.Author.Needs.{needs}
 use Rattle.fast_compare.proofs.doors.told.Statement.{statement}

@@ -1,10 +1,9 @@
 use native.Mathlib.Omega.{arith}
-use mathlib.Core.Path.{_≡_, refl, sym, ap, _∙_}
-use Prim.Native.Nat.{ℕ, _+_, _-_, _*_, _/_, _%_, _≤_, _<_}
-use lib.ListN.{length, getD, take, drop}
+use mathlib.Core.Path.{_≡_, sym, ap, _∙_}
+use Prim.Native.Nat.{_+_, _-_, _*_, _≤_}
+use lib.ListN.{length}
 use Rattle.words.specs.Kinds.{payload}
 use Rattle.words.specs.Words.{words}
-use Rattle.words.specs.Tables.{part}
 use Rattle.words.proofs.Laws.{length-words}
 use Rattle.monomial.specs.Order.{order}
 use Rattle.fast_compare.specs.Map.{valueOf}

@@ -1,11 +1,10 @@
 use native.Mathlib.Omega.{arith}
-use mathlib.Core.Path.{_≡_, refl, sym, ap, _∙_}
-use Prim.Native.Nat.{ℕ, _+_, _-_, _*_, _/_, _%_, _≤_, _<_}
-use lib.ListN.{length, getD, take, drop}
+use mathlib.Core.Path.{_≡_, sym, ap, _∙_}
+use Prim.Native.Nat.{ℕ, _+_, _-_, _*_, _≤_}
+use lib.ListN.{getD, take, drop}
 use borrow.Author.Tests.{ltb-true, lt-ltb}
 use Rattle.words.specs.Kinds.{payload}
 use Rattle.words.specs.Words.{words}
-use Rattle.words.proofs.Laws.{length-words}
 use Rattle.words.proofs.Tables.{never}
 use Rattle.fast_compare.specs.Map.{Value, valueOf, cmp}
 use Rattle.fast_compare.specs.Layout.{ratioWords, valueAt, HasRatio}

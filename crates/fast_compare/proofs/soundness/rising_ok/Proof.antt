@@ -1,12 +1,11 @@
 use native.Mathlib.Omega.{arith}
 use borrow.Author.Needs.{needs}
-use mathlib.Core.Path.{_≡_, sym, ap, _∙_}
-use Prim.Native.Nat.{ℕ, suc, _+_, _*_, _-_, _≤_, _<_}
+use mathlib.Core.Path.{_≡_}
+use Prim.Native.Nat.{ℕ, suc, _+_, _-_, _≤_, _<_}
 use lib.ListN.{length, getD}
 use Rattle.words.specs.Words.{words}
-use Rattle.words.proofs.Tables.{row-fits}
-use Rattle.fast_compare.specs.Layout.{rowAt, Rises, RowOk}
-use Rattle.fast_compare.proofs.Checks.{refuse, accept, failed, passed, rows-small, pairs-none, pairs-more, Up, row-in}
+use Rattle.fast_compare.specs.Layout.{rowAt, Rises}
+use Rattle.fast_compare.proofs.Checks.{refuse, accept, failed, passed, pairs-none, pairs-more, Up, row-in}
 use Rattle.fast_compare.proofs.soundness.rising_ok.Statement.{statement}
 use Rattle.fast_compare.proofs.soundness.rising_ok.Tie as tie
 use Rattle.fast_compare.proofs.soundness.rising_ok.Reads as reads

@@ -1,10 +1,7 @@
 use native.Mathlib.Omega.{arith}
-use mathlib.Core.Path.{_≡_, sym, ap, _∙_}
-use Prim.Native.Nat.{ℕ, _+_, _-_, _*_, _/_, _≤_, _<_}
-use lib.ListN.{length}
+use mathlib.Core.Path.{sym, ap, _∙_}
+use Prim.Native.Nat.{ℕ, _+_, _-_, _/_}
 use Rattle.words.specs.Words.{words}
-use Rattle.words.proofs.Laws.{length-words}
-use Rattle.fast_compare.specs.Layout.{ratioWords}
 use Rattle.fast_compare.proofs.Images.{ratio-within}
 use Rattle.fast_compare.proofs.Checks.{refuse}
 use borrow.Author.Needs.{needs}

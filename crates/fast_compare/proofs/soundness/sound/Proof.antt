@@ -1,6 +1,5 @@
 use native.Mathlib.Omega.{arith}
-use mathlib.Core.Path.{_≡_, sym, ap, _∙_}
-use Rattle.words.specs.Words.{words}
+use mathlib.Core.Path.{sym}
 use Rattle.fast_compare.proofs.Checks.{refuse}
 use Rattle.fast_compare.proofs.Exact.{head-of, sound-long}
 use borrow.Author.Needs.{needs}

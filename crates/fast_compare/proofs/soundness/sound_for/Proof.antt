@@ -1,9 +1,6 @@
 use native.Mathlib.Omega.{arith}
-use mathlib.Core.Path.{_≡_, sym, ap, _∙_}
-use lib.ListN.{getD}
-use Rattle.words.specs.Words.{words}
 use Rattle.words.proofs.Laws.{words-small}
-use Rattle.fast_compare.proofs.Checks.{refuse, accept, failed, passed}
+use Rattle.fast_compare.proofs.Checks.{refuse, failed, passed}
 use Rattle.fast_compare.proofs.Exact.{sound-for-iff}
 use borrow.Author.Needs.{needs}
 use Rattle.fast_compare.proofs.soundness.sound_for.Statement.{statement}

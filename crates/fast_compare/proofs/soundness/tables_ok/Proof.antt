@@ -1,8 +1,7 @@
 use native.Mathlib.Omega.{arith}
-use mathlib.Core.Path.{_≡_, sym, ap, _∙_}
-use Prim.Native.Nat.{ℕ, suc, _+_, _*_, _-_, _≤_, _<_}
+use Prim.Native.Nat.{_+_, _-_}
 use Rattle.words.proofs.Tables.{split-rows}
-use Rattle.fast_compare.proofs.Checks.{refuse, accept, failed, passed, rows-small}
+use Rattle.fast_compare.proofs.Checks.{refuse, failed, passed, rows-small}
 use borrow.Author.Needs.{needs}
 use Rattle.fast_compare.proofs.soundness.tables_ok.Statement.{statement}
 use Rattle.fast_compare.proofs.soundness.tables_ok.Tie as tie
