@@ -1,12 +1,10 @@
 -- The theory, over any total order:
 -- `Counts`, `Ranks`: counting, and the sorted order by rank. `Neighbours`: the values next to a value, found by rank.
 -- `Rising`: labels rise with values, kept by an insert and by a rebuild, which leaves room everywhere.
--- `Cases`: document 01's worked labels.
 pub mod Counts
 pub mod Ranks
 pub mod Neighbours
 pub mod Rising
-pub mod Cases
 -- The map and its image:
 -- `Maps`: the map stays valid, and what its answers mean. `Images`, `Exact`: the checks pass exactly for a valid map's image.
 -- `Kept`: calls keep a map sound, and a query's place compares as its value.
