@@ -4,3 +4,4 @@ pub mod Walk
 pub mod Door
 pub mod Marks
 pub mod Head
+pub mod Size
