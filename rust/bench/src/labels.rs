@@ -108,6 +108,19 @@ impl LabelSample {
         }
         start.elapsed()
     }
+
+    /// The port's questions alone: the image is judged, and then the index has
+    /// too many bits.
+    pub fn questions(&self) -> Duration {
+        let mut image = self.image.clone();
+        let start = Instant::now();
+        for value in &self.known {
+            let image = black_box(&mut image[..]);
+            let refused = doors::fast_compare_get_comparer(image, 1 << 28, &value.words);
+            assert_eq!(refused, 7 << 32);
+        }
+        start.elapsed()
+    }
 }
 
 fn ask_port(image: &mut [u8], value: &Value) -> u64 {

@@ -54,6 +54,11 @@ fn main() {
             print_row(name, variables, times);
         }
     }
+    for variables in VARIABLES {
+        let sample = labels::draw(variables);
+        let port = median((0..rounds).map(|_| sample.questions()).collect(), ASKED);
+        println!("| get_comparer, questions alone | {variables} | | {port:.1} | |");
+    }
 }
 
 fn print_row(name: &str, variables: u32, (original, port): (f64, f64)) {
