@@ -7,10 +7,10 @@ use Rattle.oracle_replay.proofs.holds.Lts as lts
 use Rattle.oracle_replay.proofs.expected.Reads as expected-reads
 
 abbrev Inv-loop : tie.InvT-loop
-Inv-loop out after i₀ i = i ≤ 272
+Inv-loop out after i₀ i = i ≤ 704
 
 abbrev μ-loop : tie.MeasureT-loop
-μ-loop out after i₀ i = 272 - i
+μ-loop out after i₀ i = 704 - i
 
 -- src/main.rt:31:9
 returns : tie.Need-returns Inv-loop μ-loop
