@@ -105,14 +105,6 @@ impl LabelMap {
         words
     }
 
-    pub fn len(&self) -> usize {
-        self.arrived.len()
-    }
-
-    pub fn is_empty(&self) -> bool {
-        self.arrived.is_empty()
-    }
-
     /// The label of each value, in order of arrival.
     pub fn labels(&self) -> Vec<u32> {
         let known = |value| self.labels.known(value).expect("arrived");
