@@ -3,7 +3,8 @@
 // many differed. docs/DIFFERENCES.md says how the records were made.
 //
 // A record is words: its own length, operation, variables, room, number returned, the lengths of both operands, the operands, and
-// the words that then stand at the front of the buffer. Lengths are in words.
+// the words that then stand at the front of the buffer. Lengths are in words. For the label map the operands are image and ratio,
+// and the index and the label stand in the places of variables and room.
 use monomial_work::Work;
 ghost use Prim.Native.Nat.{_≤_};
 ghost use lib.ListN.{length};
@@ -13,6 +14,7 @@ struct Head {
     operation: u32,
     variables: u32,
     room: usize,
+    label: u32,
     number: u32,
 }
 
@@ -26,12 +28,12 @@ fn expected(after: &[u8], i: usize) -> u8 {
     if i < after.len() { after[i] } else { 0xEE }
 }
 
-fn holds(out: &[u8; 272], after: &[u8]) -> bool {
-    if 272 < after.len() {
+fn holds(out: &[u8; 704], after: &[u8]) -> bool {
+    if 704 < after.len() {
         return false;
     }
     let mut i: usize = 0;
-    while i < 272 {
+    while i < 704 {
         if out[i] != expected(after, i) {
             return false;
         }
@@ -41,9 +43,9 @@ fn holds(out: &[u8; 272], after: &[u8]) -> bool {
 }
 
 fn two(w: Work, c: Head, a: &[u8], b: &[u8], after: &[u8]) -> bool {
-    let mut out = [0xEEu8; 272];
+    let mut out = [0xEEu8; 704];
     let room = c.room;
-    if 272 < room {
+    if 704 < room {
         return false;
     }
     let r = monomial_work::serve(w, c.variables, a, b, &mut out[..room]);
@@ -54,9 +56,9 @@ fn two(w: Work, c: Head, a: &[u8], b: &[u8], after: &[u8]) -> bool {
 }
 
 fn mask(c: Head, a: &[u8], b: &[u8], after: &[u8]) -> bool {
-    let mut out = [0xEEu8; 272];
+    let mut out = [0xEEu8; 704];
     let room = c.room;
-    if 272 < room {
+    if 704 < room {
         return false;
     }
     let r = divmask::doors::divmask_mask(c.variables, a, b, &mut out[..room]);
@@ -77,9 +79,9 @@ fn mask_divides(c: Head, a: &[u8], b: &[u8]) -> bool {
 }
 
 fn update(c: Head, a: &[u8], b: &[u8], after: &[u8]) -> bool {
-    let mut out = [0xEEu8; 272];
+    let mut out = [0xEEu8; 704];
     let n = a.len();
-    if 272 < n {
+    if 704 < n {
         return false;
     }
     bytes::copy(a, &mut out);
@@ -91,15 +93,46 @@ fn update(c: Head, a: &[u8], b: &[u8], after: &[u8]) -> bool {
 }
 
 fn growth(c: Head, a: &[u8], b: &[u8], after: &[u8]) -> bool {
-    let mut out = [0xEEu8; 272];
+    let mut out = [0xEEu8; 704];
     let room = c.room;
-    if 272 < room {
+    if 704 < room {
         return false;
     }
     if b.len() < 1 {
         return false;
     }
     let r = divmask::doors::divmask_growth(c.variables, a, b[0], &mut out[..room]);
+    if r != c.number {
+        return false;
+    }
+    holds(&out, after)
+}
+
+fn comparer(c: Head, a: &[u8], b: &[u8], after: &[u8]) -> bool {
+    let mut out = [0xEEu8; 704];
+    let n = a.len();
+    if 704 < n {
+        return false;
+    }
+    bytes::copy(a, &mut out);
+    let r = fast_compare::doors::fast_compare_get_comparer(&mut out[..n], c.variables, b);
+    if r / 4294967296 != c.number as u64 {
+        return false;
+    }
+    if r % 4294967296 != c.label as u64 {
+        return false;
+    }
+    holds(&out, after)
+}
+
+fn rebuild(c: Head, a: &[u8], after: &[u8]) -> bool {
+    let mut out = [0xEEu8; 704];
+    let n = a.len();
+    if 704 < n {
+        return false;
+    }
+    bytes::copy(a, &mut out);
+    let r = fast_compare::doors::fast_compare_rebuild(&mut out[..n]);
     if r != c.number {
         return false;
     }
@@ -122,6 +155,8 @@ fn agrees(c: Head, a: &[u8], b: &[u8], after: &[u8]) -> bool {
         10 => mask_divides(c, a, b),
         11 => update(c, a, b, after),
         12 => growth(c, a, b, after),
+        13 => comparer(c, a, b, after),
+        14 => rebuild(c, a, after),
         _ => false,
     }
 }
@@ -133,6 +168,7 @@ fn numbers(r: &[u8]) -> Head
         operation: words::get(r, 1),
         variables: words::get(r, 2),
         room: 4 * words::get(r, 3) as usize,
+        label: words::get(r, 3),
         number: words::get(r, 4),
     }
 }
@@ -239,10 +275,12 @@ fn lines(s: &[u8]) {
     line(b"mask_divides", s, 10);
     line(b"update", s, 11);
     line(b"growth", s, 12);
+    line(b"get_comparer", s, 13);
+    line(b"rebuild", s, 14);
 }
 
 fn main() {
-    let mut buf = [0u8; 49152];
+    let mut buf = [0u8; 81920];
     let n = io::read_full(0, &mut buf);
     lines(&buf[..n]);
     io::print_decimal(1, unread(&buf[..n]) as u64);

@@ -84,7 +84,7 @@ fn draw_pair(variables: u32, inputs: Inputs, at: usize, rng: &mut Rng) -> Pair {
     }
 }
 
-fn draw_powers(variables: u32, rng: &mut Rng) -> Powers {
+pub fn draw_powers(variables: u32, rng: &mut Rng) -> Powers {
     let mut powers = Powers::one(variables as usize);
     let mut missing = rng.between(3, variables as i32);
     while missing > 0 {

@@ -8,11 +8,13 @@
 //! are made before the clock starts.
 
 mod inputs;
+mod labels;
 mod operations;
 
 use std::{env, time::Duration};
 
-use inputs::{draw, Inputs, Sample, PAIRS};
+use inputs::{draw, Inputs, PAIRS};
+use labels::{Asked, ASKED};
 use operations::{questions, OPERATIONS};
 
 const VARIABLES: [u32; 3] = [4, 8, 20];
@@ -29,37 +31,54 @@ fn main() {
     for operation in OPERATIONS {
         for variables in VARIABLES {
             let sample = draw(variables, operation.inputs);
-            let (original, port) = measure(operation.original, operation.port, &sample, rounds);
-            println!(
-                "| {} | {variables} | {original:.1} | {port:.1} | {:.2} |",
-                operation.name,
-                port / original
-            );
+            let original = || (operation.original)(&sample);
+            let times = measure(original, || (operation.port)(&sample), PAIRS, rounds);
+            print_row(operation.name, variables, times);
         }
     }
     for variables in VARIABLES {
         let sample = draw(variables, Inputs::WrongCount);
         let times = (0..rounds).map(|_| questions(&sample)).collect();
-        let port = median(times);
+        let port = median(times, PAIRS);
         println!("| questions alone | {variables} | | {port:.1} | |");
     }
+    let asked = [
+        ("get_comparer, known", Asked::Known),
+        ("get_comparer, new", Asked::New),
+    ];
+    for (name, asked) in asked {
+        for variables in VARIABLES {
+            let sample = labels::draw(variables);
+            let original = || sample.original(asked);
+            let times = measure(original, || sample.port(asked), ASKED, rounds);
+            print_row(name, variables, times);
+        }
+    }
+    for variables in VARIABLES {
+        let sample = labels::draw(variables);
+        let port = median((0..rounds).map(|_| sample.questions()).collect(), ASKED);
+        println!("| get_comparer, questions alone | {variables} | | {port:.1} | |");
+    }
+}
+
+fn print_row(name: &str, variables: u32, (original, port): (f64, f64)) {
+    let ratio = port / original;
+    println!("| {name} | {variables} | {original:.1} | {port:.1} | {ratio:.2} |");
 }
 
 /// Nanoseconds a call, of the original and of the port.
 fn measure(
-    original: fn(&Sample) -> Duration,
-    port: fn(&Sample) -> Duration,
-    sample: &Sample,
+    original: impl Fn() -> Duration,
+    port: impl Fn() -> Duration,
+    calls: usize,
     rounds: usize,
 ) -> (f64, f64) {
-    let times: Vec<_> = (0..rounds)
-        .map(|_| (original(sample), port(sample)))
-        .collect();
+    let times: Vec<_> = (0..rounds).map(|_| (original(), port())).collect();
     let (originals, ports) = times.into_iter().unzip();
-    (median(originals), median(ports))
+    (median(originals, calls), median(ports, calls))
 }
 
-fn median(mut times: Vec<Duration>) -> f64 {
+fn median(mut times: Vec<Duration>, calls: usize) -> f64 {
     times.sort();
-    times[times.len() / 2].as_secs_f64() * 1e9 / PAIRS as f64
+    times[times.len() / 2].as_secs_f64() * 1e9 / calls as f64
 }

@@ -2,7 +2,8 @@
  *
  * Everything lent is 32-bit words, low byte first; lengths are in bytes. Each
  * function takes all bytes: it returns 0 and the answer stands at the front of
- * out, or the number of a refusal, and then no byte is changed. A written slice
+ * out, or the number of a refusal, and then no byte is changed. Where another
+ * number is returned, it is said below. A written slice
  * must overlap nothing else that is lent. docs/LAYOUT.md has the words and the
  * answers. */
 #ifndef DIVISOR_INDEX_H
@@ -48,9 +49,16 @@ uint32_t divmask_divides(uint32_t a, uint32_t b);
 uint32_t divmask_update(uint32_t variables, uint8_t *maxima, size_t maxima_len, const uint8_t *monomial, size_t monomial_len);
 uint32_t divmask_growth(uint32_t variables, const uint8_t *maxima, size_t maxima_len, uint8_t percentage, uint8_t *out, size_t out_len);
 
-/* To come: the label map's fast_compare_length, fast_compare_open,
- * fast_compare_get_comparer and fast_compare_rebuild, and the indexes'
- * divisor_index_*. */
+/* libfast_compare.a: the label map, in an image of the caller's.
+ * fast_compare_length returns the image's length in bytes and
+ * fast_compare_get_comparer a label; both return a refusal in the upper 32
+ * bits. fast_compare_open and fast_compare_rebuild return 0 or a refusal. */
+uint64_t fast_compare_length(uint32_t variables, uint32_t capacity);
+uint32_t fast_compare_open(uint32_t variables, uint32_t capacity, uint8_t *image, size_t image_len);
+uint64_t fast_compare_get_comparer(uint8_t *image, size_t image_len, uint32_t index, const uint8_t *ratio, size_t ratio_len);
+uint32_t fast_compare_rebuild(uint8_t *image, size_t image_len);
+
+/* To come: the indexes' divisor_index_*. */
 
 #ifdef __cplusplus
 }

@@ -106,6 +106,33 @@ extern "C" {
     ) -> u32;
 }
 
-// To come, with a line in exports.txt for each crate: the label map's
-// fast_compare_length, fast_compare_open, fast_compare_get_comparer and
-// fast_compare_rebuild, and the indexes' divisor_index_*.
+// crates/fast_compare. Refusals: 1 variables and capacity, 2 buffer, 3 image, 7
+// words, 8 capacity reached, 10 no label.
+extern "C" {
+    /// The length in bytes of a label map's image. A refusal stands in the upper
+    /// 32 bits.
+    pub fn fast_compare_length(variables: u32, capacity: u32) -> u64;
+
+    /// Writes an empty label map.
+    pub fn fast_compare_open(
+        variables: u32,
+        capacity: u32,
+        image: *mut u8,
+        image_len: usize,
+    ) -> u32;
+
+    /// The label of a value, which is stored if it is new. A refusal stands in
+    /// the upper 32 bits.
+    pub fn fast_compare_get_comparer(
+        image: *mut u8,
+        image_len: usize,
+        index: u32,
+        ratio: *const u8,
+        ratio_len: usize,
+    ) -> u64;
+
+    /// Spaces the labels evenly.
+    pub fn fast_compare_rebuild(image: *mut u8, image_len: usize) -> u32;
+}
+
+// To come, with a line in exports.txt: the indexes' divisor_index_*.

@@ -2,7 +2,7 @@
 //!
 //! Each takes all bytes, so each is safe. It returns 0, and the answer stands
 //! at the front of `out`, or the number of a [`Refusal`](crate::Refusal), and
-//! then no byte is changed.
+//! then no byte is changed. Where a number is the answer, it is said.
 
 use divisor_index_sys as sys;
 
@@ -93,4 +93,36 @@ pub fn divmask_growth(variables: u32, maxima: &[u8], percentage: u8, out: &mut [
             out.len(),
         )
     }
+}
+
+/// The length in bytes of a label map's image, or a refusal in the upper 32
+/// bits.
+pub fn fast_compare_length(variables: u32, capacity: u32) -> u64 {
+    // SAFETY: it takes all numbers.
+    unsafe { sys::fast_compare_length(variables, capacity) }
+}
+
+/// Writes an empty label map.
+pub fn fast_compare_open(variables: u32, capacity: u32, image: &mut [u8]) -> u32 {
+    // SAFETY: as in `on_two`, with `image` exclusive.
+    unsafe { sys::fast_compare_open(variables, capacity, image.as_mut_ptr(), image.len()) }
+}
+
+/// The label of a value, or a refusal in the upper 32 bits.
+pub fn fast_compare_get_comparer(image: &mut [u8], index: u32, ratio: &[u8]) -> u64 {
+    // SAFETY: as in `on_two`, with `image` exclusive.
+    unsafe {
+        sys::fast_compare_get_comparer(
+            image.as_mut_ptr(),
+            image.len(),
+            index,
+            ratio.as_ptr(),
+            ratio.len(),
+        )
+    }
+}
+
+pub fn fast_compare_rebuild(image: &mut [u8]) -> u32 {
+    // SAFETY: as in `on_two`, with `image` exclusive.
+    unsafe { sys::fast_compare_rebuild(image.as_mut_ptr(), image.len()) }
 }

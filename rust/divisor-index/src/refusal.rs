@@ -52,6 +52,17 @@ impl Refusal {
         }
     }
 
+    /// The same for a door that returns its answer: a refusal stands in the
+    /// upper 32 bits.
+    ///
+    /// # Panics
+    ///
+    /// On a number that no door returns.
+    pub fn or_answer(number: u64) -> Result<u32, Refusal> {
+        Self::check((number >> 32) as u32)?;
+        Ok(number as u32)
+    }
+
     pub fn number(self) -> u32 {
         self as u32
     }

@@ -1,10 +1,11 @@
 //! The wrappers on document 01's worked cases, a refusal of each number that
-//! they can meet, and both archives in one program.
+//! they can meet, and all archives in one program.
 
 use std::cmp::Ordering;
 
 use divisor_index::{
     divmask::{DivMap, DivMaskTestResult, MaximumExponentsTracker},
+    fast_compare::{self, ComparerMap},
     monomial, ratio, Refusal,
 };
 
@@ -97,4 +98,51 @@ fn maxima() {
         none.has_grown_beyond_percentage(0),
         Err(Refusal::Parameters)
     );
+}
+
+/// x0^power.
+fn ratio_of(power: i32) -> [u32; 2] {
+    [0x2000_8000_u32.wrapping_add_signed(power), 1]
+}
+
+#[test]
+fn labels() {
+    let mut map = ComparerMap::new(1, 3).unwrap();
+    assert_eq!(map.get_comparer(0, &ONE), Ok(2_147_483_647));
+    assert_eq!(map.get_comparer(0, &ratio_of(-1)), Ok(1_073_741_823));
+    assert_eq!(map.get_comparer(1, &ratio_of(-2)), Ok(3_221_225_471));
+    assert_eq!(map.get_comparer(0, &ratio_of(1)), Err(Refusal::Full));
+    assert_eq!(map.get_comparer(0, &[1]), Err(Refusal::NotCanonical));
+    assert_eq!(map.get_comparer(1 << 28, &ONE), Err(Refusal::NotCanonical));
+    assert_eq!(map.rebuild(), Ok(()));
+    assert_eq!(map.get_comparer(0, &ONE), Ok(2_147_483_647));
+
+    let mut lent = map.into_image();
+    lent[0] ^= 1;
+    let mut map = ComparerMap::from_image(&mut lent[..]);
+    assert_eq!(map.get_comparer(0, &ONE), Err(Refusal::Unsound));
+    assert_eq!(map.rebuild(), Err(Refusal::Unsound));
+}
+
+#[test]
+fn falling_labels_run_out() {
+    let mut map = ComparerMap::new(1, 40).unwrap();
+    for power in 1..=32 {
+        let label = (1_u64 << (32 - power)) - 1;
+        assert_eq!(map.get_comparer(0, &ratio_of(-power)), Ok(label as u32));
+    }
+    assert_eq!(map.get_comparer(0, &ratio_of(-33)), Err(Refusal::NoLabel));
+    assert_eq!(map.rebuild(), Ok(()));
+    assert_eq!(map.get_comparer(0, &ratio_of(-33)), Ok(0x3E0_F83D));
+}
+
+#[test]
+fn map_openings() {
+    assert_eq!(fast_compare::length(1, 3), Ok(76));
+    assert_eq!(fast_compare::length(65, 3), Err(Refusal::Parameters));
+    assert_eq!(ComparerMap::new(1, 4097), Err(Refusal::Parameters));
+    let mut short = [0xEE; 75];
+    let opened = ComparerMap::open(1, 3, &mut short[..]);
+    assert_eq!(opened.err(), Some(Refusal::Buffer));
+    assert_eq!(short, [0xEE; 75]);
 }

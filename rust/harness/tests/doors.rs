@@ -3,6 +3,8 @@
 use harness::{
     doors::{
         compare,
+        label_samples::random_run,
+        labels::{compare_run, compare_small, Tally},
         samples::{exhaustive, random},
         Lent,
     },
@@ -11,6 +13,7 @@ use harness::{
 };
 
 const RANDOM: usize = 20_000;
+const LABEL_STEPS: u64 = 20_000;
 
 fn agree(lent: &Lent) {
     if let Err(difference) = compare(lent) {
@@ -34,5 +37,19 @@ fn random_work() {
         for _ in 0..RANDOM {
             agree(&random(leaf, &mut rng));
         }
+    }
+}
+
+#[test]
+fn small_label_maps_with_every_damage() {
+    compare_small(&mut Tally::default()).unwrap();
+}
+
+#[test]
+fn random_label_runs() {
+    let mut rng = Rng::new(1);
+    let mut tally = Tally::default();
+    while tally.steps() < LABEL_STEPS {
+        compare_run(&random_run(&mut rng), &mut tally).unwrap();
     }
 }

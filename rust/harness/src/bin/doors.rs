@@ -1,13 +1,16 @@
 //! Compares the port's doors with original and model, byte by byte.
 //!
 //! `doors COUNT [SEED]` takes all small work and COUNT random pieces of each
-//! operation, and prints how often each number was returned.
+//! operation, and of the label map all small damage and runs of COUNT steps, and
+//! prints how often each number was returned.
 
 use std::{collections::BTreeMap, env, process::ExitCode, time::Instant};
 
 use harness::{
     doors::{
         compare,
+        label_samples::random_run,
+        labels::{compare_run, compare_small, Tally},
         samples::{exhaustive, random},
         Difference,
     },
@@ -23,11 +26,13 @@ fn main() -> ExitCode {
     };
     let compared = Leaf::ALL
         .into_iter()
-        .try_for_each(|leaf| compare_all(leaf, count, seed));
+        .try_for_each(|leaf| compare_all(leaf, count, seed))
+        .map_err(|difference| difference.to_string())
+        .and_then(|()| compare_labels(count, seed));
     match compared {
         Ok(()) => ExitCode::SUCCESS,
         Err(difference) => {
-            print!("{difference}");
+            println!("{difference}");
             ExitCode::FAILURE
         }
     }
@@ -48,6 +53,24 @@ fn compare_all(leaf: Leaf, count: u64, seed: u64) -> Result<(), Box<Difference>>
     }
     println!(
         "{leaf:?}: {small} small, {count} random, returned {returned:?}, {:.1} s",
+        start.elapsed().as_secs_f32()
+    );
+    Ok(())
+}
+
+fn compare_labels(count: u64, seed: u64) -> Result<(), String> {
+    let start = Instant::now();
+    let mut small = Tally::default();
+    compare_small(&mut small)?;
+    println!("labels, small maps: {small}");
+    let mut rng = Rng::new(seed);
+    let mut random = Tally::default();
+    while random.steps() < count {
+        compare_run(&random_run(&mut rng), &mut random)?;
+    }
+    println!(
+        "labels, random runs: {} steps, {random}, {:.1} s",
+        random.steps(),
         start.elapsed().as_secs_f32()
     );
     Ok(())

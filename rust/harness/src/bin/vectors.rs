@@ -4,7 +4,9 @@
 //! `vectors text [COUNT] [SEED]` prints COUNT short ones for each operation and
 //! two of any length, and as many label runs, one a line; see `leaves::vector`
 //! and `leaves::labels::vector` for the form. `vectors words [COUNT] [SEED]`
-//! writes the same, without the label runs, as the words of `leaves::record`.
+//! writes the same as the words of `leaves::record`; in place of the label runs
+//! it has COUNT steps or a few more of short ones, and the ends of two that
+//! leave no label, as the words of `leaves::label_record`.
 
 use std::{
     env,
@@ -14,9 +16,11 @@ use std::{
 
 use harness::{
     leaves::{
-        by_original, labels,
+        by_original,
+        label_record::records,
+        labels,
         record::record,
-        samples::{random, random_labels},
+        samples::{crowded_labels, random, random_labels, short_labels},
         vector, Leaf, Work,
     },
     rng::Rng,
@@ -57,12 +61,26 @@ fn print_text(count: usize, rng: &mut Rng) {
 }
 
 fn write_words(count: usize, rng: &mut Rng) {
+    let works = draw(count, rng);
+    let leaves = works.iter();
+    let leaves = leaves.map(|work| record(work, &by_original::answer(work)));
     let mut out = io::stdout().lock();
-    for work in draw(count, rng) {
-        for word in record(&work, &by_original::answer(&work)) {
-            out.write_all(&word.to_le_bytes()).expect("standard output");
-        }
+    for word in leaves.chain(label_records(count, rng)).flatten() {
+        out.write_all(&word.to_le_bytes()).expect("standard output");
     }
+}
+
+fn label_records(count: usize, rng: &mut Rng) -> Vec<Vec<u32>> {
+    let mut steps = vec![];
+    while steps.len() < count {
+        steps.extend(records(&short_labels(rng)));
+    }
+    for rises in [false, true] {
+        let mut crowded = records(&crowded_labels(rises));
+        // The value with no label, and the rebuild.
+        steps.extend(crowded.split_off(crowded.len() - 2));
+    }
+    steps
 }
 
 fn draw(count: usize, rng: &mut Rng) -> Vec<Work> {

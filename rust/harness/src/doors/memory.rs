@@ -1,5 +1,3 @@
-use super::Lent;
-
 /// All that is lent, at odd places and with gaps of pattern around each slice.
 /// A byte's pattern goes by its place, so that a shifted byte is seen.
 pub struct Memory {
@@ -11,16 +9,17 @@ pub struct Memory {
 const GAP: usize = 13;
 
 impl Memory {
-    pub fn of(lent: &Lent) -> Self {
-        let lengths = [lent.first.len(), lent.second.len(), lent.room];
+    /// Both operands, and room for an answer.
+    pub fn new(first: &[u8], second: &[u8], room: usize) -> Self {
+        let lengths = [first.len(), second.len(), room];
         let size = lengths.iter().sum::<usize>() + 4 * GAP;
         let mut memory = Memory {
             bytes: (0..size).map(pattern).collect(),
             lengths,
         };
-        let (first, second, _) = memory.split();
-        first.copy_from_slice(&lent.first);
-        second.copy_from_slice(&lent.second);
+        let (lent_first, lent_second, _) = memory.split();
+        lent_first.copy_from_slice(first);
+        lent_second.copy_from_slice(second);
         memory
     }
 

@@ -3,8 +3,11 @@
 //! A [`Lent`] is what a caller in C lends. Its bytes are laid out in one
 //! [`Memory`] with gaps of pattern between them, the port is called there, and
 //! the number returned and all of the memory afterwards must be what original
-//! and model say of the same words.
+//! and model say of the same words. [`labels`] does so with runs of the label
+//! map.
 
+pub mod label_samples;
+pub mod labels;
 mod memory;
 pub mod samples;
 
@@ -64,7 +67,7 @@ pub fn compare(lent: &Lent) -> Result<u32, Box<Difference>> {
 }
 
 fn by_port(lent: &Lent) -> Outcome {
-    let mut memory = Memory::of(lent);
+    let mut memory = Memory::new(&lent.first, &lent.second, lent.room);
     let v = lent.variables;
     let (first, second, out) = memory.split();
     let number = match lent.leaf {
@@ -90,7 +93,7 @@ fn by_port(lent: &Lent) -> Outcome {
 
 /// What the port must do where an oracle answers so.
 fn expected(lent: &Lent, answer: &Answer) -> Outcome {
-    let mut memory = Memory::of(lent);
+    let mut memory = Memory::new(&lent.first, &lent.second, lent.room);
     let number = match answer {
         Ok(words) if lent.leaf == Leaf::MaskDivides => words[0],
         Ok(words) => {

@@ -52,14 +52,13 @@ impl From<Result<u32, u32>> for Labelled {
 }
 
 pub fn by_original(work: &LabelWork) -> Vec<Labelled> {
-    let mut labels = OriginalLabels::<Order>::new();
-    let mut known: Vec<&[u32]> = vec![];
+    let mut map = OriginalMap::new(work.variables, work.capacity);
     let mut answers = vec![];
     for step in &work.steps {
         answers.push(match step {
-            Step::Value(value) => ask_original(&mut labels, &mut known, value, work).into(),
+            Step::Value(value) => map.ask(value).into(),
             Step::Rebuild => {
-                labels.rebuild();
+                map.rebuild();
                 Labelled::Rebuilt
             }
         });
@@ -67,34 +66,65 @@ pub fn by_original(work: &LabelWork) -> Vec<Labelled> {
     answers
 }
 
-/// Questions 7, 8 and 10. The original knows no capacity, so the values that
-/// it has taken are counted here.
-fn ask_original<'a>(
-    labels: &mut OriginalLabels<Order>,
-    known: &mut Vec<&'a [u32]>,
-    value: &'a [u32],
-    work: &LabelWork,
-) -> Result<u32, u32> {
-    let mut words = value.iter().copied();
-    let index = words
-        .next()
-        .filter(|word| kind(*word) == INDEX)
-        .ok_or(7u32)?;
-    let ratio = read_quotient(&mut words, work.variables).ok_or(7u32)?;
-    if words.next().is_some() {
-        return Err(7);
+/// The original's map. It knows no capacity, so the values that it has taken
+/// are kept here.
+pub struct OriginalMap {
+    variables: usize,
+    capacity: usize,
+    labels: OriginalLabels<Order>,
+    known: Vec<Vec<u32>>,
+}
+
+impl OriginalMap {
+    pub fn new(variables: usize, capacity: usize) -> Self {
+        OriginalMap {
+            variables,
+            capacity,
+            labels: OriginalLabels::new(),
+            known: vec![],
+        }
     }
-    let is_known = known.contains(&value);
-    if !is_known && known.len() >= work.capacity {
-        return Err(8);
+
+    /// Questions 7, 8 and 10.
+    pub fn ask(&mut self, value: &[u32]) -> Result<u32, u32> {
+        let mut words = value.iter().copied();
+        let index = words
+            .next()
+            .filter(|word| kind(*word) == INDEX)
+            .ok_or(7u32)?;
+        let ratio = read_quotient(&mut words, self.variables).ok_or(7u32)?;
+        if words.next().is_some() {
+            return Err(7);
+        }
+        let is_known = self.known.iter().any(|known| known == value);
+        if !is_known && self.known.len() >= self.capacity {
+            return Err(8);
+        }
+        let label = self
+            .labels
+            .get_comparer(payload(index), monomial(&ratio))
+            .ok_or(10u32)?;
+        if !is_known {
+            self.known.push(value.to_vec());
+        }
+        Ok(label)
     }
-    let label = labels
-        .get_comparer(payload(index), monomial(&ratio))
-        .ok_or(10u32)?;
-    if !is_known {
-        known.push(value);
+
+    pub fn rebuild(&mut self) {
+        self.labels.rebuild();
     }
-    Ok(label)
+
+    /// The label of each value taken, in order of arrival.
+    pub fn labels(&mut self) -> Vec<u32> {
+        let known = self.known.clone();
+        let labels = known.iter().map(|value| self.ask(value));
+        labels.collect::<Result<_, _>>().expect("known values")
+    }
+
+    /// The words of each value taken, in order of arrival.
+    pub fn known(&self) -> &[Vec<u32>] {
+        &self.known
+    }
 }
 
 pub fn by_model(work: &LabelWork) -> Vec<Labelled> {

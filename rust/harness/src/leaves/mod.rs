@@ -6,6 +6,7 @@
 
 pub mod by_model;
 pub mod by_original;
+pub mod label_record;
 pub mod labels;
 pub mod record;
 pub mod samples;

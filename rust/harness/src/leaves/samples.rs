@@ -321,6 +321,42 @@ pub fn random_labels(rng: &mut Rng) -> LabelWork {
     }
 }
 
+/// A short run on a map that soon is full, with more damaged values.
+pub fn short_labels(rng: &mut Rng) -> LabelWork {
+    let variables = *rng.choose(&[1, 2]);
+    let capacity = *rng.choose(&[2, 4, 5]);
+    let mut steps = vec![];
+    for _ in 0..capacity + 2 {
+        let mut value = draw_value(variables, rng.between(-3, 3), rng);
+        if rng.chance(15) {
+            flip(&mut value, rng);
+        }
+        steps.push(Step::Value(value));
+        if rng.chance(20) {
+            steps.push(Step::Rebuild);
+        }
+    }
+    LabelWork {
+        variables,
+        capacity,
+        steps,
+    }
+}
+
+/// Values that fall or rise until no label is left, and a rebuild.
+pub fn crowded_labels(rises: bool) -> LabelWork {
+    let values = (1..=if rises { 34 } else { 33 }).map(|place| {
+        let power = if rises { place } else { -place };
+        let ratio = ratio_words(Powers(vec![power]).vars());
+        Step::Value([vec![word(INDEX, 0)], ratio].concat())
+    });
+    LabelWork {
+        variables: 1,
+        capacity: 34,
+        steps: values.chain([Step::Rebuild]).collect(),
+    }
+}
+
 /// A value at this place, as an index or as a power, sometimes damaged.
 fn draw_value(variables: usize, place: i32, rng: &mut Rng) -> Vec<u32> {
     let mut ratio = Powers::one(variables);
@@ -328,8 +364,12 @@ fn draw_value(variables: usize, place: i32, rng: &mut Rng) -> Vec<u32> {
     let mut value = vec![word(INDEX, 5)];
     value.extend(ratio_words(ratio.vars()));
     if rng.chance(3) {
-        let at = rng.below(value.len());
-        value[at] ^= 1 << rng.below(32);
+        flip(&mut value, rng);
     }
     value
+}
+
+fn flip(words: &mut [u32], rng: &mut Rng) {
+    let at = rng.below(words.len());
+    words[at] ^= 1 << rng.below(32);
 }

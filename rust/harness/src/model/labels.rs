@@ -20,6 +20,16 @@ impl Labels {
         }
     }
 
+    /// With these values, which rise, and labels.
+    pub fn of_rows(rows: Vec<(Ratio, u32)>, rules: Rules) -> Self {
+        Self { rows, rules }
+    }
+
+    /// Values and labels in rising order of value.
+    pub fn rows(&self) -> &[(Ratio, u32)] {
+        &self.rows
+    }
+
     /// How many values are known.
     pub fn count(&self) -> usize {
         self.rows.len()

@@ -3,6 +3,7 @@
 
 pub mod calls;
 pub mod divmask;
+pub mod label_map;
 pub mod labels;
 pub mod mutation;
 pub mod powers;
