@@ -48,11 +48,11 @@ together W at u (v ∷ us) h e =
     ap (part W at) l ∙ part-append W at (length u) (length (joined v us)) u (joined v us) (omega (arith, l)) refl .1 (e .0, p)
 
 -- a piece by other names of its place and its length
-pub renamed : (W u : List ℕ) (a b n : ℕ) → a ≡ b → length u ≡ n → part W a (length u) ≡ u → part W b n ≡ u
-renamed W u a b n e l p = rw (sym e, sym l) p
+renamed : (W : List ℕ) {u : List ℕ} {a b n : ℕ} → part W a (length u) ≡ u → a ≡ b → length u ≡ n → part W b n ≡ u
+renamed W p e l = rw (← e, ← l) p
 
-pub named-back : (W u : List ℕ) (a b n : ℕ) → a ≡ b → length u ≡ n → part W b n ≡ u → part W a (length u) ≡ u
-named-back W u a b n e l p = rw (e, l) p
+named-back : (W : List ℕ) {u : List ℕ} {a b n : ℕ} → part W b n ≡ u → a ≡ b → length u ≡ n → part W a (length u) ≡ u
+named-back W p e l = rw (e, l) p
 
 -- ---- lengths
 pub slot-length : (m : ℕ) (ws : List ℕ) → length ws ≤ m + 1 → length (slot m ws) ≡ m + 1
@@ -189,7 +189,74 @@ module _ (W : List ℕ) (st : State) (f : Fits st) (room : size (st .kind) (st .
   image-length =
       simp length-append
       (omega (
-        arith, header-length st, f .maxima, f .map, entries-long, free, f .all, free-places, f .label-words, nodes-long, free-nodes,
-        entries-whole, nodes-whole, f .few,
+        arith,
+        header-length st,
+        f .maxima,
+        f .map,
+        entries-long,
+        free,
+        f .all,
+        free-places,
+        f .label-words,
+        nodes-long,
+        free-nodes,
+        entries-whole,
+        nodes-whole,
+        f .few,
       )
       )
+
+  -- where the tables begin
+  at1 : 0 + length (header st) ≡ 16
+  at1 = omega (arith, header-length st)
+
+  at2 : 0 + length (header st) + length (st .maxima) ≡ mapAt m
+  at2 = omega (arith, at1, f .maxima)
+
+  at3 : 0 + length (header st) + length (st .maxima) + length (st .mapMaxima) ≡ entriesAt m
+  at3 = omega (arith, at2, f .map)
+
+  at4 : 0 + length (header st) + length (st .maxima) + length (st .mapMaxima) + length tabled ≡ entriesAt m + n * w
+  at4 = omega (arith, at3, entries-long)
+
+  at5 : 0 + length (header st) + length (st .maxima) + length (st .mapMaxima) + length tabled + length (zeros ((c - n) * w)) ≡ permutationAt k m c
+  at5 = omega (arith, at4, free, entries-whole)
+
+  abbrev before : ℕ
+  before = 0 + length (header st) + length (st .maxima) + length (st .mapMaxima) + length tabled + length (zeros ((c - n) * w))
+
+  at6 : before + length (inorder (st .tree)) ≡ permutationAt k m c + n
+  at6 = omega (arith, at5, f .all)
+
+  at7 : before + length (inorder (st .tree)) + length (zeros (c - n)) ≡ labelsAt k m c
+  at7 = omega (arith, at6, free-places, f .few)
+
+  at8 : before + length (inorder (st .tree)) + length (zeros (c - n)) + length (labelWords k (st .labels)) ≡ nodesAt k m c
+  at8 = omega (arith, at7, f .label-words)
+
+  at9 : before + length (inorder (st .tree)) + length (zeros (c - n)) + length (labelWords k (st .labels)) + length treed ≡ nodesAt k m c + d * x
+  at9 = omega (arith, at8, nodes-long)
+
+  fits : 0 + length (joined (header st) others) ≤ length W
+  fits = let l = ap length whole ∙ image-length in omega (arith, l)
+
+  pub pieces-of : part W 0 (size k m c) ≡ encode st → Pieces W st
+  pieces-of is =
+      let s = apart W 0 (header st) others fits (rw (whole, image-length) is) in
+      record {
+        head = renamed W (s .0) refl (header-length st);
+        maxima = renamed W (s .1 .0) at1 (f .maxima);
+        map = renamed W (s .1 .1 .0) at2 (f .map);
+        entries = renamed W (s .1 .1 .1 .0) at3 entries-long;
+        entries-rest = renamed W (s .1 .1 .1 .1 .0) at4 free;
+        permutation = renamed W (s .1 .1 .1 .1 .1 .0) at5 (f .all);
+        permutation-rest = renamed W (s .1 .1 .1 .1 .1 .1 .0) at6 free-places;
+        labels = renamed W (s .1 .1 .1 .1 .1 .1 .1 .0) at7 (f .label-words);
+        nodes-are = renamed W (s .1 .1 .1 .1 .1 .1 .1 .1 .0) at8 nodes-long;
+        nodes-rest = renamed W (s .1 .1 .1 .1 .1 .1 .1 .1 .1) at9 free-nodes;
+      }
+
+  pub of-pieces : Pieces W st → part W 0 (size k m c) ≡ encode st
+  of-pieces p =
+      let s : Stand W 0 (header st) others = (named-back W (p .head) refl (header-length st), (named-back W (p .maxima) at1 (f .maxima), (named-back W (p .map) at2 (f .map), (named-back W (p .entries) at3 entries-long, (named-back W (p .entries-rest) at4 free, (named-back W (p .permutation) at5 (f .all), (named-back W (p .permutation-rest) at6 free-places, (named-back W (p .labels) at7 (f .label-words), (named-back W (p .nodes-are) at8 nodes-long, named-back W (p .nodes-rest) at9 free-nodes))))))))) in
+      rw (whole, image-length) at (together W 0 (header st) others fits s)
