@@ -1,4 +1,6 @@
 // The image of an index: where its tables are, and the door's question whether it is sound. docs/LAYOUT.md has the tables.
+pub mod walk;
+
 ghost use mathlib.Core.Path.{_≡_};
 ghost use Prim.Native.Nat.{_≤_};
 ghost use Rattle.index_image.specs.Shape as at;
