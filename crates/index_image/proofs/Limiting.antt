@@ -2,7 +2,7 @@
 use mathlib.Core.Path.{_≡_, refl, sym, ap, _∙_}
 use mathlib.Core.List.{List}
 use mathlib.Core.Logic.{_↔_, Iff·rfl}
-use Prim.Native.Nat.{ℕ, zero, suc, min, max, _+_, _-_, _*_, _≤_, _<_}
+use Prim.Native.Nat.{ℕ, zero, suc, min, max, _+_, _-_, _*_, _^_, _≤_, _<_}
 use native.Mathlib.Omega.{arith}
 use native.Mathlib.Decide.{ℕ-discrete}
 use lib.ListN.{length, getD, set}
@@ -35,15 +35,16 @@ module _ (W : List ℕ) (s : Shape) (H : List ℕ) (ll lh at : ℕ) (r : InRange
     here : (e : ℕ) → BelowKey W s at e ↔ (label W s e < label W s (getD W (at + 1) 0))
     here e = below-ratio (power W s) (label W s) (s .kind) (getD W at 0 - 1) (getD W (at + 1) 0) e one (omega (arith, one))
 
-    pub cut-ratio : (key l q a b : ℕ) → key ≡ getD W (at + 1) 0 → l ≡ label W s key → q ≡ getD H 0 0 → a ≡ min l lh → b ≡ max l ll
+    pub cut-ratio : (key l q a b : ℕ) → key ≡ getD W (at + 1) 0 → l ≡ label W s key → q ≡ getD H 0 0 → q < 2 ^ 32 → a ≡ min l lh → b ≡ max l ll
         → Cut W s H ll lh at (record { variable = 0; power = q; less = a; other = b })
-    cut-ratio key l q a b ek el eq ea eb =
+    cut-ratio key l q a b ek el eq sm ea eb =
         let v : 0 < s .variables = omega (arith, r .vars-from) in
         let lk : l ≡ label W s (getD W (at + 1) 0) = el ∙ ap (label W s) ek in
         let own : set H 0 q ≡ H = rw eq (set-getD H 0 0) in
         record {
           known = v;
           some = omega (arith, some 0 v);
+          small = sm;
           less = λ e. (
             λ (i : Inside W s (set H 0 q) ll a e).
                 let p = rw own at (i .powers) in
@@ -72,14 +73,15 @@ module _ (W : List ℕ) (s : Shape) (H : List ℕ) (ll lh at : ℕ) (r : InRange
     there e =
         rw et (below-variable (power W s) (label W s) (s .kind) (getD W at 0 - 1) (getD W (at + 1) 0) e (r .kind-to) (omega (arith, K .from, r .kind-to)))
 
-    pub cut-variable : (key x : ℕ) → key ≡ getD W (at + 1) 0 → x ≡ min key (getD H (t - 1 - s .kind) 0)
+    pub cut-variable : (key x : ℕ) → key ≡ getD W (at + 1) 0 → key < 2 ^ 32 → x ≡ min key (getD H (t - 1 - s .kind) 0)
         → Cut W s H ll lh at (record { variable = t - 1 - s .kind; power = x; less = lh; other = ll })
-    cut-variable key x ek ex =
+    cut-variable key x ek sm ex =
         let v = t - 1 - s .kind in
         let k : v < s .variables = variable-known in
         record {
           known = k;
           some = omega (arith, some v k, K .variable (λ z. other (et ∙ z)));
+          small = omega arith;
           less = λ e. (
             λ (i : Inside W s (set H v x) ll lh e).
                 let p : power W s v e < x = rw (getD-set-same H v x 0 (omega arith)) at (i .powers v k) in

@@ -2,7 +2,7 @@
 use mathlib.Core.Path.{_≡_}
 use mathlib.Core.List.{List}
 use mathlib.Core.Logic.{_↔_}
-use Prim.Native.Nat.{ℕ, _+_, _-_, _*_, _≤_, _<_}
+use Prim.Native.Nat.{ℕ, _+_, _-_, _*_, _^_, _≤_, _<_}
 use lib.ListN.{length, getD, set, drop}
 use Rattle.words.specs.Words.{words}
 use Rattle.words.specs.Tables.{part}
@@ -70,6 +70,7 @@ BelowKey W s at e = Below (s .kind) (power W s) (label W s) (getD W at 0 - 1) (g
 pub record Cut (W : List ℕ) (s : Shape) (H : List ℕ) (ll lh at : ℕ) (b : Limits) : Type 0 where
   pub known : b .variable < s .variables
   pub some : 1 ≤ b .power
+  pub small : b .power < 2 ^ 32
   pub less : (e : ℕ) → Inside W s (set H (b .variable) (b .power)) ll (b .less) e ↔ (Inside W s H ll lh e × BelowKey W s at e)
   pub other : (e : ℕ) → Inside W s H (b .other) lh e ↔ (Inside W s H ll lh e × (getD W at 0 ≡ s .kind → BelowKey W s at e → ⊥))
 

@@ -6,7 +6,7 @@ ghost use mathlib.Core.Bool.{true};
 ghost use mathlib.Core.Logic.{_↔_};
 ghost use Prim.Native.Nat.{ℕ, min, max, _+_, _*_, _<_, _≤_};
 ghost use lib.ListN.{length, getD};
-ghost use Rattle.words.specs.Words.{words, pasteW};
+ghost use Rattle.words.specs.Words.{words, putW, pasteW};
 ghost use Rattle.words.specs.Tables.{part};
 ghost use Rattle.monomial.specs.Monomial.{Canonical, pow};
 ghost use Rattle.monomial.specs.Operations.{result};
@@ -337,4 +337,95 @@ fn branch_ok(image: &[u8], s: Shape, at: usize, a: usize, b: usize, t: usize) ->
         return false;
     }
     branch_gcd_ok(image, s, at, a, b)
+}
+
+// The number of entries that row k has.
+fn count_at(image: &[u8], s: Shape, k: usize) -> usize
+    requires { ⌜ Ready (words (now image)) s ⌝ }
+    requires { ⌜ k < s .nodes ⌝ }
+    ensures { λ r. ⌜ r ≡ getD (words (now (image .entry))) (shape.nodeAt s k + 2) 0 ⌝ }
+{
+    words::get(image, s.node_at(k) + 2) as usize
+}
+
+// Whether row k is that of a branch over the rows k + 1 and k + 1 + t.
+fn over_ok(image: &[u8], s: Shape, k: usize, t: usize) -> bool
+    requires { ⌜ Ready (words (now image)) s ⌝ }
+    requires { ⌜ k + 1 + t < s .nodes ⌝ }
+    requires { ⌜ row.KeyIn (words (now image)) s (shape.nodeAt s k) ⌝ }
+    requires { ⌜ row.Slots (words (now image)) (s .variables) (shape.nodeAt s (k + 1)) (shape.nodeAt s (k + 1 + t)) ⌝ }
+    ensures { λ r. ⌜ (r ≡ true) ↔ row.BranchOk (words (now (image .entry))) s (shape.nodeAt s k) (shape.nodeAt s (k + 1)) (shape.nodeAt s (k + 1 + t)) t ⌝ }
+{
+    branch_ok(
+        image,
+        s,
+        s.node_at(k),
+        s.node_at(k + 1),
+        s.node_at(k + 1 + t),
+        t,
+    )
+}
+
+// Writes x as word i, and returns what stood there.
+fn exchange(hi: &mut [u8], i: usize, x: u32) -> u32
+    requires { ⌜ 4 * i + 4 ≤ length (now hi) ⌝ }
+    ensures { λ r. ⌜ r ≡ getD (words (now (hi .entry))) i 0 ⌝ }
+    ensures { λ _. ⌜ now (hi .exit) ≡ putW (now (hi .entry)) i x ⌝ }
+{
+    let old = words::get(hi, i);
+    words::put(hi, i, x);
+    old
+}
+
+// The number of rows of the tree at row k, of at most `avail` entries, which start at place lo of the permutation,
+// with powers below `hi` and labels from ll on and below lh; 0 where there is none.
+pub fn walk(
+    image: &[u8],
+    s: Shape,
+    hi: &mut [u8],
+    ll: u64,
+    lh: u64,
+    k: usize,
+    lo: usize,
+    avail: usize,
+) -> usize
+    requires { ⌜ Ready (words (now image)) s ⌝ }
+    requires { ⌜ row.Uppers (s .variables) (now hi) ⌝ }
+    requires { ⌜ (k ≤ s .nodes) × (lo + avail ≤ s .entries) ⌝ }
+    ensures { λ r. ⌜ Walked (words (now (image .entry))) s (words (now (hi .entry))) ll lh k lo avail r ⌝ }
+    ensures { λ _. ⌜ now (hi .exit) ≡ now (hi .entry) ⌝ }
+{
+    if s.nodes <= k {
+        return 0;
+    }
+    let at = s.node_at(k);
+    let c = words::get(image, at + 2) as usize;
+    if avail < c {
+        return 0;
+    }
+    if words::get(image, at) == 0 {
+        if leaf_ok(image, s, hi, ll, lh, at, lo, c) {
+            return 1;
+        }
+        return 0;
+    }
+    if !key_ok(image, s, at) {
+        return 0;
+    }
+    let b = sides(image, s, hi, ll, lh, at);
+    let old = exchange(hi, b.variable, b.power);
+    let t = walk(image, s, hi, ll, b.less, k + 1, lo, c - 1);
+    words::put(hi, b.variable, old);
+    if t == 0 {
+        return 0;
+    }
+    let ca = count_at(image, s, k + 1);
+    let w = walk(image, s, hi, b.other, lh, k + 1 + t, lo + ca, c - ca);
+    if w == 0 {
+        return 0;
+    }
+    if over_ok(image, s, k, t) {
+        return 1 + t + w;
+    }
+    0
 }

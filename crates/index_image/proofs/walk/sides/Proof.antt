@@ -53,7 +53,7 @@ greater-requires c κs = search needs
 
 -- src/walk.rt:260:9
 returns : tie.Need-returns
-returns c = cut-ratio (words (c .before .before .before .before .before .before .before .before .before .before .args .image .now)) (c .before .before .before .before .before .before .before .before .before .before .args .s) (words (c .before .before .before .before .before .before .before .before .before .before .args .hi .now)) (c .before .before .before .before .before .before .before .before .before .before .args .ll) (c .before .before .before .before .before .before .before .before .before .before .args .lh) (c .before .before .before .before .before .before .before .before .before .before .args .at) (c .before .before .before .before .before .before .before .before .before .before .pre .0 .range) (omega (arith, length-words (c .before .before .before .before .before .before .before .before .before .before .args .hi .now), c .before .before .before .before .before .before .before .before .before .before .pre .1 .0 .one-each)) (c .before .before .before .before .before .before .before .before .before .before .pre .1 .0 .some) (c .before .before .before .before .before .before .before .before .before .before .pre .1 .1 .1) (c .before .before .before .before .before .before .before .get .result) (c .before .before .before .before .before .before .before .get .ensures) (c .before .before .before .before .if1 .taken) (c .before .before .before .before .before .before .get2 .result) (c .before .before .before .label-in .result) (c .before .before .get3 .result) (c .before .lesser .result) (c .greater .result) (c .before .before .before .before .before .before .get2 .ensures) (c .before .before .before .label-in .ensures) (c .before .before .get3 .ensures) (c .before .lesser .ensures) (c .greater .ensures)
+returns c = cut-ratio (words (c .before .before .before .before .before .before .before .before .before .before .args .image .now)) (c .before .before .before .before .before .before .before .before .before .before .args .s) (words (c .before .before .before .before .before .before .before .before .before .before .args .hi .now)) (c .before .before .before .before .before .before .before .before .before .before .args .ll) (c .before .before .before .before .before .before .before .before .before .before .args .lh) (c .before .before .before .before .before .before .before .before .before .before .args .at) (c .before .before .before .before .before .before .before .before .before .before .pre .0 .range) (omega (arith, length-words (c .before .before .before .before .before .before .before .before .before .before .args .hi .now), c .before .before .before .before .before .before .before .before .before .before .pre .1 .0 .one-each)) (c .before .before .before .before .before .before .before .before .before .before .pre .1 .0 .some) (c .before .before .before .before .before .before .before .before .before .before .pre .1 .1 .1) (c .before .before .before .before .before .before .before .get .result) (c .before .before .before .before .before .before .before .get .ensures) (c .before .before .before .before .if1 .taken) (c .before .before .before .before .before .before .get2 .result) (c .before .before .before .label-in .result) (c .before .before .get3 .result) (c .before .lesser .result) (c .greater .result) (c .before .before .before .before .before .before .get2 .ensures) (c .before .before .before .label-in .ensures) (c .before .before .get3 .ensures) (omega (arith, c .before .before .get3 .ok)) (c .before .lesser .ensures) (c .greater .ensures)
 
 -- src/walk.rt:267:13
 sub-v : tie.Need-sub-v
@@ -85,7 +85,7 @@ cast-x c = search needs
 
 -- src/walk.rt:249:1
 returns-2 : tie.Need-returns-2
-returns-2 c = cut-variable (words (c .before .before .before .before .before .before .before .before .before .args .image .now)) (c .before .before .before .before .before .before .before .before .before .args .s) (words (c .before .before .before .before .before .before .before .before .before .args .hi .now)) (c .before .before .before .before .before .before .before .before .before .args .ll) (c .before .before .before .before .before .before .before .before .before .args .lh) (c .before .before .before .before .before .before .before .before .before .args .at) (c .before .before .before .before .before .before .before .before .before .pre .0 .range) (omega (arith, length-words (c .before .before .before .before .before .before .before .before .before .args .hi .now), c .before .before .before .before .before .before .before .before .before .pre .1 .0 .one-each)) (c .before .before .before .before .before .before .before .before .before .pre .1 .0 .some) (c .before .before .before .before .before .before .before .before .before .pre .1 .1 .1) (c .before .before .before .before .before .before .get .result) (c .before .before .before .before .before .before .get .ensures) (c .before .before .before .if1 .left) (c .before .before .before .before .before .get2 .result) (c .lesser2 .result) (c .before .before .before .before .before .get2 .ensures) (rw (c .before .get4 .ensures) at (c .lesser2 .ensures))
+returns-2 c = cut-variable (words (c .before .before .before .before .before .before .before .before .before .args .image .now)) (c .before .before .before .before .before .before .before .before .before .args .s) (words (c .before .before .before .before .before .before .before .before .before .args .hi .now)) (c .before .before .before .before .before .before .before .before .before .args .ll) (c .before .before .before .before .before .before .before .before .before .args .lh) (c .before .before .before .before .before .before .before .before .before .args .at) (c .before .before .before .before .before .before .before .before .before .pre .0 .range) (omega (arith, length-words (c .before .before .before .before .before .before .before .before .before .args .hi .now), c .before .before .before .before .before .before .before .before .before .pre .1 .0 .one-each)) (c .before .before .before .before .before .before .before .before .before .pre .1 .0 .some) (c .before .before .before .before .before .before .before .before .before .pre .1 .1 .1) (c .before .before .before .before .before .before .get .result) (c .before .before .before .before .before .before .get .ensures) (c .before .before .before .if1 .left) (c .before .before .before .before .before .get2 .result) (c .lesser2 .result) (c .before .before .before .before .before .get2 .ensures) (omega (arith, c .before .before .before .before .before .get2 .ok)) (rw (c .before .get4 .ensures) at (c .lesser2 .ensures))
 
 pub sides-spec : {M : Type 1} → statement M
 sides-spec =
