@@ -6,3 +6,4 @@ pub mod Marks
 pub mod Head
 pub mod Size
 pub mod Pieces
+pub mod Rows
