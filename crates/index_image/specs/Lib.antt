@@ -5,3 +5,5 @@ pub mod Door
 pub mod Marks
 pub mod Head
 pub mod Size
+pub mod Pieces
+pub mod Rows

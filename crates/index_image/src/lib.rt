@@ -2,6 +2,7 @@
 pub mod entries;
 pub mod head;
 pub mod marks;
+pub mod walk;
 
 ghost use mathlib.Core.Path.{_≡_};
 ghost use Prim.Native.Nat.{_≤_};

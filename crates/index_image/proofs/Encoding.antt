@@ -1,0 +1,262 @@
+-- The lengths of an image's tables, and the image as its tables. Assumes nothing.
+use mathlib.Core.Path.{_≡_, refl, sym, ap, _∙_}
+use mathlib.Core.List.{List, [], _∷_, _++_}
+use mathlib.Core.Logic.{_↔_}
+use Prim.Native.Nat.{ℕ, zero, suc, _+_, _-_, _*_, _≤_, _<_}
+use native.Mathlib.Omega.{arith}
+use native.Mathlib.Nat.{add-mul}
+use lib.ListN.{length, length-append}
+use Rattle.words.specs.Tables.{part, zeros, table}
+use Rattle.words.proofs.Tables.{length-zeros, length-table, part-append, split-rows}
+use Rattle.monomial.specs.Monomial.{Canonical, monomialOf, pow}
+use Rattle.monomial.proofs.Powers.{monomial-length}
+use Rattle.divmask.specs.Mask.{mask}
+use Rattle.fast_compare.specs.Map as map
+use Rattle.fast_compare.specs.Layout as labels
+use Rattle.fast_compare.proofs.Images as images
+use Rattle.kd_theory.specs.Bifurcate.{least, leastOf}
+use Rattle.kd_theory.specs.Tree.{Tree, leaf, branch, inorder, nodes, count}
+use Rattle.index_theory.specs.Entries.{Entry, entryAt}
+use Rattle.index_theory.specs.State.{Kind, monomials, ratioed, State, Valid, GoodEntry, powerIn}
+use Rattle.index_image.specs.Layout.{entryWidth, nodeWidth, labelsSize, mapAt, entriesAt, permutationAt, labelsAt, nodesAt, size, slot, header, signWords, entryWords, gcdPowers, nodeWords, treeWords, labelWords, encode}
+use Rattle.index_image.specs.Pieces.{Pieces}
+use Rattle.index_image.proofs.Slots.{canonical-length}
+
+-- ---- pieces that stand one behind the other
+unfoldable pub joined : List ℕ → List (List ℕ) → List ℕ
+joined u [] = u
+joined u (v ∷ us) = u ++ joined v us
+
+abbrev pub Stand : List ℕ → ℕ → List ℕ → List (List ℕ) → Type 0
+Stand W at u [] = part W at (length u) ≡ u
+Stand W at u (v ∷ us) = (part W at (length u) ≡ u) × Stand W (at + length u) v us
+
+pub apart : (W : List ℕ) (at : ℕ) (u : List ℕ) (us : List (List ℕ)) → at + length (joined u us) ≤ length W → part W at (length (joined u us)) ≡ joined u us → Stand W at u us
+unfolding joined
+apart W at u [] h e = e
+apart W at u (v ∷ us) h e =
+    let l : length (u ++ joined v us) ≡ length u + length (joined v us) = length-append u (joined v us) in
+    let p = part-append W at (length u) (length (joined v us)) u (joined v us) (omega (arith, l)) refl .0 (ap (part W at) (sym l) ∙ e) in
+    (p .0, apart W (at + length u) v us (omega (arith, l)) (p .1))
+
+pub together : (W : List ℕ) (at : ℕ) (u : List ℕ) (us : List (List ℕ)) → at + length (joined u us) ≤ length W → Stand W at u us → part W at (length (joined u us)) ≡ joined u us
+unfolding joined
+together W at u [] h e = e
+together W at u (v ∷ us) h e =
+    let l : length (u ++ joined v us) ≡ length u + length (joined v us) = length-append u (joined v us) in
+    let p = together W (at + length u) v us (omega (arith, l)) (e .1) in
+    ap (part W at) l ∙ part-append W at (length u) (length (joined v us)) u (joined v us) (omega (arith, l)) refl .1 (e .0, p)
+
+-- a piece by other names of its place and its length
+renamed : (W : List ℕ) {u : List ℕ} {a b n : ℕ} → part W a (length u) ≡ u → a ≡ b → length u ≡ n → part W b n ≡ u
+renamed W p e l = rw (← e, ← l) p
+
+named-back : (W : List ℕ) {u : List ℕ} {a b n : ℕ} → part W b n ≡ u → a ≡ b → length u ≡ n → part W a (length u) ≡ u
+named-back W p e l = rw (e, l) p
+
+-- ---- lengths
+pub slot-length : (m : ℕ) (ws : List ℕ) → length ws ≤ m + 1 → length (slot m ws) ≡ m + 1
+unfolding slot
+slot-length m ws h = simp (length-append, length-zeros) (omega arith)
+
+pub header-length : (st : State) → length (header st) ≡ 16
+unfolding header
+header-length st = omega (arith, length-zeros 10)
+
+pub entry-length : (k : Kind) (m : ℕ) (xs : List ℕ) (l : map.State) (e : Entry) → m ≤ 64 → GoodEntry m e → length (entryWords k m xs l e) ≡ entryWidth k m
+unfolding entryWords signWords
+entry-length k m xs l e h g = go k
+  where
+    lm : length (slot m (e .lm)) ≡ m + 1
+    lm = slot-length m (e .lm) (canonical-length 1 m (e .lm) (omega arith) (omega arith) (g .lm-canonical))
+
+    sign : length (slot m (e .sign)) ≡ m + 1
+    sign = slot-length m (e .sign) (canonical-length 1 m (e .sign) (omega arith) (omega arith) (g .sign-canonical))
+
+    go : (k : Kind) → length (slot m (e .lm) ++ (mask m xs (pow 1 (e .lm)) ∷ signWords k m xs l e)) ≡ entryWidth k m
+    go monomials = length-append (slot m (e .lm)) _ ∙ omega (arith, lm)
+    go ratioed = length-append (slot m (e .lm)) _ ∙ simp length-append (omega (arith, lm, sign))
+
+-- the gcd of places has no variable that none of them has
+least-of-none : (f : ℕ → ℕ) → ((e : ℕ) → f e ≡ 0) → (x : ℕ) (xs : List ℕ) → leastOf f x xs ≡ 0
+unfolding leastOf
+least-of-none f h x [] = h x
+least-of-none f h x (y ∷ ys) = omega (arith, h x)
+
+least-none : (f : ℕ → ℕ) → ((e : ℕ) → f e ≡ 0) → (places : List ℕ) → least f places ≡ 0
+unfolding least
+least-none f h [] = refl
+least-none f h (x ∷ xs) = least-of-none f h x xs
+
+module _ (m : ℕ) (xs : List ℕ) (pw : ℕ → ℕ → ℕ) (few : m ≤ 64) (above : (v e : ℕ) → m ≤ v → pw v e ≡ 0) where
+  pub node-length : (tag key skip : ℕ) (places : List ℕ) → length (nodeWords m xs pw tag key skip places) ≡ nodeWidth m
+  unfolding nodeWords gcdPowers
+  node-length tag key skip places =
+      let short = monomial-length 1 m (gcdPowers pw places) (omega arith) (λ v h. least-none (pw v) (λ e. above v e h) places) in
+      omega (arith, slot-length m (monomialOf 1 (gcdPowers pw places)) short)
+
+  pub tree-length : (t : Tree) → length (treeWords m xs pw t) ≡ nodes t * nodeWidth m
+  unfolding treeWords nodes
+  tree-length (leaf places) = omega (arith, node-length 0 0 0 places)
+  tree-length (branch d k l r) =
+      simp length-append
+      (omega (
+        arith,
+        node-length (suc d) k (nodes l) (inorder l ++ inorder r),
+        tree-length l,
+        tree-length r,
+        add-mul 1 (nodes l + nodes r) (nodeWidth m),
+        add-mul (nodes l) (nodes r) (nodeWidth m),
+      )
+      )
+
+-- ---- the image of a state as its tables
+-- what the lengths of the tables rest on
+pub record Fits (st : State) : Type 0 where
+  pub vars-to : st .variables ≤ 64
+  pub few : length (st .entries) ≤ st .capacity
+  pub maxima : length (st .maxima) ≡ st .variables
+  pub map : length (st .mapMaxima) ≡ st .variables
+  pub good : (i : ℕ) → i < length (st .entries) → GoodEntry (st .variables) (entryAt (st .entries) i)
+  pub all : count (st .tree) ≡ length (st .entries)
+  pub nodes-to : nodes (st .tree) ≤ 2 * st .capacity - 1
+  pub powers : (v e : ℕ) → st .variables ≤ v → powerIn (st .entries) v e ≡ 0
+  pub label-words : length (labelWords (st .kind) (st .labels)) ≡ labelsSize (st .kind) (st .variables) (st .capacity)
+
+module _ (W : List ℕ) (st : State) (f : Fits st) (room : size (st .kind) (st .variables) (st .capacity) ≤ length W) where
+  abbrev k : Kind
+  k = st .kind
+
+  abbrev m : ℕ
+  m = st .variables
+
+  abbrev c : ℕ
+  c = st .capacity
+
+  abbrev n : ℕ
+  n = length (st .entries)
+
+  abbrev w : ℕ
+  w = entryWidth k m
+
+  abbrev x : ℕ
+  x = nodeWidth m
+
+  abbrev d : ℕ
+  d = nodes (st .tree)
+
+  abbrev ls : ℕ
+  ls = labelsSize k m c
+
+  abbrev tabled : List ℕ
+  tabled = table n (λ i. entryWords k m (st .mapMaxima) (st .labels) (entryAt (st .entries) i))
+
+  abbrev treed : List ℕ
+  treed = treeWords m (st .mapMaxima) (powerIn (st .entries)) (st .tree)
+
+  entries-whole : n * w + (c - n) * w ≡ c * w
+  entries-whole = split-rows n c w (f .few)
+
+  nodes-whole : d * x + (2 * c - 1 - d) * x ≡ (2 * c - 1) * x
+  nodes-whole = split-rows d (2 * c - 1) x (f .nodes-to)
+
+  entries-long : length tabled ≡ n * w
+  entries-long = length-table n w _ (λ i h. entry-length k m (st .mapMaxima) (st .labels) (entryAt (st .entries) i) (f .vars-to) (f .good i h))
+
+  nodes-long : length treed ≡ d * x
+  nodes-long = tree-length m (st .mapMaxima) (powerIn (st .entries)) (f .vars-to) (f .powers) (st .tree)
+
+  free : length (zeros ((c - n) * w)) ≡ (c - n) * w
+  free = length-zeros ((c - n) * w)
+
+  free-places : length (zeros (c - n)) ≡ c - n
+  free-places = length-zeros (c - n)
+
+  free-nodes : length (zeros ((2 * c - 1 - d) * x)) ≡ (2 * c - 1 - d) * x
+  free-nodes = length-zeros ((2 * c - 1 - d) * x)
+
+  abbrev others : List (List ℕ)
+  others =
+      st .maxima ∷ st .mapMaxima ∷ tabled ∷ zeros ((c - n) * w) ∷ inorder (st .tree) ∷ zeros (c - n) ∷ labelWords k (st .labels)
+      ∷ treed ∷ zeros ((2 * c - 1 - d) * x) ∷ []
+
+  whole : joined (header st) others ≡ encode st
+  unfolding joined encode
+  whole = refl
+
+  pub image-length : length (encode st) ≡ size k m c
+  unfolding encode
+  image-length =
+      simp length-append
+      (omega (
+        arith,
+        header-length st,
+        f .maxima,
+        f .map,
+        entries-long,
+        free,
+        f .all,
+        free-places,
+        f .label-words,
+        nodes-long,
+        free-nodes,
+        entries-whole,
+        nodes-whole,
+        f .few,
+      )
+      )
+
+  -- where the tables begin
+  at1 : 0 + length (header st) ≡ 16
+  at1 = omega (arith, header-length st)
+
+  at2 : 0 + length (header st) + length (st .maxima) ≡ mapAt m
+  at2 = omega (arith, at1, f .maxima)
+
+  at3 : 0 + length (header st) + length (st .maxima) + length (st .mapMaxima) ≡ entriesAt m
+  at3 = omega (arith, at2, f .map)
+
+  at4 : 0 + length (header st) + length (st .maxima) + length (st .mapMaxima) + length tabled ≡ entriesAt m + n * w
+  at4 = omega (arith, at3, entries-long)
+
+  at5 : 0 + length (header st) + length (st .maxima) + length (st .mapMaxima) + length tabled + length (zeros ((c - n) * w)) ≡ permutationAt k m c
+  at5 = omega (arith, at4, free, entries-whole)
+
+  abbrev before : ℕ
+  before = 0 + length (header st) + length (st .maxima) + length (st .mapMaxima) + length tabled + length (zeros ((c - n) * w))
+
+  at6 : before + length (inorder (st .tree)) ≡ permutationAt k m c + n
+  at6 = omega (arith, at5, f .all)
+
+  at7 : before + length (inorder (st .tree)) + length (zeros (c - n)) ≡ labelsAt k m c
+  at7 = omega (arith, at6, free-places, f .few)
+
+  at8 : before + length (inorder (st .tree)) + length (zeros (c - n)) + length (labelWords k (st .labels)) ≡ nodesAt k m c
+  at8 = omega (arith, at7, f .label-words)
+
+  at9 : before + length (inorder (st .tree)) + length (zeros (c - n)) + length (labelWords k (st .labels)) + length treed ≡ nodesAt k m c + d * x
+  at9 = omega (arith, at8, nodes-long)
+
+  fits : 0 + length (joined (header st) others) ≤ length W
+  fits = let l = ap length whole ∙ image-length in omega (arith, l)
+
+  pub pieces-of : part W 0 (size k m c) ≡ encode st → Pieces W st
+  pieces-of is =
+      let s = apart W 0 (header st) others fits (rw (whole, image-length) is) in
+      record {
+        head = renamed W (s .0) refl (header-length st);
+        maxima = renamed W (s .1 .0) at1 (f .maxima);
+        map = renamed W (s .1 .1 .0) at2 (f .map);
+        entries = renamed W (s .1 .1 .1 .0) at3 entries-long;
+        entries-rest = renamed W (s .1 .1 .1 .1 .0) at4 free;
+        permutation = renamed W (s .1 .1 .1 .1 .1 .0) at5 (f .all);
+        permutation-rest = renamed W (s .1 .1 .1 .1 .1 .1 .0) at6 free-places;
+        labels = renamed W (s .1 .1 .1 .1 .1 .1 .1 .0) at7 (f .label-words);
+        nodes-are = renamed W (s .1 .1 .1 .1 .1 .1 .1 .1 .0) at8 nodes-long;
+        nodes-rest = renamed W (s .1 .1 .1 .1 .1 .1 .1 .1 .1) at9 free-nodes;
+      }
+
+  pub of-pieces : Pieces W st → part W 0 (size k m c) ≡ encode st
+  of-pieces p =
+      let s : Stand W 0 (header st) others = (named-back W (p .head) refl (header-length st), (named-back W (p .maxima) at1 (f .maxima), (named-back W (p .map) at2 (f .map), (named-back W (p .entries) at3 entries-long, (named-back W (p .entries-rest) at4 free, (named-back W (p .permutation) at5 (f .all), (named-back W (p .permutation-rest) at6 free-places, (named-back W (p .labels) at7 (f .label-words), (named-back W (p .nodes-are) at8 nodes-long, named-back W (p .nodes-rest) at9 free-nodes))))))))) in
+      rw (whole, image-length) at (together W 0 (header st) others fits s)

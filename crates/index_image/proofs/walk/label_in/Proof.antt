@@ -1,0 +1,101 @@
+use native.Mathlib.Omega.{arith}
+use mathlib.Core.Path.{_≡_, refl, sym, ap, _∙_}
+use Prim.Native.Nat.{ℕ, _+_, _*_, _<_, _≤_}
+use lib.ListN.{length, getD}
+use Rattle.words.specs.Words.{words}
+use Rattle.index_image.specs.Walk.{label, rowIn}
+use Rattle.index_image.proofs.Places.{width-ratio, entry-room, label-room}
+use Rattle.index_image.proofs.Reading.{label-at}
+use borrow.Author.Needs.{needs}
+use Rattle.index_image.proofs.walk.label_in.Statement.{statement}
+use Rattle.index_image.proofs.walk.label_in.Tie as tie
+use Rattle.index_image.proofs.walk.label_in.Reads as reads
+use Rattle.index_image.proofs.walk.label_in.Lts as lts
+use Rattle.index_image.proofs.Shape.entry_at.Reads as entry-at-reads
+use Rattle.index_image.proofs.Shape.labels_at.Reads as labels-at-reads
+use Rattle.words.proofs.get.Reads as get-reads
+
+-- src/walk.rt:64:31
+entry-at-requires : tie.Need-entry-at-requires
+entry-at-requires c κs = search needs
+
+-- src/walk.rt:64:48
+mul-get : tie.Need-mul-get
+mul-get c = search needs
+
+-- src/walk.rt:64:48
+add-get : tie.Need-add-get
+add-get c = search needs
+
+-- src/walk.rt:64:31
+add-get-2 : tie.Need-add-get-2
+add-get-2 c = omega (arith, entry-room (c .before .before .args .image .now) (c .before .before .args .s) (c .before .before .pre .0) (c .before .before .args .e) (c .before .before .pre .1 .1), width-ratio (words (c .before .before .args .image .now)) (c .before .before .args .s) (c .before .before .pre .0) (c .before .before .pre .1 .0), c .entry-at .ensures)
+
+-- src/walk.rt:64:13
+get-requires : tie.Need-get-requires
+get-requires c κs = omega (arith, entry-room (c .before .before .args .image .now) (c .before .before .args .s) (c .before .before .pre .0) (c .before .before .args .e) (c .before .before .pre .1 .1), width-ratio (words (c .before .before .args .image .now)) (c .before .before .args .s) (c .before .before .pre .0) (c .before .before .pre .1 .0), c .entry-at .ensures)
+
+-- src/walk.rt:64:13
+cast-r : tie.Need-cast-r
+cast-r c = search needs
+
+-- src/walk.rt:65:23
+labels-at-requires : tie.Need-labels-at-requires
+labels-at-requires c κs = search needs
+
+-- src/walk.rt:65:49
+add-get-3 : tie.Need-add-get-3
+add-get-3 c = search needs
+
+-- src/walk.rt:65:44
+mul-get-2 : tie.Need-mul-get-2
+mul-get-2 c = omega (arith, label-room (c .before .before .before .before .args .image .now) (c .before .before .before .before .args .s) (c .before .before .before .before .pre .0) (c .before .before .before .before .pre .1 .0) (c .before .get .result) (rw (c .before .get .ensures, c .before .before .entry-at .ensures) ((c .before .before .before .before .pre .0 .rows) (c .before .before .before .before .pre .1 .0) (c .before .before .before .before .args .e) (c .before .before .before .before .pre .1 .1))))
+
+-- src/walk.rt:65:40
+add-get-4 : tie.Need-add-get-4
+add-get-4 c = omega (arith, label-room (c .before .before .before .before .args .image .now) (c .before .before .before .before .args .s) (c .before .before .before .before .pre .0) (c .before .before .before .before .pre .1 .0) (c .before .get .result) (rw (c .before .get .ensures, c .before .before .entry-at .ensures) ((c .before .before .before .before .pre .0 .rows) (c .before .before .before .before .pre .1 .0) (c .before .before .before .before .args .e) (c .before .before .before .before .pre .1 .1))))
+
+-- src/walk.rt:65:59
+add-get-5 : tie.Need-add-get-5
+add-get-5 c = search needs
+
+-- src/walk.rt:65:40
+add-get-6 : tie.Need-add-get-6
+add-get-6 c = omega (arith, label-room (c .before .before .before .before .args .image .now) (c .before .before .before .before .args .s) (c .before .before .before .before .pre .0) (c .before .before .before .before .pre .1 .0) (c .before .get .result) (rw (c .before .get .ensures, c .before .before .entry-at .ensures) ((c .before .before .before .before .pre .0 .rows) (c .before .before .before .before .pre .1 .0) (c .before .before .before .before .args .e) (c .before .before .before .before .pre .1 .1))))
+
+-- src/walk.rt:65:23
+add-get-7 : tie.Need-add-get-7
+add-get-7 c = omega (arith, label-room (c .before .before .before .before .args .image .now) (c .before .before .before .before .args .s) (c .before .before .before .before .pre .0) (c .before .before .before .before .pre .1 .0) (c .before .get .result) (rw (c .before .get .ensures, c .before .before .entry-at .ensures) ((c .before .before .before .before .pre .0 .rows) (c .before .before .before .before .pre .1 .0) (c .before .before .before .before .args .e) (c .before .before .before .before .pre .1 .1))), c .labels-at .ensures)
+
+-- src/walk.rt:65:5
+get-requires-2 : tie.Need-get-requires-2
+get-requires-2 c κs = omega (arith, label-room (c .before .before .before .before .args .image .now) (c .before .before .before .before .args .s) (c .before .before .before .before .pre .0) (c .before .before .before .before .pre .1 .0) (c .before .get .result) (rw (c .before .get .ensures, c .before .before .entry-at .ensures) ((c .before .before .before .before .pre .0 .rows) (c .before .before .before .before .pre .1 .0) (c .before .before .before .before .args .e) (c .before .before .before .before .pre .1 .1))), c .labels-at .ensures)
+
+-- src/walk.rt:65:5
+cast-result : tie.Need-cast-result
+cast-result c = search needs
+
+-- src/walk.rt:58:1
+returns : tie.Need-returns
+returns c = label-at (words (c .before .before .before .before .before .args .image .now)) (c .before .before .before .before .before .args .s) (c .before .before .before .before .before .args .e) (c .before .before .before .entry-at .result) (c .before .before .get .result) (c .before .labels-at .result) (c .get2 .result) (c .before .before .before .entry-at .ensures) (c .before .before .get .ensures) (c .before .labels-at .ensures) (c .get2 .ensures)
+
+pub label-in-spec : {M : Type 1} → statement M
+label-in-spec =
+    tie.close
+    (tie.spec
+    entry-at-requires
+    mul-get
+    add-get
+    add-get-2
+    get-requires
+    cast-r
+    labels-at-requires
+    add-get-3
+    mul-get-2
+    add-get-4
+    add-get-5
+    add-get-6
+    add-get-7
+    get-requires-2
+    cast-result
+    returns)

@@ -1,0 +1,159 @@
+use Rattle.index_image.proofs.Places.{place-room}
+use native.Mathlib.Omega.{arith}
+use mathlib.Core.Path.{_≡_, refl, sym, ap, _∙_}
+use Prim.Native.Nat.{ℕ, _+_, _-_, _*_, _/_, _<_, _≤_}
+use lib.ListN.{length, take, drop}
+use Rattle.words.specs.Words.{words}
+use Rattle.words.specs.Tables.{part}
+use Rattle.words.proofs.Laws.{length-words, words-part}
+use Rattle.index_image.specs.Walk.{mapMaxima}
+use Rattle.index_image.proofs.Reading.{canonical-long, other-mask, other-words, by-zeros, part-words}
+use borrow.Author.Needs.{needs}
+use Rattle.index_image.proofs.walk.node_ok.Statement.{statement}
+use Rattle.index_image.proofs.walk.node_ok.Tie as tie
+use Rattle.index_image.proofs.walk.node_ok.Reads as reads
+use Rattle.index_image.proofs.walk.node_ok.Lts as lts
+use Rattle.divmask.proofs.map.Reads as map-reads
+use Rattle.monomial.proofs.eq.Reads as eq-reads
+use Rattle.words.proofs.get.Reads as get-reads
+use Rattle.words.proofs.runs.is_blank.Reads as is-blank-reads
+
+-- src/walk.rt:158:18
+add-x : tie.Need-add-x
+add-x c = search needs
+
+-- src/walk.rt:158:13
+mul-x : tie.Need-mul-x
+mul-x c = search needs
+
+-- src/walk.rt:159:17
+mul-y : tie.Need-mul-y
+mul-y c = search needs
+
+-- src/walk.rt:159:13
+add-y : tie.Need-add-y
+add-y c = search needs
+
+-- src/walk.rt:160:26
+add-get : tie.Need-add-get
+add-get c = search needs
+
+-- src/walk.rt:160:8
+get-requires : tie.Need-get-requires
+get-requires c κs = search needs
+
+-- src/walk.rt:160:50
+sub-map : tie.Need-sub-map
+sub-map c = search needs
+
+-- src/walk.rt:160:50
+part-map-start : tie.Need-part-map-start
+part-map-start c = search needs
+
+-- src/walk.rt:160:50
+part-map-end : tie.Need-part-map-end
+part-map-end c = omega (arith, place-room (c .before .before .before .args .image .now) (c .before .before .before .args .s) (c .before .before .before .pre .0) 0 (omega arith))
+
+-- src/walk.rt:160:64
+cast-map : tie.Need-cast-map
+cast-map c = search needs
+
+-- src/walk.rt:160:37
+map-requires : tie.Need-map-requires
+map-requires c κs = (rw (part-words (c .before .before .before .before .args .image .now) (16 + (c .before .before .before .before .args .s .variables)) (c .before .before .before .before .args .s .variables) (4 * (16 + (c .before .before .before .before .args .s .variables)) + 4 * (c .before .before .before .before .args .s .variables) - 4 * (16 + (c .before .before .before .before .args .s .variables))) (omega arith)) (c .before .before .before .before .pre .0 .map), c .before .before .before .before .pre .1 .1)
+
+-- src/walk.rt:161:9
+returns : tie.Need-returns
+returns c = other-mask (words (c .before .before .before .before .before .before .args .image .now)) (c .before .before .before .before .before .before .args .s) (c .before .before .before .before .before .before .args .at) (words (c .before .before .before .before .before .before .args .gcd .now)) (c .before .before .before .before .before .before .pre .0 .range .vars-to) (c .before .before .before .before .before .before .pre .1 .1) (omega (arith, length-words (c .before .before .before .before .before .before .args .image .now), c .before .before .before .before .before .before .pre .1 .0)) (c .before .before .before .get .result) (c .before .map .result) (c .before .before .before .get .ensures) (rw (part-words (c .before .before .before .before .before .before .args .image .now) (16 + (c .before .before .before .before .before .before .args .s .variables)) (c .before .before .before .before .before .before .args .s .variables) (4 * (16 + (c .before .before .before .before .before .before .args .s .variables)) + 4 * (c .before .before .before .before .before .before .args .s .variables) - 4 * (16 + (c .before .before .before .before .before .before .args .s .variables))) (omega arith)) at (c .before .map .ensures)) (c .if1 .taken)
+
+-- src/walk.rt:164:18
+add-g : tie.Need-add-g
+add-g c = search needs
+
+-- src/walk.rt:164:13
+mul-g : tie.Need-mul-g
+mul-g c = search needs
+
+-- src/walk.rt:165:17
+mul-h : tie.Need-mul-h
+mul-h c = search needs
+
+-- src/walk.rt:165:13
+add-h : tie.Need-add-h
+add-h c = search needs
+
+-- src/walk.rt:166:22
+sub-eq : tie.Need-sub-eq
+sub-eq c = search needs
+
+-- src/walk.rt:166:22
+part-eq-start : tie.Need-part-eq-start
+part-eq-start c = search needs
+
+-- src/walk.rt:166:22
+part-eq-end : tie.Need-part-eq-end
+part-eq-end c = omega (arith, length-words (c .before .before .before .before .before .before .args .gcd .now), canonical-long (c .before .before .before .before .before .before .args .s .variables) (words (c .before .before .before .before .before .before .args .gcd .now)) (c .before .before .before .before .before .before .pre .0 .range .vars-to) (c .before .before .before .before .before .before .pre .1 .1), c .before .before .before .before .before .before .pre .1 .0)
+
+-- src/walk.rt:166:9
+eq-requires : tie.Need-eq-requires
+eq-requires c κs = search needs
+
+-- src/walk.rt:167:9
+returns-2 : tie.Need-returns-2
+returns-2 c = other-words (words (c .before .before .before .before .before .before .before .before .before .args .image .now)) (c .before .before .before .before .before .before .before .before .before .args .s) (c .before .before .before .before .before .before .before .before .before .args .at) (words (c .before .before .before .before .before .before .before .before .before .args .gcd .now)) (c .before .before .before .before .before .before .before .before .before .pre .0 .range .vars-to) (c .before .before .before .before .before .before .before .before .before .pre .1 .1) (omega (arith, length-words (c .before .before .before .before .before .before .before .before .before .args .image .now), c .before .before .before .before .before .before .before .before .before .pre .1 .0)) (c .before .before .before .before .before .before .get .result) (c .before .before .before .before .map .result) (c .before .before .before .before .before .before .get .ensures) (rw (part-words (c .before .before .before .before .before .before .before .before .before .args .image .now) (16 + (c .before .before .before .before .before .before .before .before .before .args .s .variables)) (c .before .before .before .before .before .before .before .before .before .args .s .variables) (4 * (16 + (c .before .before .before .before .before .before .before .before .before .args .s .variables)) + 4 * (c .before .before .before .before .before .before .before .before .before .args .s .variables) - 4 * (16 + (c .before .before .before .before .before .before .before .before .before .args .s .variables))) (omega arith)) at (c .before .before .before .before .map .ensures)) (length (c .before .before .before .before .before .before .before .before .before .args .gcd .now) / 4) (sym (length-words (c .before .before .before .before .before .before .before .before .before .args .gcd .now))) _ (part-words (c .before .before .before .before .before .before .before .before .before .args .image .now) ((c .before .before .before .before .before .before .before .before .before .args .at) + 5) (length (c .before .before .before .before .before .before .before .before .before .args .gcd .now) / 4) (4 * ((c .before .before .before .before .before .before .before .before .before .args .at) + 5) + 4 * (length (c .before .before .before .before .before .before .before .before .before .args .gcd .now) / 4) - 4 * ((c .before .before .before .before .before .before .before .before .before .args .at) + 5)) (omega arith)) (c .before .eq .result) (c .before .eq .ensures) (c .if2 .taken)
+
+-- src/walk.rt:169:34
+add-is-blank : tie.Need-add-is-blank
+add-is-blank c = search needs
+
+-- src/walk.rt:169:34
+add-is-blank-2 : tie.Need-add-is-blank-2
+add-is-blank-2 c = search needs
+
+-- src/walk.rt:169:46
+add-is-blank-3 : tie.Need-add-is-blank-3
+add-is-blank-3 c = search needs
+
+-- src/walk.rt:169:46
+sub-is-blank : tie.Need-sub-is-blank
+sub-is-blank c = omega (arith, length-words (c .before .before .before .before .before .before .before .before .before .args .gcd .now), canonical-long (c .before .before .before .before .before .before .before .before .before .args .s .variables) (words (c .before .before .before .before .before .before .before .before .before .args .gcd .now)) (c .before .before .before .before .before .before .before .before .before .pre .0 .range .vars-to) (c .before .before .before .before .before .before .before .before .before .pre .1 .1))
+
+-- src/walk.rt:169:5
+is-blank-requires : tie.Need-is-blank-requires
+is-blank-requires c κs = omega (arith, length-words (c .before .before .before .before .before .before .before .before .before .args .gcd .now), canonical-long (c .before .before .before .before .before .before .before .before .before .args .s .variables) (words (c .before .before .before .before .before .before .before .before .before .args .gcd .now)) (c .before .before .before .before .before .before .before .before .before .pre .0 .range .vars-to) (c .before .before .before .before .before .before .before .before .before .pre .1 .1), c .before .before .before .before .before .before .before .before .before .pre .1 .0)
+
+-- src/walk.rt:151:1
+returns-3 : tie.Need-returns-3
+returns-3 c = by-zeros (words (c .before .before .before .before .before .before .before .before .before .before .args .image .now)) (c .before .before .before .before .before .before .before .before .before .before .args .s) (c .before .before .before .before .before .before .before .before .before .before .args .at) (words (c .before .before .before .before .before .before .before .before .before .before .args .gcd .now)) (c .before .before .before .before .before .before .before .before .before .before .pre .0 .range .vars-to) (c .before .before .before .before .before .before .before .before .before .before .pre .1 .1) (omega (arith, length-words (c .before .before .before .before .before .before .before .before .before .before .args .image .now), c .before .before .before .before .before .before .before .before .before .before .pre .1 .0)) (c .before .before .before .before .before .before .before .get .result) (c .before .before .before .before .before .map .result) (c .before .before .before .before .before .before .before .get .ensures) (rw (part-words (c .before .before .before .before .before .before .before .before .before .before .args .image .now) (16 + (c .before .before .before .before .before .before .before .before .before .before .args .s .variables)) (c .before .before .before .before .before .before .before .before .before .before .args .s .variables) (4 * (16 + (c .before .before .before .before .before .before .before .before .before .before .args .s .variables)) + 4 * (c .before .before .before .before .before .before .before .before .before .before .args .s .variables) - 4 * (16 + (c .before .before .before .before .before .before .before .before .before .before .args .s .variables))) (omega arith)) at (c .before .before .before .before .before .map .ensures)) (length (c .before .before .before .before .before .before .before .before .before .before .args .gcd .now) / 4) (sym (length-words (c .before .before .before .before .before .before .before .before .before .before .args .gcd .now))) _ (part-words (c .before .before .before .before .before .before .before .before .before .before .args .image .now) ((c .before .before .before .before .before .before .before .before .before .before .args .at) + 5) (length (c .before .before .before .before .before .before .before .before .before .before .args .gcd .now) / 4) (4 * ((c .before .before .before .before .before .before .before .before .before .before .args .at) + 5) + 4 * (length (c .before .before .before .before .before .before .before .before .before .before .args .gcd .now) / 4) - 4 * ((c .before .before .before .before .before .before .before .before .before .before .args .at) + 5)) (omega arith)) (c .before .before .eq .result) (c .before .before .eq .ensures) (c .before .before .before .before .if1 .left) (c .before .if2 .left) (c .is-blank .result) (c .is-blank .ensures)
+
+pub node-ok-spec : {M : Type 1} → statement M
+node-ok-spec =
+    tie.close
+    (tie.spec
+    add-x
+    mul-x
+    mul-y
+    add-y
+    add-get
+    get-requires
+    sub-map
+    part-map-start
+    part-map-end
+    cast-map
+    map-requires
+    returns
+    add-g
+    mul-g
+    mul-h
+    add-h
+    sub-eq
+    part-eq-start
+    part-eq-end
+    eq-requires
+    returns-2
+    add-is-blank
+    add-is-blank-2
+    add-is-blank-3
+    sub-is-blank
+    is-blank-requires
+    returns-3)

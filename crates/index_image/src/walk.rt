@@ -1,0 +1,431 @@
+// The walk over the node rows: whether one tree stands there, in preorder, with its entries in the permutation.
+// Upper bounds of powers go down in `hi`, one word a variable, and the range of labels in two numbers; so each word is read a few times only.
+use crate::Shape;
+ghost use mathlib.Core.Path.{_≡_};
+ghost use mathlib.Core.Bool.{true};
+ghost use mathlib.Core.Logic.{_↔_};
+ghost use Prim.Native.Nat.{ℕ, min, max, _+_, _*_, _<_, _≤_};
+ghost use lib.ListN.{length, getD};
+ghost use Rattle.words.specs.Words.{words, putW, pasteW};
+ghost use Rattle.words.specs.Tables.{part};
+ghost use Rattle.monomial.specs.Monomial.{Canonical, pow};
+ghost use Rattle.monomial.specs.Operations.{result};
+ghost use Rattle.monomial.specs.declared.ordered_ops.Op.the-variants.{Gcd};
+ghost use Rattle.index_image.specs.Shape as shape;
+ghost use Rattle.index_image.specs.Walk.{Ready, Bounded, Walked};
+ghost use Rattle.index_image.specs.Walk as entry;
+ghost use Rattle.index_image.specs.Rows as row;
+
+// The bounds of a branch's sides: on the less side variable `variable` is below `power` and labels are below `less`,
+// on the other side labels are from `other` on.
+pub struct Limits {
+    pub variable: usize,
+    pub power: u32,
+    pub less: u64,
+    pub other: u64,
+}
+
+// The part of the image that is the canonical monomial at word g.
+fn monomial_in(image: &[u8], s: Shape, g: usize) -> &[u8]
+    requires { ⌜ s .variables ≤ 64 ⌝ }
+    ensures { λ r. ⌜ row.Taken (now r) (row.monomialIn (words (now (image .entry))) (s .variables) g) ⌝ }
+{
+    monomial::monomial_at(image, g, s.variables as u32)
+}
+
+// Whether every power of a monomial is below its bound. Absent variables have power 0, and no bound is 0.
+fn powers_below(lm: &[u8], variables: usize, hi: &[u8]) -> bool
+    requires { ⌜ variables ≤ 64 ⌝ }
+    requires { ⌜ Canonical 1 variables (words (now lm)) ⌝ }
+    requires { ⌜ row.Uppers variables (now hi) ⌝ }
+    ensures { λ r. ⌜ (r ≡ true) ↔ ((v : ℕ) → v < variables → pow 1 (words (now (lm .entry))) v < getD (words (now (hi .entry))) v 0) ⌝ }
+{
+    let mut i: usize = 0;
+    loop {
+        let w = words::get(lm, i);
+        if w / 65536 == 0 {
+            return true;
+        }
+        let x = words::get(hi, (w / 65536 % 4096) as usize);
+        if x <= w % 65536 {
+            return false;
+        }
+        i += 1;
+    }
+}
+
+// The label of the ratio of entry e.
+fn label_in(image: &[u8], s: Shape, e: usize) -> u64
+    requires { ⌜ Ready (words (now image)) s ⌝ }
+    requires { ⌜ (s .kind ≡ 1) × (e < s .entries) ⌝ }
+    ensures { λ r. ⌜ r ≡ entry.label (words (now (image .entry))) s e ⌝ }
+{
+    let m = s.variables;
+    let r = words::get(image, s.entry_at(e) + (2 * m + 5)) as usize;
+    words::get(image, s.labels_at() + (4 + r * (m + 3) + (m + 2))) as u64
+}
+
+// Whether entry e is within the bounds.
+fn entry_ok(image: &[u8], s: Shape, hi: &[u8], ll: u64, lh: u64, e: usize) -> bool
+    requires { ⌜ Ready (words (now image)) s ⌝ }
+    requires { ⌜ row.Uppers (s .variables) (now hi) ⌝ }
+    requires { ⌜ e < s .entries ⌝ }
+    ensures { λ r. ⌜ (r ≡ true) ↔ row.Inside (words (now (image .entry))) s (words (now (hi .entry))) ll lh e ⌝ }
+{
+    let lm = monomial_in(image, s, s.entry_at(e));
+    if !powers_below(lm, s.variables, hi) {
+        return false;
+    }
+    if s.kind == 0 {
+        return true;
+    }
+    let l = label_in(image, s, e);
+    if l < ll {
+        return false;
+    }
+    l < lh
+}
+
+// Whether the c entries from place lo on are within the bounds.
+fn entries_ok(image: &[u8], s: Shape, hi: &[u8], ll: u64, lh: u64, lo: usize, c: usize) -> bool
+    requires { ⌜ Ready (words (now image)) s ⌝ }
+    requires { ⌜ row.Uppers (s .variables) (now hi) ⌝ }
+    requires { ⌜ lo + c ≤ s .entries ⌝ }
+    ensures { λ r. ⌜ (r ≡ true) ↔ Bounded (words (now (image .entry))) s (words (now (hi .entry))) ll lh (row.entriesFrom (words (now (image .entry))) s lo c) ⌝ }
+{
+    let p = s.permutation_at() + lo;
+    let mut i: usize = 0;
+    while i < c {
+        let e = words::get(image, p + i) as usize;
+        if !entry_ok(image, s, hi, ll, lh, e) {
+            return false;
+        }
+        i += 1;
+    }
+    true
+}
+
+// Replaces the monomial in the first n words by its gcd with another, and returns its length in words.
+fn meet(acc: &mut [u8], n: usize, other: &[u8]) -> usize
+    requires { ⌜ length (now acc) ≡ 260 ⌝ }
+    requires { ⌜ n ≤ 65 ⌝ }
+    requires { ⌜ Canonical 1 64 (part (words (now acc)) 0 n) ⌝ }
+    requires { ⌜ Canonical 1 64 (words (now other)) ⌝ }
+    ensures { λ r. ⌜ r ≡ length (result Gcd (part (words (now (acc .entry))) 0 n) (words (now (other .entry)))) ⌝ }
+    ensures { λ _. ⌜ now (acc .exit) ≡ pasteW (now (acc .entry)) 0 (result Gcd (part (words (now (acc .entry))) 0 n) (words (now (other .entry)))) ⌝ }
+{
+    let mut made = [0u8; 260];
+    let e = 4 * n;
+    let r = monomial::gcd(&acc[..e], other, &mut made);
+    let f = 4 * r;
+    words::runs::paste(acc, 0, &made[..f]);
+    r
+}
+
+// Writes the gcd of the c entries from place lo on, and returns its length in words. Of none it is one.
+fn gcd_of(image: &[u8], s: Shape, lo: usize, c: usize, acc: &mut [u8]) -> usize
+    requires { ⌜ Ready (words (now image)) s ⌝ }
+    requires { ⌜ lo + c ≤ s .entries ⌝ }
+    requires { ⌜ length (now acc) ≡ 260 ⌝ }
+    ensures { λ r. ⌜ (r ≤ 65) × (part (words (now (acc .exit))) 0 r ≡ row.gcdOf (words (now (image .entry))) s (row.entriesFrom (words (now (image .entry))) s lo c)) ⌝ }
+{
+    if c == 0 {
+        words::put(acc, 0, 0);
+        return 1;
+    }
+    let p = s.permutation_at() + lo;
+    let e = words::get(image, p) as usize;
+    let first = monomial_in(image, s, s.entry_at(e));
+    words::runs::paste(acc, 0, first);
+    let mut n = first.len() / 4;
+    let mut i: usize = 1;
+    while i < c {
+        let e = words::get(image, p + i) as usize;
+        n = meet(acc, n, monomial_in(image, s, s.entry_at(e)));
+        i += 1;
+    }
+    n
+}
+
+// Whether the row at word `at` has this gcd and its mask.
+fn node_ok(image: &[u8], s: Shape, at: usize, gcd: &[u8]) -> bool
+    requires { ⌜ Ready (words (now image)) s ⌝ }
+    requires { ⌜ 4 * (at + (s .variables + 6)) ≤ length (now image) ⌝ }
+    requires { ⌜ Canonical 1 (s .variables) (words (now gcd)) ⌝ }
+    ensures { λ r. ⌜ (r ≡ true) ↔ row.NodeOk (words (now (image .entry))) s at (words (now (gcd .entry))) ⌝ }
+{
+    let m = s.variables;
+    let x = 4 * (16 + m);
+    let y = x + 4 * m;
+    if words::get(image, at + 4) != divmask::map(&image[x..y], m as u32, gcd) {
+        return false;
+    }
+    let n = gcd.len() / 4;
+    let g = 4 * (at + 5);
+    let h = g + 4 * n;
+    if !monomial::eq(&image[g..h], gcd) {
+        return false;
+    }
+    words::runs::is_blank(image, at + 5 + n, m + 1 - n)
+}
+
+// Whether the row at word `at` has the gcd of the c entries from place lo on, and its mask.
+fn leaf_gcd_ok(image: &[u8], s: Shape, at: usize, lo: usize, c: usize) -> bool
+    requires { ⌜ Ready (words (now image)) s ⌝ }
+    requires { ⌜ 4 * (at + (s .variables + 6)) ≤ length (now image) ⌝ }
+    requires { ⌜ lo + c ≤ s .entries ⌝ }
+    ensures { λ r. ⌜ (r ≡ true) ↔ row.NodeOk (words (now (image .entry))) s at (row.gcdOf (words (now (image .entry))) s (row.entriesFrom (words (now (image .entry))) s lo c)) ⌝ }
+{
+    let mut acc = [0u8; 260];
+    let e = 4 * gcd_of(image, s, lo, c, &mut acc);
+    node_ok(image, s, at, &acc[..e])
+}
+
+// Whether the row at word `at` is that of a leaf of the c entries from place lo on.
+fn leaf_ok(
+    image: &[u8],
+    s: Shape,
+    hi: &[u8],
+    ll: u64,
+    lh: u64,
+    at: usize,
+    lo: usize,
+    c: usize,
+) -> bool
+    requires { ⌜ Ready (words (now image)) s ⌝ }
+    requires { ⌜ row.Uppers (s .variables) (now hi) ⌝ }
+    requires { ⌜ 4 * (at + (s .variables + 6)) ≤ length (now image) ⌝ }
+    requires { ⌜ lo + c ≤ s .entries ⌝ }
+    ensures { λ r. ⌜ (r ≡ true) ↔ row.LeafOk (words (now (image .entry))) s (words (now (hi .entry))) ll lh at lo c ⌝ }
+{
+    if words::get(image, at + 1) != 0 {
+        return false;
+    }
+    if words::get(image, at + 3) != 0 {
+        return false;
+    }
+    if !leaf_gcd_ok(image, s, at, lo, c) {
+        return false;
+    }
+    entries_ok(image, s, hi, ll, lh, lo, c)
+}
+
+// Whether the row at word `at` has a branch's dimension and key, and entries for two sides.
+fn key_ok(image: &[u8], s: Shape, at: usize) -> bool
+    requires { ⌜ shape.InRange s ⌝ }
+    requires { ⌜ 4 * (at + 3) ≤ length (now image) ⌝ }
+    ensures { λ r. ⌜ (r ≡ true) ↔ row.KeyIn (words (now (image .entry))) s at ⌝ }
+{
+    if words::get(image, at + 2) < 2 {
+        return false;
+    }
+    let tag = words::get(image, at) as usize;
+    if tag == 0 {
+        return false;
+    }
+    if s.variables + s.kind < tag {
+        return false;
+    }
+    let key = words::get(image, at + 1) as usize;
+    if tag == s.kind {
+        return key < s.entries;
+    }
+    1 <= key
+}
+
+fn lesser(x: u64, y: u64) -> u64
+    ensures { λ r. ⌜ r ≡ min x y ⌝ }
+{
+    if x < y { x } else { y }
+}
+
+fn greater(x: u64, y: u64) -> u64
+    ensures { λ r. ⌜ r ≡ max x y ⌝ }
+{
+    if x < y { y } else { x }
+}
+
+// The bounds of the two sides of the branch at word `at`.
+fn sides(image: &[u8], s: Shape, hi: &[u8], ll: u64, lh: u64, at: usize) -> Limits
+    requires { ⌜ Ready (words (now image)) s ⌝ }
+    requires { ⌜ row.Uppers (s .variables) (now hi) ⌝ }
+    requires { ⌜ 4 * (at + 3) ≤ length (now image) ⌝ }
+    requires { ⌜ row.KeyIn (words (now image)) s at ⌝ }
+    ensures { λ r. ⌜ row.Cut (words (now (image .entry))) s (words (now (hi .entry))) ll lh at r ⌝ }
+{
+    let tag = words::get(image, at) as usize;
+    let key = words::get(image, at + 1);
+    if tag == s.kind {
+        let l = label_in(image, s, key as usize);
+        return Limits {
+            variable: 0,
+            power: words::get(hi, 0),
+            less: lesser(l, lh),
+            other: greater(l, ll),
+        };
+    }
+    let v = tag - 1 - s.kind;
+    let x = lesser(key as u64, words::get(hi, v) as u64) as u32;
+    Limits {
+        variable: v,
+        power: x,
+        less: lh,
+        other: ll,
+    }
+}
+
+// Whether the row at word `at` has the gcd of those at words a and b, and its mask.
+fn branch_gcd_ok(image: &[u8], s: Shape, at: usize, a: usize, b: usize) -> bool
+    requires { ⌜ Ready (words (now image)) s ⌝ }
+    requires { ⌜ 4 * (at + (s .variables + 6)) ≤ length (now image) ⌝ }
+    requires { ⌜ row.Slots (words (now image)) (s .variables) a b ⌝ }
+    requires { ⌜ (4 * (a + 6) ≤ length (now image)) × (4 * (b + 6) ≤ length (now image)) ⌝ }
+    ensures { λ r. ⌜ (r ≡ true) ↔ row.NodeOk (words (now (image .entry))) s at (result Gcd (row.monomialIn (words (now (image .entry))) (s .variables) (a + 5)) (row.monomialIn (words (now (image .entry))) (s .variables) (b + 5))) ⌝ }
+{
+    let mut made = [0u8; 260];
+    let e = 4
+        * monomial::gcd(
+            monomial_in(image, s, a + 5),
+            monomial_in(image, s, b + 5),
+            &mut made,
+        );
+    node_ok(image, s, at, &made[..e])
+}
+
+// Whether no power on the other side, whose row is at word b, is below the key of a variable.
+fn other_ok(image: &[u8], s: Shape, at: usize, b: usize) -> bool
+    requires { ⌜ shape.InRange s ⌝ }
+    requires { ⌜ 4 * (at + 3) ≤ length (now image) ⌝ }
+    requires { ⌜ row.KeyIn (words (now image)) s at ⌝ }
+    requires { ⌜ row.Slots (words (now image)) (s .variables) b b ⌝ }
+    requires { ⌜ 4 * (b + 6) ≤ length (now image) ⌝ }
+    ensures { λ r. ⌜ (r ≡ true) ↔ row.OtherOk (words (now (image .entry))) s at b ⌝ }
+{
+    let tag = words::get(image, at) as usize;
+    if tag == s.kind {
+        return true;
+    }
+    let v = tag - 1 - s.kind;
+    let p = monomial::power_of(monomial_in(image, s, b + 5), 1, v as u32);
+    words::get(image, at + 1) <= p
+}
+
+// Whether the row at word `at` is that of a branch over those at words a and b, the first of t rows.
+fn branch_ok(image: &[u8], s: Shape, at: usize, a: usize, b: usize, t: usize) -> bool
+    requires { ⌜ Ready (words (now image)) s ⌝ }
+    requires { ⌜ 4 * (at + (s .variables + 6)) ≤ length (now image) ⌝ }
+    requires { ⌜ (4 * (a + 6) ≤ length (now image)) × (4 * (b + 6) ≤ length (now image)) ⌝ }
+    requires { ⌜ row.KeyIn (words (now image)) s at ⌝ }
+    requires { ⌜ row.Slots (words (now image)) (s .variables) a b ⌝ }
+    ensures { λ r. ⌜ (r ≡ true) ↔ row.BranchOk (words (now (image .entry))) s at a b t ⌝ }
+{
+    let x = words::get(image, a + 2) as u64;
+    if x == 0 {
+        return false;
+    }
+    let y = words::get(image, b + 2) as u64;
+    if y == 0 {
+        return false;
+    }
+    if words::get(image, at + 2) as u64 != x + y {
+        return false;
+    }
+    if words::get(image, at + 3) as usize != t {
+        return false;
+    }
+    if !other_ok(image, s, at, b) {
+        return false;
+    }
+    branch_gcd_ok(image, s, at, a, b)
+}
+
+// The number of entries that row k has.
+fn count_at(image: &[u8], s: Shape, k: usize) -> usize
+    requires { ⌜ Ready (words (now image)) s ⌝ }
+    requires { ⌜ k < s .nodes ⌝ }
+    ensures { λ r. ⌜ r ≡ getD (words (now (image .entry))) (shape.nodeAt s k + 2) 0 ⌝ }
+{
+    words::get(image, s.node_at(k) + 2) as usize
+}
+
+// Whether row k is that of a branch over the rows k + 1 and k + 1 + t.
+fn over_ok(image: &[u8], s: Shape, k: usize, t: usize) -> bool
+    requires { ⌜ Ready (words (now image)) s ⌝ }
+    requires { ⌜ k + 1 + t < s .nodes ⌝ }
+    requires { ⌜ row.KeyIn (words (now image)) s (shape.nodeAt s k) ⌝ }
+    requires { ⌜ row.Slots (words (now image)) (s .variables) (shape.nodeAt s (k + 1)) (shape.nodeAt s (k + 1 + t)) ⌝ }
+    ensures { λ r. ⌜ (r ≡ true) ↔ row.BranchOk (words (now (image .entry))) s (shape.nodeAt s k) (shape.nodeAt s (k + 1)) (shape.nodeAt s (k + 1 + t)) t ⌝ }
+{
+    branch_ok(
+        image,
+        s,
+        s.node_at(k),
+        s.node_at(k + 1),
+        s.node_at(k + 1 + t),
+        t,
+    )
+}
+
+// Writes x as word i, and returns what stood there.
+fn exchange(hi: &mut [u8], i: usize, x: u32) -> u32
+    requires { ⌜ 4 * i + 4 ≤ length (now hi) ⌝ }
+    ensures { λ r. ⌜ r ≡ getD (words (now (hi .entry))) i 0 ⌝ }
+    ensures { λ _. ⌜ now (hi .exit) ≡ putW (now (hi .entry)) i x ⌝ }
+{
+    let old = words::get(hi, i);
+    words::put(hi, i, x);
+    old
+}
+
+// The number of rows of the tree at row k, of at most `avail` entries, which start at place lo of the permutation,
+// with powers below `hi` and labels from ll on and below lh; 0 where there is none.
+pub fn walk(
+    image: &[u8],
+    s: Shape,
+    hi: &mut [u8],
+    ll: u64,
+    lh: u64,
+    k: usize,
+    lo: usize,
+    avail: usize,
+) -> usize
+    requires { ⌜ Ready (words (now image)) s ⌝ }
+    requires { ⌜ row.Uppers (s .variables) (now hi) ⌝ }
+    requires { ⌜ (k ≤ s .nodes) × (lo + avail ≤ s .entries) ⌝ }
+    ensures { λ r. ⌜ Walked (words (now (image .entry))) s (words (now (hi .entry))) ll lh k lo avail r ⌝ }
+    ensures { λ _. ⌜ now (hi .exit) ≡ now (hi .entry) ⌝ }
+{
+    if s.nodes <= k {
+        return 0;
+    }
+    let at = s.node_at(k);
+    let c = words::get(image, at + 2) as usize;
+    if avail < c {
+        return 0;
+    }
+    if words::get(image, at) == 0 {
+        if leaf_ok(image, s, hi, ll, lh, at, lo, c) {
+            return 1;
+        }
+        return 0;
+    }
+    if !key_ok(image, s, at) {
+        return 0;
+    }
+    let b = sides(image, s, hi, ll, lh, at);
+    let old = exchange(hi, b.variable, b.power);
+    let t = walk(image, s, hi, ll, b.less, k + 1, lo, c - 1);
+    words::put(hi, b.variable, old);
+    if t == 0 {
+        return 0;
+    }
+    let ca = count_at(image, s, k + 1);
+    let w = walk(image, s, hi, b.other, lh, k + 1 + t, lo + ca, c - ca);
+    if w == 0 {
+        return 0;
+    }
+    if over_ok(image, s, k, t) {
+        return 1 + t + w;
+    }
+    0
+}
