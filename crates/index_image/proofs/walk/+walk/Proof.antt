@@ -1,14 +1,14 @@
 use native.Mathlib.Omega.{arith}
 use borrow.Author.Needs.{needs}
-use mathlib.Core.Path.{_≡_, refl, sym, ap, _∙_}
-use lib.ListN.{length, getD}
+use mathlib.Core.Path.{refl, sym, ap, _∙_}
+use lib.ListN.{length}
 use Rattle.words.specs.Words.{words}
 use Rattle.words.proofs.Tables.{never}
 use Rattle.fast_compare.proofs.Checks.{failed, passed}
 use Rattle.index_image.proofs.Places.{node-room}
 use Rattle.index_image.proofs.Uppers.{words-put, uppers-put, put-back}
-use Rattle.index_image.proofs.Walks.{no-row, too-many, no-leaf, a-leaf, no-key, no-first, One, one-is, no-second, no-branch, Two, two-is, a-branch}
-use Prim.Native.Nat.{ℕ, _<_, _+_, _-_, _*_, _≤_}
+use Rattle.index_image.proofs.Walks.{no-row, too-many, no-leaf, a-leaf, no-key, no-first, one-is, no-second, no-branch, two-is, a-branch}
+use Prim.Native.Nat.{ℕ, _-_, _<_}
 use borrow.Fn.Kinds.{In}
 use borrow.Fn.PlainCycle.{Measures, is, falls, and}
 use Rattle.index_image.proofs.walk.walk.Reads as walk
