@@ -237,6 +237,12 @@ module _ (W : List ℕ) (s : Shape) (R : Ready W s) where
               pub one-is : One
               one-is = record { inside = omega (arith, f1 .inside, n1); few = omega (arith, f1 .few, head1 .count) }
 
+              pub no-less : (ca : ℕ) → ca ≡ getD W (at.nodeAt s (k + 1) + 2) 0 → ca ≡ 0 → Walked W s H ll lh k lo avail 0
+              no-less ca ea z = none (λ t f.
+                  let x = branch-only t f in
+                  let hl = tree-head W s R (k + 1) lo (x .l) (x .one) (omega (arith, x .fits)) (omega (arith, x .count)) in
+                  omega (arith, hl .count, x .sides .some-less))
+
               module _ (ca : ℕ) (ea : ca ≡ getD W (at.nodeAt s (k + 1) + 2) 0) (t2 : ℕ) (w2 : Walked W s H (b .other) lh (k + 1 + t1) (lo + ca) (c - ca) t2) where
                 -- the numbers of the sides of a tree that is there
                 record Both (t : Tree) (x : IsBranch t) : Type 0 where
