@@ -1,59 +1,25 @@
 -- The powers of entries, their least ones, and the gcds that nodes have. Assumes nothing.
-use mathlib.Core.Path.{_≡_, refl, sym, ap, _∙_}
+use mathlib.Core.Path.{_≡_, refl, sym, _∙_}
 use mathlib.Core.List.{List, [], _∷_, _++_}
-use Prim.Native.Nat.{ℕ, zero, suc, min, _+_, _-_, _*_, _≤_, _<_}
+use Prim.Native.Nat.{ℕ, min, _+_, _≤_, _<_}
 use native.Mathlib.Omega.{arith}
 use native.Mathlib.Decide.{ℕ-discrete, decLe}
-use lib.ListN.{length, getD, drop}
+use lib.ListN.{length, drop}
 use Rattle.words.specs.Tables.{part}
 use Rattle.words.proofs.Laws.{Words}
 use Rattle.words.proofs.Tables.{part-nil}
-use Rattle.monomial.specs.Monomial.{front, pow, Canonical, varsOf, monomialOf}
+use Rattle.monomial.specs.Monomial.{front, pow, Canonical, monomialOf}
 use Rattle.monomial.specs.Operations.{powers, result}
 use Rattle.monomial.specs.declared.ordered_ops.Op.the-variants.{Gcd}
-use Rattle.monomial.proofs.Powers.{InRange, pow-nil, pow-ids, vars-skip, vars-nil, pow-monomial, canonical-monomial, monomial-length, monomial-ext, monomial-small, canonical-powers, absent-above, powers-in-range}
+use Rattle.monomial.proofs.Powers.{pow-nil, pow-ids, vars-skip, vars-nil, pow-monomial, canonical-monomial, monomial-length, monomial-ext, monomial-small, canonical-powers, absent-above, powers-in-range}
 use Rattle.monomial.proofs.Laws.{front-canonical}
-use Rattle.kd_theory.specs.Bag.{_∈_}
 use Rattle.kd_theory.specs.Bifurcate.{leastOf, least}
-use Rattle.kd_theory.proofs.BagLaws.{here, there}
+use Rattle.kd_theory.proofs.BifurcateLaws.{least-append, least-most}
 use Rattle.index_image.specs.declared.Shape.{Shape}
 use Rattle.index_image.specs.Shape as at
 use Rattle.index_image.specs.Layout.{gcdPowers}
 use Rattle.index_image.specs.Walk.{lmLength, lmIn, power}
 use Rattle.index_image.specs.Rows.{monomialIn, gcdOf}
-
--- ---- least numbers
-module _ (f : ℕ → ℕ) where
-  leastOf-append : (x : ℕ) (xs : List ℕ) (y : ℕ) (ys : List ℕ) → leastOf f x (xs ++ y ∷ ys) ≡ min (leastOf f x xs) (leastOf f y ys)
-  unfolding leastOf
-  leastOf-append x [] y ys = refl
-  leastOf-append x (z ∷ xs) y ys = omega (arith, leastOf-append z xs y ys)
-
-  pub least-append : (xs ys : List ℕ) → 0 < length xs → 0 < length ys → least f (xs ++ ys) ≡ min (least f xs) (least f ys)
-  unfolding least
-  least-append [] ys h k = absurd (omega arith)
-  least-append (x ∷ xs) [] h k = absurd (omega arith)
-  least-append (x ∷ xs) (y ∷ ys) h k = leastOf-append x xs y ys
-
-  leastOf-most : (b x : ℕ) (xs : List ℕ) → ((e : ℕ) → f e ≤ b) → leastOf f x xs ≤ b
-  unfolding leastOf
-  leastOf-most b x [] h = h x
-  leastOf-most b x (y ∷ ys) h = omega (arith, h x)
-
-  pub least-most : (b : ℕ) (es : List ℕ) → ((e : ℕ) → f e ≤ b) → least f es ≤ b
-  unfolding least
-  least-most b [] h = omega arith
-  least-most b (x ∷ xs) h = leastOf-most b x xs h
-
-  leastOf-from : (k x : ℕ) (xs : List ℕ) → ((e : ℕ) → e ∈ (x ∷ xs) → k ≤ f e) → k ≤ leastOf f x xs
-  unfolding leastOf
-  leastOf-from k x [] h = h x (here x [])
-  leastOf-from k x (y ∷ ys) h = omega (arith, h x (here x (y ∷ ys)), leastOf-from k y ys (λ e m. h e (there e x (y ∷ ys) m)))
-
-  pub least-from : (k : ℕ) (es : List ℕ) → 0 < length es → ((e : ℕ) → e ∈ es → k ≤ f e) → k ≤ least f es
-  unfolding least
-  least-from k [] l h = absurd (omega arith)
-  least-from k (x ∷ xs) l h = leastOf-from k x xs h
 
 -- ---- monomials in the image
 pub in-canonical : (W : List ℕ) (m g : ℕ) → (front 1 m 0 (drop g W) ≡ 0 → ⊥) → Canonical 1 m (monomialIn W m g)

@@ -1,14 +1,13 @@
 -- The bounds that a branch gives to its sides. Assumes nothing.
-use mathlib.Core.Path.{_≡_, refl, sym, ap, _∙_}
+use mathlib.Core.Path.{_≡_, sym, ap, _∙_}
 use mathlib.Core.List.{List}
 use mathlib.Core.Logic.{_↔_, Iff·rfl}
-use Prim.Native.Nat.{ℕ, zero, suc, min, max, _+_, _-_, _*_, _^_, _≤_, _<_}
+use Prim.Native.Nat.{ℕ, zero, suc, min, max, _+_, _-_, _^_, _≤_, _<_}
 use native.Mathlib.Omega.{arith}
 use native.Mathlib.Decide.{ℕ-discrete}
 use lib.ListN.{length, getD, set}
 use lib.Seq.{getD-set-same, getD-set-other, set-getD}
 use Rattle.index_image.specs.declared.Shape.{Shape}
-use Rattle.index_image.specs.declared.walk.Limits.{Limits}
 use Rattle.index_image.specs.Shape.{InRange}
 use Rattle.index_image.specs.Walk.{power, label, Below}
 use Rattle.index_image.specs.Rows.{Inside, KeyIn, BelowKey, Cut}

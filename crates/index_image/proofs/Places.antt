@@ -1,7 +1,7 @@
 -- What the walk reads lies in the image. Assumes nothing.
-use mathlib.Core.Path.{_≡_, refl, sym, ap, _∙_}
+use mathlib.Core.Path.{_≡_, _∙_}
 use mathlib.Core.List.{List}
-use Prim.Native.Nat.{ℕ, suc, _+_, _-_, _*_, _/_, _≤_, _<_}
+use Prim.Native.Nat.{ℕ, _+_, _-_, _*_, _≤_, _<_}
 use native.Mathlib.Omega.{arith}
 use native.Mathlib.Nat.{mul-le-mul, one-mul}
 use lib.ListN.{length, getD}
@@ -11,8 +11,7 @@ use Rattle.words.proofs.Tables.{row-fits}
 use Rattle.fast_compare.specs.Layout as labels
 use Rattle.index_image.specs.declared.Shape.{Shape}
 use Rattle.index_image.specs.Shape as at
-use Rattle.index_image.specs.Walk.{Ready, rowIn}
-use Rattle.index_image.proofs.Bounds.{width-small, entries-small, rows-small, labels-small, nodes-small}
+use Rattle.index_image.specs.Walk.{Ready}
 
 module _ (W : List ℕ) (s : Shape) (R : Ready W s) where
   abbrev r : at.InRange s

@@ -3,7 +3,7 @@ use mathlib.Core.Path.{_≡_, refl, sym, ap, _∙_}
 use mathlib.Core.Bool.{Bool, true, false, not}
 use mathlib.Core.List.{List, [], _∷_, _++_}
 use mathlib.Core.Logic.{_↔_}
-use Prim.Native.Nat.{ℕ, zero, suc, _+_, _-_, _*_, _/_, _≤_, _<_}
+use Prim.Native.Nat.{ℕ, zero, suc, _+_, _-_, _*_, _≤_, _<_}
 use native.Mathlib.Omega.{arith}
 use lib.Dec.{leb, ltb}
 use lib.ListN.{length, getD, take, drop, length-take, length-drop}
@@ -11,7 +11,7 @@ use lib.Seq.{take-at}
 use borrow.Author.Tests.{le-leb, leb-true, lt-ltb, ltb-true}
 use Rattle.words.specs.Words.{words, bytes, putW, pasteW}
 use Rattle.words.specs.Tables.{part, zeros}
-use Rattle.words.proofs.Laws.{Words, length-words, length-bytes, words-take, words-part, words-bytes, pasteW-front, putW-paste, length-pasteW}
+use Rattle.words.proofs.Laws.{Words, length-words, length-bytes, words-take, words-part, words-bytes, pasteW-front, putW-paste}
 use Rattle.words.proofs.Tables.{length-part, part-nil, part-one, part-snoc, part-append}
 use Rattle.monomial.specs.Monomial.{front, found, pow, Canonical}
 use Rattle.monomial.specs.Operations.{result, equal}
@@ -21,7 +21,6 @@ use Rattle.monomial.proofs.Powers.{canonical-powers, monomial-length, absent-ab
 use Rattle.monomial.proofs.Divisions.{equal-iff}
 use Rattle.monomial.proofs.Laws.{canonical-more, canonical-result, result-small, length-result}
 use Rattle.divmask.specs.Mask.{mask}
-use Rattle.divmask.specs.Tracker.{Maxima}
 use Rattle.fast_compare.proofs.Checks.{refuse, accept, failed, passed}
 use Rattle.index_image.specs.declared.Shape.{Shape}
 use Rattle.index_image.specs.Shape as at
@@ -29,7 +28,6 @@ use Rattle.index_image.specs.Layout.{slot}
 use Rattle.index_image.specs.Walk.{lmLength, lmIn, power, label, mapMaxima, Ready}
 use Rattle.index_image.specs.Rows.{monomialIn, Taken, Slots, Inside, NodeOk, OtherOk, gcdOf}
 use Rattle.index_image.proofs.Gcds.{in-canonical, lm-is, lm-canonical, gcd-none, gcd-one, gcd-more, gcd-words, gcd-canonical}
-use Rattle.index_image.proofs.Places.{place-fits}
 
 -- ---- monomials
 pub taken : (bs : List ℕ) (m g : ℕ) (r : List ℕ) → r ≡ found 1 m bs g → Taken r (monomialIn (words bs) m g)

@@ -1,11 +1,11 @@
 -- The tree in the image: its rows, one by one. Assumes nothing.
 use mathlib.Core.Path.{_≡_, refl, sym, ap, _∙_}
-use mathlib.Core.List.{List, [], _∷_, _++_, append-assoc}
+use mathlib.Core.List.{List, _∷_, _++_, append-assoc}
 use mathlib.Core.Logic.{_↔_}
-use Prim.Native.Nat.{ℕ, zero, suc, _+_, _-_, _*_, _≤_, _<_}
+use Prim.Native.Nat.{ℕ, suc, _+_, _-_, _*_, _≤_, _<_}
 use native.Mathlib.Nat.{mul-le-mul-right, suc-mul, add-mul, one-mul}
 use native.Mathlib.Omega.{arith}
-use lib.ListN.{length, getD, take, drop, length-append, take-append-drop}
+use lib.ListN.{length, getD, drop, length-append, take-append-drop}
 use lib.Seq.{take-at}
 use Rattle.words.specs.Tables.{part, zeros}
 use Rattle.words.proofs.Tables.{length-zeros, part-cons, part-append}

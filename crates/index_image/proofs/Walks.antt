@@ -1,31 +1,28 @@
 -- The returns of the walk. Assumes nothing.
-use mathlib.Core.Path.{_≡_, refl, sym, ap, _∙_}
+use mathlib.Core.Path.{_≡_, refl, sym, _∙_}
 use mathlib.Core.List.{List, [], _∷_, _++_}
-use mathlib.Core.Logic.{_↔_}
-use Prim.Native.Nat.{ℕ, zero, suc, _+_, _-_, _*_, _≤_, _<_}
+use Prim.Native.Nat.{ℕ, zero, suc, _+_, _-_, _≤_, _<_}
 use native.Mathlib.Omega.{arith}
 use native.Mathlib.Decide.{ℕ-discrete}
 use lib.ListN.{length, getD, set, length-append}
-use Rattle.words.specs.Tables.{part}
 use Rattle.words.proofs.Tables.{length-part}
-use Rattle.monomial.specs.Monomial.{pow}
 use Rattle.monomial.specs.Operations.{result}
 use Rattle.monomial.specs.declared.ordered_ops.Op.the-variants.{Gcd}
 use Rattle.kd_theory.specs.Bag.{_∈_}
 use Rattle.kd_theory.specs.Bifurcate.{least}
 use Rattle.kd_theory.specs.Tree.{Tree, leaf, branch, inorder, nodes}
 use Rattle.kd_theory.proofs.BagLaws.{here, in-left, in-right, in-both}
-use Rattle.kd_theory.proofs.BifurcateLaws.{least-le}
+use Rattle.kd_theory.proofs.BifurcateLaws.{least-le, least-from}
 use Rattle.index_image.specs.declared.Shape.{Shape}
 use Rattle.index_image.specs.declared.walk.Limits.{Limits}
 use Rattle.index_image.specs.Shape as at
-use Rattle.index_image.specs.Walk.{power, label, Ready, dims, Below, KeyOk, Sides, TreeAt, Bounded, Found, Walked}
-use Rattle.index_image.specs.Rows.{monomialIn, entriesFrom, Inside, NodeOk, gcdOf, LeafOk, KeyIn, BelowKey, Cut, Slots, OtherOk, BranchOk}
-use Rattle.index_image.proofs.Gcds.{gcd-both, gcd-pow, least-from}
+use Rattle.index_image.specs.Walk.{power, label, Ready, Below, KeyOk, Sides, TreeAt, Bounded, Found, Walked}
+use Rattle.index_image.specs.Rows.{monomialIn, entriesFrom, Inside, gcdOf, LeafOk, KeyIn, BelowKey, Cut, Slots, OtherOk, BranchOk}
+use Rattle.index_image.proofs.Gcds.{gcd-both, gcd-pow}
 use Rattle.index_image.proofs.Places.{place-fits}
 use Rattle.index_image.proofs.Bounding.{bounded-each}
 use Rattle.index_image.proofs.Limiting.{below-variable}
-use Rattle.index_image.proofs.Trees.{some-node, nodes-branch, nodes-leaf, RowIs, Slot, Parts, take-apart, put-together, leaf-row, row-leaf, Head, tree-head}
+use Rattle.index_image.proofs.Trees.{some-node, nodes-branch, nodes-leaf, RowIs, Slot, take-apart, put-together, leaf-row, row-leaf, Head, tree-head}
 
 -- ---- keys
 key-ratio : (x n d k : ℕ) → KeyOk x n d k → suc d ≡ x → x ≤ 1 → k < n
@@ -239,6 +236,12 @@ module _ (W : List ℕ) (s : Shape) (R : Ready W s) where
 
               pub one-is : One
               one-is = record { inside = omega (arith, f1 .inside, n1); few = omega (arith, f1 .few, head1 .count) }
+
+              pub no-less : (ca : ℕ) → ca ≡ getD W (at.nodeAt s (k + 1) + 2) 0 → ca ≡ 0 → Walked W s H ll lh k lo avail 0
+              no-less ca ea z = none (λ t f.
+                  let x = branch-only t f in
+                  let hl = tree-head W s R (k + 1) lo (x .l) (x .one) (omega (arith, x .fits)) (omega (arith, x .count)) in
+                  omega (arith, hl .count, x .sides .some-less))
 
               module _ (ca : ℕ) (ea : ca ≡ getD W (at.nodeAt s (k + 1) + 2) 0) (t2 : ℕ) (w2 : Walked W s H (b .other) lh (k + 1 + t1) (lo + ca) (c - ca) t2) where
                 -- the numbers of the sides of a tree that is there

@@ -379,6 +379,7 @@ fn exchange(hi: &mut [u8], i: usize, x: u32) -> u32
 
 // The number of rows of the tree at row k, of at most `avail` entries, which start at place lo of the permutation,
 // with powers below `hi` and labels from ll on and below lh; 0 where there is none.
+// Each side is allowed fewer entries than its branch, so the depth is at most the number of entries.
 pub fn walk(
     image: &[u8],
     s: Shape,
@@ -420,6 +421,9 @@ pub fn walk(
         return 0;
     }
     let ca = count_at(image, s, k + 1);
+    if ca == 0 {
+        return 0;
+    }
     let w = walk(image, s, hi, b.other, lh, k + 1 + t, lo + ca, c - ca);
     if w == 0 {
         return 0;

@@ -146,6 +146,39 @@ unfolding least
 least-le f [] e m = absurd (omega (arith, rw occurs-nil at m))
 least-le f (x ∷ xs) e m = leastOf-le f x xs e m
 
+-- the least of two lists, and bounds of it
+module _ (f : ℕ → ℕ) where
+  leastOf-append : (x : ℕ) (xs : List ℕ) (y : ℕ) (ys : List ℕ) → leastOf f x (xs ++ y ∷ ys) ≡ min (leastOf f x xs) (leastOf f y ys)
+  unfolding leastOf
+  leastOf-append x [] y ys = refl
+  leastOf-append x (z ∷ xs) y ys = omega (arith, leastOf-append z xs y ys)
+
+  pub least-append : (xs ys : List ℕ) → 0 < length xs → 0 < length ys → least f (xs ++ ys) ≡ min (least f xs) (least f ys)
+  unfolding least
+  least-append [] ys h k = absurd (omega arith)
+  least-append (x ∷ xs) [] h k = absurd (omega arith)
+  least-append (x ∷ xs) (y ∷ ys) h k = leastOf-append x xs y ys
+
+  leastOf-most : (b x : ℕ) (xs : List ℕ) → ((e : ℕ) → f e ≤ b) → leastOf f x xs ≤ b
+  unfolding leastOf
+  leastOf-most b x [] h = h x
+  leastOf-most b x (y ∷ ys) h = omega (arith, h x)
+
+  pub least-most : (b : ℕ) (es : List ℕ) → ((e : ℕ) → f e ≤ b) → least f es ≤ b
+  unfolding least
+  least-most b [] h = omega arith
+  least-most b (x ∷ xs) h = leastOf-most b x xs h
+
+  leastOf-from : (k x : ℕ) (xs : List ℕ) → ((e : ℕ) → e ∈ (x ∷ xs) → k ≤ f e) → k ≤ leastOf f x xs
+  unfolding leastOf
+  leastOf-from k x [] h = h x (here x [])
+  leastOf-from k x (y ∷ ys) h = omega (arith, h x (here x (y ∷ ys)), leastOf-from k y ys (λ e m. h e (there e x (y ∷ ys) m)))
+
+  pub least-from : (k : ℕ) (es : List ℕ) → 0 < length es → ((e : ℕ) → e ∈ es → k ≤ f e) → k ≤ least f es
+  unfolding least
+  least-from k [] l h = absurd (omega arith)
+  least-from k (x ∷ xs) l h = leastOf-from k x xs h
+
 all-equal : (f : ℕ → ℕ) (es : List ℕ) → greatest f es ≤ least f es → (e x : ℕ) → e ∈ es → x ∈ es → f e ≡ f x
 unfolding least greatest
 all-equal f [] h e x m w = absurd (omega (arith, rw occurs-nil at m))

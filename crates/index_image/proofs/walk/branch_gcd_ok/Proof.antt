@@ -1,16 +1,14 @@
 use native.Mathlib.Omega.{arith}
-use mathlib.Core.Path.{_≡_, refl, sym, ap, _∙_}
+use mathlib.Core.Path.{sym, ap, _∙_}
 use mathlib.Core.List.{List}
-use Prim.Native.Nat.{ℕ, _+_, _*_, _<_, _≤_}
-use lib.ListN.{length, take}
+use Prim.Native.Nat.{ℕ, _+_, _*_}
+use lib.ListN.{take}
 use lib.Seq.{length-take-le}
-use Rattle.words.specs.Words.{words, pasteW}
-use Rattle.words.proofs.Laws.{length-words}
+use Rattle.words.specs.Words.{words}
 use Rattle.monomial.specs.Operations.{result}
-use Rattle.monomial.specs.Monomial.{Canonical}
 use Rattle.monomial.specs.declared.ordered_ops.Op.the-variants.{Gcd}
 use Rattle.monomial.proofs.Laws.{canonical-more}
-use Rattle.index_image.specs.Rows.{monomialIn, NodeOk}
+use Rattle.index_image.specs.Rows.{monomialIn}
 use Rattle.index_image.proofs.Gcds.{in-canonical}
 use Rattle.index_image.proofs.Reading.{front-pasted, gcd-fits, gcd-small, slots-gcd}
 use borrow.Author.Needs.{needs}

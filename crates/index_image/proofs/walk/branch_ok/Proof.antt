@@ -1,6 +1,5 @@
 use native.Mathlib.Omega.{arith}
-use mathlib.Core.Path.{_≡_, refl, sym, ap, _∙_}
-use Prim.Native.Nat.{ℕ, _+_, _*_, _<_, _≤_}
+use mathlib.Core.Path.{sym, _∙_}
 use Rattle.fast_compare.proofs.Checks.{refuse, failed, passed}
 use borrow.Author.Needs.{needs}
 use Rattle.index_image.proofs.walk.branch_ok.Statement.{statement}

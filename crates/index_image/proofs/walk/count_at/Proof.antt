@@ -1,6 +1,6 @@
 use native.Mathlib.Omega.{arith}
 use Rattle.index_image.proofs.Places.{node-room}
-use mathlib.Core.Path.{_≡_, refl, sym, ap, _∙_}
+use mathlib.Core.Path.{_∙_}
 use borrow.Author.Needs.{needs}
 use Rattle.index_image.proofs.walk.count_at.Statement.{statement}
 use Rattle.index_image.proofs.walk.count_at.Tie as tie

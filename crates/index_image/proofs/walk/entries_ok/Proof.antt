@@ -1,8 +1,8 @@
 use native.Mathlib.Omega.{arith}
-use mathlib.Core.Path.{_≡_, refl, sym, ap, _∙_}
-use Prim.Native.Nat.{ℕ, _+_, _-_, _*_, _<_, _≤_}
-use lib.ListN.{length, getD}
-use borrow.Author.Count.{below-none, below-more}
+use mathlib.Core.Path.{_≡_}
+use Prim.Native.Nat.{ℕ, _+_, _-_, _<_, _≤_}
+use lib.ListN.{getD}
+use borrow.Author.Count.{below-more}
 use Rattle.words.specs.Words.{words}
 use Rattle.fast_compare.proofs.Checks.{refuse, accept, failed, passed}
 use Rattle.index_image.specs.Rows.{Inside}

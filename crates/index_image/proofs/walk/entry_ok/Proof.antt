@@ -1,6 +1,4 @@
 use native.Mathlib.Omega.{arith}
-use mathlib.Core.Path.{_≡_, refl, sym, ap, _∙_}
-use Prim.Native.Nat.{ℕ, _+_, _*_, _<_, _≤_}
 use Rattle.words.specs.Words.{words}
 use Rattle.index_image.proofs.Gcds.{lm-canonical}
 use Rattle.index_image.proofs.Reading.{lm-read, no-powers, no-labels, too-low, by-label}

@@ -1,16 +1,12 @@
 use native.Mathlib.Omega.{arith}
 use borrow.Author.Needs.{needs}
-use mathlib.Core.Path.{_≡_, refl, sym, ap, _∙_}
-use mathlib.Core.List.{List}
-use Prim.Native.Nat.{ℕ, _+_, _-_, _*_, _/_, _<_, _≤_}
-use lib.ListN.{length, getD}
+use mathlib.Core.Path.{_≡_, sym, ap}
+use Prim.Native.Nat.{_+_, _-_, _/_}
+use lib.ListN.{length}
 use Rattle.words.specs.Words.{words}
-use Rattle.words.specs.Tables.{part}
 use Rattle.words.proofs.Laws.{length-words}
 use Rattle.index_image.specs.Shape as at
-use Rattle.index_image.specs.declared.Shape.{Shape}
-use Rattle.index_image.specs.Walk.{Ready, lmIn}
-use Rattle.index_image.specs.Rows.{gcdOf}
+use Rattle.index_image.specs.Walk.{lmIn}
 use Rattle.index_image.proofs.Gcds.{lm-canonical}
 use Rattle.index_image.proofs.Places.{place-room, place-fits, entry-at-place}
 use Rattle.index_image.proofs.Reading.{lm-read, canonical-long, Folding, fold-none, fold-canonical, lm-64, fold-one, fold-more}

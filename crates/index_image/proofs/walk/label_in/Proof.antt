@@ -1,9 +1,5 @@
 use native.Mathlib.Omega.{arith}
-use mathlib.Core.Path.{_≡_, refl, sym, ap, _∙_}
-use Prim.Native.Nat.{ℕ, _+_, _*_, _<_, _≤_}
-use lib.ListN.{length, getD}
 use Rattle.words.specs.Words.{words}
-use Rattle.index_image.specs.Walk.{label, rowIn}
 use Rattle.index_image.proofs.Places.{width-ratio, entry-room, label-room}
 use Rattle.index_image.proofs.Reading.{label-at}
 use borrow.Author.Needs.{needs}

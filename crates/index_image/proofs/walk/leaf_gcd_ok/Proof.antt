@@ -1,7 +1,6 @@
 use native.Mathlib.Omega.{arith}
-use mathlib.Core.Path.{_≡_, refl, sym, ap, _∙_}
-use Prim.Native.Nat.{ℕ, _+_, _*_, _<_, _≤_}
-use lib.ListN.{length, take}
+use mathlib.Core.Path.{sym, _∙_}
+use Prim.Native.Nat.{_*_}
 use lib.Seq.{length-take-le}
 use Rattle.words.specs.Words.{words}
 use Rattle.index_image.specs.Rows.{entriesFrom}

@@ -1,4 +1,4 @@
-use mathlib.Core.Path.{_≡_, refl, sym, ap, _∙_}
+use mathlib.Core.Path.{sym, _∙_}
 use Rattle.fast_compare.proofs.Checks.{refuse, failed, passed}
 use borrow.Author.Needs.{needs}
 use Rattle.index_image.proofs.walk.leaf_ok.Statement.{statement}

@@ -1,13 +1,12 @@
 use mathlib.Core.List.{List}
 use native.Mathlib.Omega.{arith}
-use mathlib.Core.Path.{_≡_, refl, sym, ap, _∙_}
-use Prim.Native.Nat.{ℕ, _+_, _*_, _<_, _≤_}
-use lib.ListN.{length, take}
+use mathlib.Core.Path.{sym, ap, _∙_}
+use Prim.Native.Nat.{ℕ, _*_}
+use lib.ListN.{take}
 use lib.Seq.{length-take-le}
 use Rattle.words.specs.Words.{words, pasteW}
 use Rattle.words.specs.Tables.{part}
 use Rattle.monomial.specs.Operations.{result}
-use Rattle.monomial.specs.Monomial.{Canonical}
 use Rattle.monomial.specs.declared.ordered_ops.Op.the-variants.{Gcd}
 use Rattle.monomial.proofs.Laws.{canonical-more}
 use Rattle.index_image.proofs.Reading.{front-words, front-pasted, gcd-fits, gcd-small}

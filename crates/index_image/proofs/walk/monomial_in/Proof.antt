@@ -1,6 +1,3 @@
-use mathlib.Core.Path.{_≡_, refl, sym, ap, _∙_}
-use lib.ListN.{length, drop}
-use Rattle.words.specs.Words.{words}
 use Rattle.index_image.proofs.Reading.{taken}
 use borrow.Author.Needs.{needs}
 use Rattle.index_image.proofs.walk.monomial_in.Statement.{statement}

@@ -1,12 +1,10 @@
 use Rattle.index_image.proofs.Places.{place-room}
 use native.Mathlib.Omega.{arith}
-use mathlib.Core.Path.{_≡_, refl, sym, ap, _∙_}
-use Prim.Native.Nat.{ℕ, _+_, _-_, _*_, _/_, _<_, _≤_}
-use lib.ListN.{length, take, drop}
+use mathlib.Core.Path.{sym}
+use Prim.Native.Nat.{_+_, _-_, _*_, _/_}
+use lib.ListN.{length}
 use Rattle.words.specs.Words.{words}
-use Rattle.words.specs.Tables.{part}
-use Rattle.words.proofs.Laws.{length-words, words-part}
-use Rattle.index_image.specs.Walk.{mapMaxima}
+use Rattle.words.proofs.Laws.{length-words}
 use Rattle.index_image.proofs.Reading.{canonical-long, other-mask, other-words, by-zeros, part-words}
 use borrow.Author.Needs.{needs}
 use Rattle.index_image.proofs.walk.node_ok.Statement.{statement}

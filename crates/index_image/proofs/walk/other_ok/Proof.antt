@@ -1,8 +1,6 @@
 use native.Mathlib.Omega.{arith}
-use mathlib.Core.Path.{_≡_, refl, sym, ap, _∙_}
-use Prim.Native.Nat.{ℕ, _+_, _*_, _<_, _≤_}
+use Prim.Native.Nat.{_+_}
 use Rattle.words.specs.Words.{words}
-use borrow.Author.Tests.{le-leb, leb-true}
 use Rattle.index_image.proofs.Reading.{other-answer}
 use Rattle.index_image.proofs.Gcds.{in-canonical}
 use Rattle.monomial.proofs.Laws.{canonical-more}

@@ -1,7 +1,6 @@
 use native.Mathlib.Omega.{arith}
-use Prim.Native.Nat.{ℕ, _+_, _*_}
+use Prim.Native.Nat.{_+_}
 use Rattle.index_image.proofs.Places.{node-room}
-use mathlib.Core.Path.{_≡_, refl, sym, ap, _∙_}
 use borrow.Author.Needs.{needs}
 use Rattle.index_image.proofs.walk.over_ok.Statement.{statement}
 use Rattle.index_image.proofs.walk.over_ok.Tie as tie

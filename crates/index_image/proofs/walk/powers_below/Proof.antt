@@ -1,12 +1,11 @@
 use native.Mathlib.Omega.{arith}
-use mathlib.Core.Path.{_≡_, refl, sym, ap, _∙_}
-use Prim.Native.Nat.{ℕ, _+_, _-_, _*_, _<_, _≤_, _/_, _%_}
-use lib.ListN.{length, getD}
+use Prim.Native.Nat.{_-_, _/_, _%_}
+use lib.ListN.{length}
 use Rattle.words.specs.Words.{words}
 use Rattle.words.proofs.Laws.{length-words}
 use Rattle.monomial.proofs.Walks.{within}
 use Rattle.fast_compare.proofs.Checks.{refuse, accept}
-use Rattle.index_image.proofs.Bounding.{Passing, passing, all-passed, Here, at-variable}
+use Rattle.index_image.proofs.Bounding.{Passing, passing, all-passed, at-variable}
 use Rattle.index_image.proofs.walk.powers_below.Statement.{statement}
 use Rattle.index_image.proofs.walk.powers_below.Tie as tie
 use Rattle.index_image.proofs.walk.powers_below.Reads as reads

@@ -1,10 +1,8 @@
 use native.Mathlib.Omega.{arith}
-use mathlib.Core.Path.{_≡_, refl, sym, ap, _∙_}
-use Prim.Native.Nat.{ℕ, _+_, _*_, _<_, _≤_}
-use lib.ListN.{length, getD}
+use mathlib.Core.Path.{sym, _∙_}
 use Rattle.words.specs.Words.{words}
 use Rattle.words.proofs.Laws.{length-words}
-use Rattle.index_image.proofs.Limiting.{cut-ratio, cut-variable, variable-known}
+use Rattle.index_image.proofs.Limiting.{cut-ratio, cut-variable}
 use borrow.Author.Needs.{needs}
 use Rattle.index_image.proofs.walk.sides.Statement.{statement}
 use Rattle.index_image.proofs.walk.sides.Tie as tie
