@@ -10,7 +10,6 @@ use Rattle.words.proofs.Fields.{kind-var, ident-var, power-var}
 use Rattle.monomial.specs.Monomial.{find, powerOf, pow}
 use Rattle.monomial.proofs.Powers.{pow-here, pow-past, pow-other, pow-nil}
 use Rattle.divmask.specs.Mask.{bits, firstBit, cutoff, parts, field, fields, mask}
-use Rattle.divmask.specs.Tracker.{updated}
 use Rattle.divmask.proofs.Parts.{parts-full}
 use Rattle.divmask.proofs.Masks.{mask-single}
 use Rattle.divmask.proofs.Places.{no-bit}
@@ -22,25 +21,6 @@ single v q = varWord 1 v q ∷ endWord 1 ∷ []
 -- its mask
 unfoldable pub maskOf : ℕ → List ℕ → List ℕ → ℕ
 maskOf m xs ws = mask m xs (pow 1 ws)
-
--- one variable, maximum 33
-pub power-1 : maskOf 1 (33 ∷ []) (single 0 1) ≡ 0
-unfolding maskOf mask fields field parts cutoff bits firstBit pow find powerOf
-power-1 = refl
-
-pub power-2 : maskOf 1 (33 ∷ []) (single 0 2) ≡ 1
-unfolding maskOf mask fields field parts cutoff bits firstBit pow find powerOf
-power-2 = refl
-
--- hex 7FFFFFFF
-pub power-32 : maskOf 1 (33 ∷ []) (single 0 32) ≡ 2147483647
-unfolding maskOf mask fields field parts cutoff bits firstBit pow find powerOf
-power-32 = refl
-
--- hex FFFFFFFF
-pub power-33 : maskOf 1 (33 ∷ []) (single 0 33) ≡ 4294967295
-unfolding maskOf mask fields field parts cutoff bits firstBit pow find powerOf
-power-33 = refl
 
 -- ---- at any power
 single-here : (v q : ℕ) → v < 4096 → q < 65536 → pow 1 (single v q) v ≡ q
@@ -81,8 +61,3 @@ pub id-32-unseen : (xs : List ℕ) (q : ℕ) → q ≤ 32767 → maskOf 33 xs (s
 unfolding maskOf field parts
 id-32-unseen xs q h =
     mask-single 33 xs (pow 1 (single 32 q)) 32 (omega arith) (λ u i n. single-other 32 q u (omega arith) (omega arith) n) ∙ rw id-32-no-bit (zero-mul (2 ^ firstBit 33 32))
-
--- maxima 1, 1: `update` with x1 · x0^5 leaves both 1
-pub update-stops : updated (varWord 1 1 1 ∷ varWord 1 0 5 ∷ endWord 2 ∷ []) (1 ∷ 1 ∷ []) ≡ 1 ∷ 1 ∷ []
-unfolding updated
-update-stops = refl

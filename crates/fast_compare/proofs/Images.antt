@@ -13,7 +13,7 @@ use Rattle.words.proofs.Tables.{length-part, part-get, part-nil, part-cons, par
 use Rattle.monomial.specs.Monomial.{front, Canonical}
 use Rattle.monomial.specs.declared.monomial_ordering.CmpOrd.the-variants.{Less}
 use Rattle.monomial.proofs.Canon.{Canon, IsVar, IsEnd, front-short}
-use Rattle.monomial.proofs.Powers.{canonical-powers, monomial-length, absent-above}
+use Rattle.monomial.proofs.Powers.{canonical-length}
 use Rattle.monomial.proofs.Laws.{front-canonical, canonical-front}
 use Rattle.fast_compare.specs.Labels.{below, sorted, Labelled}
 use Rattle.fast_compare.specs.Map.{Value, cmp, Good, Row, State, row, value, label, Valid}
@@ -22,17 +22,13 @@ use Rattle.fast_compare.proofs.Ranks.{below-less, below-top, Distinct, 
 use Rattle.fast_compare.proofs.Maps.{cmp-lawful}
 
 -- ---- canonical ratios
-pub ratio-length : (m : ℕ) (ws : List ℕ) → m ≤ 4096 → Canonical 2 m ws → length ws ≤ m + 1
-ratio-length m ws h c =
-    omega (arith, ap length (canonical-powers 2 m ws (omega arith) c), monomial-length 2 m _ h (λ v l. absent-above 2 m ws v (omega arith) c l))
-
 -- the ratio found at a place has at most m + 1 words, which stand in the image
 pub ratio-within : (W : List ℕ) (m at : ℕ) → m ≤ 4096 → (ratioWords W m at ≡ 0 → ⊥) → (ratioWords W m at ≤ m + 1) × (at + ratioWords W m at ≤ length W)
 ratio-within W m at h s =
     let f = ratioWords W m at in
     let short : f ≤ length (drop at W) = omega (arith, front-short 2 m 0 (drop at W)) in
     let l : length (take f (drop at W)) ≡ f = length-take-le f (drop at W) short in
-    (omega (arith, ratio-length m (take f (drop at W)) h (front-canonical 2 m (drop at W) (omega arith) s)), omega (arith, length-drop at W))
+    (omega (arith, canonical-length 2 m (take f (drop at W)) (omega arith) h (front-canonical 2 m (drop at W) (omega arith) s)), omega (arith, length-drop at W))
 
 pub canon-small : (b n : ℕ) (ws : List ℕ) → Canon 2 b n ws → Words ws
 unfolding Canon
@@ -48,7 +44,7 @@ canon-small b n (w ∷ ws) c = go (canon-small (ident w) (suc n) ws) c
 -- ---- one row
 pub length-row : (m : ℕ) (r : Row) → m ≤ 4096 → Good m (r .value) → length (rowWords m r) ≡ m + 3
 unfolding rowWords
-length-row m r h g = simp (length-append, length-zeros) (omega (arith, ratio-length m (r .value .ratio) h (g .canonical)))
+length-row m r h g = simp (length-append, length-zeros) (omega (arith, canonical-length 2 m (r .value .ratio) (omega arith) h (g .canonical)))
 
 -- what stands in the m + 3 words of a row
 pub record RowIs (W : List ℕ) (m at : ℕ) (r : Row) : Type 0 where
@@ -70,7 +66,7 @@ module _ (W : List ℕ) (m at : ℕ) (few : m ≤ 4096) (fits : at + (m + 3) ≤
   row-of r g e =
       let rt = r .value .ratio in
       let k = length rt in
-      let lk = ratio-length m rt few (g .canonical) in
+      let lk = canonical-length 2 m rt (omega arith) few (g .canonical) in
       let z = m + 1 - k in
       let e1 : m + 3 ≡ 1 + (k + (z + 1)) = omega arith in
       let p1 = part-append W at 1 (k + (z + 1)) (indexWord (r .value .index) ∷ []) (rt ++ (zeros z ++ (r .label ∷ []))) (omega arith) refl .0 (ap (part W at) (sym e1) ∙ e) in

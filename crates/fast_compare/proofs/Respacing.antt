@@ -19,7 +19,8 @@ use Rattle.fast_compare.specs.Map.{Value, cmp, Good, Row, State, row, va
 use Rattle.fast_compare.specs.Layout.{rowWords, encode, size, rowAt, Is, Sound}
 use Rattle.fast_compare.proofs.Ranks.{below-top, place-of, sorted-ext}
 use Rattle.fast_compare.proofs.Maps.{cmp-lawful, length-relabelled, value-relabelled, label-relabelled}
-use Rattle.fast_compare.proofs.Images.{ratio-length, length-row, ranked}
+use Rattle.monomial.proofs.Powers.{canonical-length}
+use Rattle.fast_compare.proofs.Images.{length-row, ranked}
 use Rattle.fast_compare.proofs.Exact.{count-of}
 use Rattle.fast_compare.proofs.Reading.{HeadOf, head, vars-of, cap-of, place-at, place-inside, row-used}
 use Rattle.fast_compare.proofs.Storing.{holds, put-wrote}
@@ -63,7 +64,7 @@ unfolding rowWords
 label-written m v x y h g =
     let z = zeros (m + 1 - length (v .ratio)) in
     let a = indexWord (v .index) ∷ (v .ratio ++ z) in
-    let la : length a ≡ m + 2 = simp (length-append, length-zeros) (omega (arith, ratio-length m (v .ratio) h (g .canonical))) in
+    let la : length a ≡ m + 2 = simp (length-append, length-zeros) (omega (arith, canonical-length 2 m (v .ratio) (omega arith) h (g .canonical))) in
     let sx : indexWord (v .index) ∷ (v .ratio ++ (z ++ (x ∷ []))) ≡ a ++ ((x ∷ []) ++ []) = simp append-assoc in
     let sy : indexWord (v .index) ∷ (v .ratio ++ (z ++ (y ∷ []))) ≡ a ++ ((y ∷ []) ++ []) = simp append-assoc in
     sy ∙ sym (ap (λ (l : List ℕ). over l (m + 2) (y ∷ [])) sx ∙ over-mid a (x ∷ []) [] (y ∷ []) (m + 2) la refl)

@@ -17,7 +17,8 @@ use Rattle.fast_compare.specs.declared.Comparer.the-variants.{New}
 use Rattle.fast_compare.specs.Layout.{rowWords, encode, size, rowAt, orderAt, Is}
 use Rattle.fast_compare.proofs.Ranks.{below-ext, below-most, sorted-ext, sorted-suc}
 use Rattle.fast_compare.proofs.Maps.{cmp-lawful, row-old, row-new, value-old, value-new, stored-new}
-use Rattle.fast_compare.proofs.Images.{ratio-length, ranked, rows-long, encode-length, pieces}
+use Rattle.monomial.proofs.Powers.{canonical-length}
+use Rattle.fast_compare.proofs.Images.{ranked, rows-long, encode-length, pieces}
 use Rattle.fast_compare.proofs.Exact.{fits-words}
 
 -- ---- a row written into a slot of zeros, word by word
@@ -28,7 +29,7 @@ slot-row m r h g =
     let rt = r .value .ratio in
     let k = length rt in
     let z = m + 1 - k in
-    let lk = ratio-length m rt h (g .canonical) in
+    let lk = canonical-length 2 m rt (omega arith) h (g .canonical) in
     let iw = indexWord (r .value .index) in
     let e : m + 3 ≡ suc (k + (z + 1)) = omega arith in
     let s0 : zeros (m + 3) ≡ 0 ∷ (zeros k ++ (zeros z ++ (0 ∷ []))) = ap zeros e ∙ zeros-suc (k + (z + 1)) ∙ rw (zeros-add k (z + 1), zeros-add z 1, zeros-suc 0, zeros-nil) in
@@ -95,7 +96,7 @@ module _ (st : State) (val : Valid st) (room : length (st .rows) < st .capacity)
         let Q = zeros ((c - suc n) * (m + 3)) ++ R in
         let iw = indexWord (r .value .index) in
         let few : m ≤ 4096 = omega (arith, val .vars-to) in
-        let lk = ratio-length m (r .value .ratio) few (g .canonical) in
+        let lk = canonical-length 2 m (r .value .ratio) (omega arith) few (g .canonical) in
         let l0 = length-zeros (m + 3) in
         let b1 = over (zeros (m + 3)) 0 (iw ∷ []) in
         let l1 : length b1 ≡ m + 3 = length-over (zeros (m + 3)) 0 (iw ∷ []) (omega arith) ∙ l0 in
@@ -189,7 +190,7 @@ module _ (bs : List ℕ) (st : State) (b : Bytes bs) (i : Is st bs) (room : leng
   stored-bytes b1 b2 b3 b4 b5 e1 e2 e3 e4 e5 =
       let h : p ≤ n′ = omega (arith, below-most cmp-lawful (value (st .rows)) n′ q) in
       let lo = ranked st (i .valid) .long in
-      let lk = ratio-length m′ (q .ratio) (omega (arith, i .valid .vars-to)) (good .canonical) in
+      let lk = canonical-length 2 m′ (q .ratio) (omega arith) (omega (arith, i .valid .vars-to)) (good .canonical) in
       let rf = row-fits n′ c′ (m′ + 3) room in
       let E0 = encode st in
       let l0 : length E0 ≡ size m′ c′ = encode-length st (i .valid) in

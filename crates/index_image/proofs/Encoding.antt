@@ -9,7 +9,7 @@ use lib.ListN.{length, length-append}
 use Rattle.words.specs.Tables.{part, zeros, table}
 use Rattle.words.proofs.Tables.{length-zeros, length-table, part-append, split-rows}
 use Rattle.monomial.specs.Monomial.{Canonical, monomialOf, pow}
-use Rattle.monomial.proofs.Powers.{monomial-length}
+use Rattle.monomial.proofs.Powers.{monomial-length, canonical-length}
 use Rattle.divmask.specs.Mask.{mask}
 use Rattle.fast_compare.specs.Map as map
 use Rattle.fast_compare.specs.Layout as labels
@@ -19,8 +19,6 @@ use Rattle.kd_theory.specs.Tree.{Tree, leaf, branch, inorder, nodes, count}
 use Rattle.index_theory.specs.Entries.{Entry, entryAt}
 use Rattle.index_theory.specs.State.{Kind, monomials, ratioed, State, Valid, GoodEntry, powerIn}
 use Rattle.index_image.specs.Layout.{entryWidth, nodeWidth, labelsSize, mapAt, entriesAt, permutationAt, labelsAt, nodesAt, size, slot, header, signWords, entryWords, gcdPowers, nodeWords, treeWords, labelWords, encode}
-use Rattle.index_image.specs.Pieces.{Pieces}
-use Rattle.index_image.proofs.Slots.{canonical-length}
 
 -- ---- pieces that stand one behind the other
 unfoldable pub joined : List ℕ → List (List ℕ) → List ℕ
@@ -122,6 +120,22 @@ pub record Fits (st : State) : Type 0 where
   pub nodes-to : nodes (st .tree) ≤ 2 * st .capacity - 1
   pub powers : (v e : ℕ) → st .variables ≤ v → powerIn (st .entries) v e ≡ 0
   pub label-words : length (labelWords (st .kind) (st .labels)) ≡ labelsSize (st .kind) (st .variables) (st .capacity)
+
+-- the tables one by one
+pub record Pieces (W : List ℕ) (st : State) : Type 0 where
+  pub head : part W 0 16 ≡ header st
+  pub maxima : part W 16 (st .variables) ≡ st .maxima
+  pub map : part W (mapAt (st .variables)) (st .variables) ≡ st .mapMaxima
+  pub entries : part W (entriesAt (st .variables)) (length (st .entries) * entryWidth (st .kind) (st .variables))
+      ≡ table (length (st .entries)) (λ i. entryWords (st .kind) (st .variables) (st .mapMaxima) (st .labels) (entryAt (st .entries) i))
+  pub entries-rest : part W (entriesAt (st .variables) + length (st .entries) * entryWidth (st .kind) (st .variables)) ((st .capacity - length (st .entries)) * entryWidth (st .kind) (st .variables))
+      ≡ zeros ((st .capacity - length (st .entries)) * entryWidth (st .kind) (st .variables))
+  pub permutation : part W (permutationAt (st .kind) (st .variables) (st .capacity)) (length (st .entries)) ≡ inorder (st .tree)
+  pub permutation-rest : part W (permutationAt (st .kind) (st .variables) (st .capacity) + length (st .entries)) (st .capacity - length (st .entries)) ≡ zeros (st .capacity - length (st .entries))
+  pub labels : part W (labelsAt (st .kind) (st .variables) (st .capacity)) (labelsSize (st .kind) (st .variables) (st .capacity)) ≡ labelWords (st .kind) (st .labels)
+  pub nodes-are : part W (nodesAt (st .kind) (st .variables) (st .capacity)) (nodes (st .tree) * nodeWidth (st .variables)) ≡ treeWords (st .variables) (st .mapMaxima) (powerIn (st .entries)) (st .tree)
+  pub nodes-rest : part W (nodesAt (st .kind) (st .variables) (st .capacity) + nodes (st .tree) * nodeWidth (st .variables)) ((2 * st .capacity - 1 - nodes (st .tree)) * nodeWidth (st .variables))
+      ≡ zeros ((2 * st .capacity - 1 - nodes (st .tree)) * nodeWidth (st .variables))
 
 module _ (W : List ℕ) (st : State) (f : Fits st) (room : size (st .kind) (st .variables) (st .capacity) ≤ length W) where
   abbrev k : Kind

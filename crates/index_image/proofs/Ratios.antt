@@ -21,7 +21,7 @@ use Rattle.fast_compare.specs.Layout as labels
 use Rattle.index_theory.specs.Entries.{quotientOf}
 use Rattle.index_image.specs.Shape as at
 use Rattle.index_image.specs.Walk.{lmIn, rowIn}
-use Rattle.index_image.specs.Door.{slotLength, slotIn, indexIn, signIn, labelsIn, rowValue, Named}
+use Rattle.index_image.specs.Door.{slotLength, slotIn, indexIn, signIn, labelsIn, rowValue, RatioReady}
 use Rattle.index_image.specs.declared.Shape.{Shape}
 use Rattle.index_image.proofs.Slots.{part-words, slot-canonical, refuse}
 
@@ -39,7 +39,7 @@ row-value W s j r e =
     let q : at.labelsAt s + (a + 1) ≡ r + 1 = omega arith in
     rw (getD-drop (at.labelsAt s) W a 0, drop-drop (a + 1) (at.labelsAt s) W, q, ← e)
 
-module _ (bs : List ℕ) (s : Shape) (i r x y : ℕ) (few : s .variables ≤ 64) (n : Named (words bs) s i)
+module _ (bs : List ℕ) (s : Shape) (i r x y : ℕ) (few : s .variables ≤ 64) (n : RatioReady (words bs) s i)
     (er : r ≡ at.labelsAt s + labels.rowAt (s .variables) (rowIn (words bs) s i))
     (ex : x ≡ getD (words bs) (at.entryAt s i + (s .variables + 2)) 0) (ey : y ≡ getD (words bs) r 0) where
   -- both index words are of kind 3, so they are the same where their payloads are

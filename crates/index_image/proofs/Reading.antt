@@ -17,7 +17,7 @@ use Rattle.monomial.specs.Monomial.{front, found, pow, Canonical}
 use Rattle.monomial.specs.Operations.{result, equal}
 use Rattle.monomial.specs.declared.ordered_ops.Op.the-variants.{Gcd}
 use Rattle.monomial.proofs.Canon.{front-short}
-use Rattle.monomial.proofs.Powers.{canonical-powers, monomial-length, absent-above}
+use Rattle.monomial.proofs.Powers.{canonical-length}
 use Rattle.monomial.proofs.Divisions.{equal-iff}
 use Rattle.monomial.proofs.Laws.{canonical-more, canonical-result, result-small, length-result}
 use Rattle.divmask.specs.Mask.{mask}
@@ -38,10 +38,6 @@ taken bs m g r e =
       is = ap words e ∙ words-part bs g n (4 * n) refl;
       long = ap length e ∙ simp (length-take, length-drop) (omega (arith, front-short 1 m 0 (drop g (words bs)), length-drop g (words bs), length-words bs));
     }
-
-pub canonical-long : (m : ℕ) (ws : List ℕ) → m ≤ 64 → Canonical 1 m ws → length ws ≤ m + 1
-canonical-long m ws h c =
-    omega (arith, ap length (canonical-powers 1 m ws (omega arith) c), monomial-length 1 m (pow 1 ws) (omega arith) (λ v l. absent-above 1 m ws v (omega arith) c l))
 
 -- the words that were pasted at the front
 pub front-pasted : (bs ws : List ℕ) (r : ℕ) → Words ws → r ≡ length ws → words (take (4 * r) (pasteW bs 0 ws)) ≡ ws
@@ -146,7 +142,7 @@ module _ (W : List ℕ) (s : Shape) (R : Ready W s) where
           from = omega arith;
           to = h;
           room = l′;
-          few = omega (arith, canonical-long (s .variables) (lmIn W s e) few (lm-canonical W s e some), ap length ew);
+          few = omega (arith, canonical-length 1 (s .variables) (lmIn W s e) (omega arith) (omega (arith, few)) (lm-canonical W s e some), ap length ew);
           is = pa ∙ ew ∙ sym (gcd-one W s few e some) ∙ ap (gcdOf W s) (sym on);
         }
 
@@ -172,7 +168,7 @@ module _ (W : List ℕ) (s : Shape) (R : Ready W s) where
 -- ---- the gcd and mask of a row
 module _ (W : List ℕ) (s : Shape) (at : ℕ) (ws : List ℕ) (few : s .variables ≤ 64) (can : Canonical 1 (s .variables) ws) (fits : at + (s .variables + 6) ≤ length W) where
   long : length ws ≤ s .variables + 1
-  long = canonical-long (s .variables) ws few can
+  long = canonical-length 1 (s .variables) ws (omega arith) (omega (arith, few)) can
 
   pub slot-iff : (n : ℕ) → n ≡ length ws
       → (part W (at + 5) (s .variables + 1) ≡ slot (s .variables) ws) ↔ ((part W (at + 5) n ≡ ws) × (part W (at + 5 + n) (s .variables + 1 - n) ≡ zeros (s .variables + 1 - n)))

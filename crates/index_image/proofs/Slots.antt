@@ -15,18 +15,12 @@ use Rattle.words.proofs.Laws.{words-part, length-words, length-pasteW, pasteW-f
 use Rattle.words.proofs.Tables.{never}
 use Rattle.monomial.specs.Monomial.{front, Canonical, pow, varsOf}
 use Rattle.monomial.proofs.Canon.{Canon, canon-of, front-short}
-use Rattle.monomial.proofs.Powers.{determined, vars-length}
+use Rattle.monomial.proofs.Powers.{canonical-length}
 use Rattle.monomial.specs.Operations.{result}
 use Rattle.monomial.specs.declared.ordered_ops.Op.{Op}
 use Rattle.monomial.proofs.Laws.{front-canonical, canonical-more, length-result, result-small}
 use Rattle.divmask.specs.Mask.{mask}
 use Rattle.index_image.specs.Door.{slotLength, slotIn, MaskedSlot}
-
--- a canonical monomial has at most a word a variable, and its end word
-pub canonical-length : (k m : ℕ) (ws : List ℕ) → 0 < k → m ≤ 4096 → Canonical k m ws → length ws ≤ m + 1
-canonical-length k m ws pos h c =
-    let e = ap length (determined k m 0 ws pos h (canon-of c)) ∙ length-append (varsOf k m (pow k ws)) _ in
-    omega (arith, vars-length k m (pow k ws))
 
 module _ (W : List ℕ) (m i : ℕ) (few : m ≤ 4096) (some : slotLength W m i ≡ 0 → ⊥) where
   pub slot-canonical : Canonical 1 m (slotIn W m i)

@@ -55,7 +55,7 @@ pub record EntryOk (W : List ℕ) (s : Shape) (i : ℕ) : Type 0 where
   pub ratio : s .kind ≡ 1 → RatioOk W s i
 
 -- what is known of an entry of a ratio index before its ratio is looked at
-pub record Named (W : List ℕ) (s : Shape) (i : ℕ) : Type 0 where
+pub record RatioReady (W : List ℕ) (s : Shape) (i : ℕ) : Type 0 where
   pub kinded : kind (getD W (at.entryAt s i + (s .variables + 2)) 0) ≡ 3
   pub sign : slotLength W (s .variables) (at.entryAt s i + (s .variables + 3)) ≡ 0 → ⊥
   pub lm : slotLength W (s .variables) (at.entryAt s i) ≡ 0 → ⊥

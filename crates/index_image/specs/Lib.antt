@@ -5,5 +5,4 @@ pub mod Door
 pub mod Marks
 pub mod Head
 pub mod Size
-pub mod Pieces
 pub mod Rows

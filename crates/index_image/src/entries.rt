@@ -56,7 +56,7 @@ fn has_ratio(image: &[u8], s: Shape, i: usize) -> bool
     requires { ⌜ at.InRange s ⌝ }
     requires { ⌜ 4 * at.size s ≤ length (now image) ⌝ }
     requires { ⌜ (s .kind ≡ 1) × (i < s .entries) ⌝ }
-    requires { ⌜ door.Named (words (now image)) s i ⌝ }
+    requires { ⌜ door.RatioReady (words (now image)) s i ⌝ }
     ensures { λ r. ⌜ (r ≡ true) ↔ (door.rowValue (words (now (image .entry))) s (rowIn (words (now (image .entry))) s i) ≡ quotientOf (door.indexIn (words (now (image .entry))) s i) (door.signIn (words (now (image .entry))) s i) (lmIn (words (now (image .entry))) s i)) ⌝ }
 {
     let m = s.variables;

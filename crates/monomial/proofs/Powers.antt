@@ -227,6 +227,11 @@ canonical-unique k m a b h ca cb e =
 pub absent-above : (k m : ℕ) (ws : List ℕ) (v : ℕ) → 0 < k → Canonical k m ws → m ≤ v → pow k ws v ≡ bias k
 absent-above k m ws v h c l = pow-above k h m 0 ws v (canon-of c) l
 
+-- a canonical word list has at most a word a variable, and its end word
+pub canonical-length : (k m : ℕ) (ws : List ℕ) → 0 < k → m ≤ 4096 → Canonical k m ws → length ws ≤ m + 1
+canonical-length k m ws h few c =
+    omega (arith, ap length (canonical-powers k m ws h c), monomial-length k m (pow k ws) few (λ v l. absent-above k m ws v h c l))
+
 pub powers-in-range : (k m : ℕ) (ws : List ℕ) (v : ℕ) → 0 < k → k ≤ 2 → Canonical k m ws → InRange k (pow k ws v)
 powers-in-range k m ws v h l c = in-range k m 0 ws v h l (canon-of c)
 

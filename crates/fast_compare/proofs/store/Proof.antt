@@ -6,7 +6,7 @@ use Rattle.words.specs.Words.{words}
 use Rattle.words.proofs.Laws.{length-words}
 use Rattle.words.proofs.Tables.{row-fits}
 use Rattle.fast_compare.specs.Map.{valueOf}
-use Rattle.fast_compare.proofs.Images.{ratio-length}
+use Rattle.monomial.proofs.Powers.{canonical-length}
 use Rattle.fast_compare.proofs.Exact.{count-of}
 use Rattle.fast_compare.proofs.Reading.{HeadOf, head, vars-of, cap-of}
 use Rattle.fast_compare.proofs.Storing.{stored-call}
@@ -36,7 +36,7 @@ record Fit (s : tie.Start) (v k t : ℕ) : Type 0 where
 fit : (s : tie.Start) (v k t : ℕ) → v ≡ getD (words (s .args .map .now)) 1 0 → k ≡ getD (words (s .args .map .now)) 2 0 → t ≡ getD (words (s .args .map .now)) 3 0 → Fit s v k t
 fit s v k t ev ek et =
     let h : HeadOf (s .args .map .now) = head (s .args .map .now) (s .pre .0) in
-    let l = ratio-length (getD (words (s .args .map .now)) 1 0) (words (s .args .ratio .now)) (omega (arith, h .vars)) (s .pre .1 .0 .canonical) in
+    let l = canonical-length 2 (getD (words (s .args .map .now)) 1 0) (words (s .args .ratio .now)) (omega arith) (omega (arith, h .vars)) (s .pre .1 .0 .canonical) in
     let u = row-fits (getD (words (s .args .map .now)) 3 0) (getD (words (s .args .map .now)) 2 0) (getD (words (s .args .map .now)) 1 0 + 3) (s .pre .1 .1 .1) in
     rw (ev, ek, et) (record {
       vars = h .vars;

@@ -9,7 +9,8 @@ use Rattle.index_image.specs.Shape as at
 use Rattle.index_image.specs.Walk.{lmIn}
 use Rattle.index_image.proofs.Gcds.{lm-canonical}
 use Rattle.index_image.proofs.Places.{place-room, place-fits, entry-at-place}
-use Rattle.index_image.proofs.Reading.{lm-read, canonical-long, Folding, fold-none, fold-canonical, lm-64, fold-one, fold-more}
+use Rattle.monomial.proofs.Powers.{canonical-length}
+use Rattle.index_image.proofs.Reading.{lm-read, Folding, fold-none, fold-canonical, lm-64, fold-one, fold-more}
 use Rattle.index_image.proofs.walk.gcd_of.Statement.{statement}
 use Rattle.index_image.proofs.walk.gcd_of.Tie as tie
 use Rattle.index_image.proofs.walk.gcd_of.Reads as reads
@@ -66,7 +67,7 @@ monomial-in-requires c κs = c .before .before .before .before .before .before .
 
 -- src/walk.rt:139:5
 paste-requires : tie.Need-paste-requires Inv-loop μ-loop
-paste-requires c κs = omega (arith, c .before .monomial-in .ensures .long, canonical-long (c .before .before .before .before .before .before .before .before .args .s .variables) (lmIn (words (c .before .before .before .before .before .before .before .before .args .image .now)) (c .before .before .before .before .before .before .before .before .args .s) (c .before .before .before .get .result)) (c .before .before .before .before .before .before .before .before .pre .0 .range .vars-to) (lm-canonical (words (c .before .before .before .before .before .before .before .before .args .image .now)) (c .before .before .before .before .before .before .before .before .args .s) (c .before .before .before .get .result) ((c .before .before .before .before .before .before .before .before .pre .0 .lms) (c .before .before .before .get .result) ((entry-at-place (words (c .before .before .before .before .before .before .before .before .args .image .now)) (c .before .before .before .before .before .before .before .before .args .s) (c .before .before .before .before .before .before .before .before .pre .0) (c .before .before .before .before .before .before .before .before .args .lo) 0 ((c .before .before .before .before .permutation-at .result) + (c .before .before .before .before .before .before .before .before .args .lo)) (c .before .before .before .get .result) (omega (arith, c .before .before .before .before .permutation-at .ensures)) (omega (arith, c .before .before .before .before .before .before .before .before .pre .1 .0, c .before .before .before .before .before .if1 .left)) (c .before .before .before .get .ensures)) .small))), ap length (lm-read (words (c .before .before .before .before .before .before .before .before .args .image .now)) (c .before .before .before .before .before .before .before .before .args .s) (c .before .before .before .get .result) (c .before .before .entry-at .result) (words (c .before .monomial-in .result .now)) (c .before .before .entry-at .ensures) (c .before .monomial-in .ensures .is)), ap length (c .before .monomial-in .ensures .is), c .before .before .before .before .before .before .before .before .pre .1 .1, c .before .before .before .before .before .before .before .before .pre .0 .range .vars-to)
+paste-requires c κs = omega (arith, c .before .monomial-in .ensures .long, canonical-length 1 (c .before .before .before .before .before .before .before .before .args .s .variables) (lmIn (words (c .before .before .before .before .before .before .before .before .args .image .now)) (c .before .before .before .before .before .before .before .before .args .s) (c .before .before .before .get .result)) (omega arith) (omega (arith, (c .before .before .before .before .before .before .before .before .pre .0 .range .vars-to))) (lm-canonical (words (c .before .before .before .before .before .before .before .before .args .image .now)) (c .before .before .before .before .before .before .before .before .args .s) (c .before .before .before .get .result) ((c .before .before .before .before .before .before .before .before .pre .0 .lms) (c .before .before .before .get .result) ((entry-at-place (words (c .before .before .before .before .before .before .before .before .args .image .now)) (c .before .before .before .before .before .before .before .before .args .s) (c .before .before .before .before .before .before .before .before .pre .0) (c .before .before .before .before .before .before .before .before .args .lo) 0 ((c .before .before .before .before .permutation-at .result) + (c .before .before .before .before .before .before .before .before .args .lo)) (c .before .before .before .get .result) (omega (arith, c .before .before .before .before .permutation-at .ensures)) (omega (arith, c .before .before .before .before .before .before .before .before .pre .1 .0, c .before .before .before .before .before .if1 .left)) (c .before .before .before .get .ensures)) .small))), ap length (lm-read (words (c .before .before .before .before .before .before .before .before .args .image .now)) (c .before .before .before .before .before .before .before .before .args .s) (c .before .before .before .get .result) (c .before .before .entry-at .result) (words (c .before .monomial-in .result .now)) (c .before .before .entry-at .ensures) (c .before .monomial-in .ensures .is)), ap length (c .before .monomial-in .ensures .is), c .before .before .before .before .before .before .before .before .pre .1 .1, c .before .before .before .before .before .before .before .before .pre .0 .range .vars-to)
 
 -- src/walk.rt:142:5
 loop-holds : tie.Need-loop-holds Inv-loop μ-loop

@@ -5,7 +5,8 @@ use Prim.Native.Nat.{_+_, _-_, _*_, _/_}
 use lib.ListN.{length}
 use Rattle.words.specs.Words.{words}
 use Rattle.words.proofs.Laws.{length-words}
-use Rattle.index_image.proofs.Reading.{canonical-long, other-mask, other-words, by-zeros, part-words}
+use Rattle.monomial.proofs.Powers.{canonical-length}
+use Rattle.index_image.proofs.Reading.{other-mask, other-words, by-zeros, part-words}
 use borrow.Author.Needs.{needs}
 use Rattle.index_image.proofs.walk.node_ok.Statement.{statement}
 use Rattle.index_image.proofs.walk.node_ok.Tie as tie
@@ -90,7 +91,7 @@ part-eq-start c = search needs
 
 -- src/walk.rt:166:22
 part-eq-end : tie.Need-part-eq-end
-part-eq-end c = omega (arith, length-words (c .before .before .before .before .before .before .args .gcd .now), canonical-long (c .before .before .before .before .before .before .args .s .variables) (words (c .before .before .before .before .before .before .args .gcd .now)) (c .before .before .before .before .before .before .pre .0 .range .vars-to) (c .before .before .before .before .before .before .pre .1 .1), c .before .before .before .before .before .before .pre .1 .0)
+part-eq-end c = omega (arith, length-words (c .before .before .before .before .before .before .args .gcd .now), canonical-length 1 (c .before .before .before .before .before .before .args .s .variables) (words (c .before .before .before .before .before .before .args .gcd .now)) (omega arith) (omega (arith, (c .before .before .before .before .before .before .pre .0 .range .vars-to))) (c .before .before .before .before .before .before .pre .1 .1), c .before .before .before .before .before .before .pre .1 .0)
 
 -- src/walk.rt:166:9
 eq-requires : tie.Need-eq-requires
@@ -114,11 +115,11 @@ add-is-blank-3 c = search needs
 
 -- src/walk.rt:169:46
 sub-is-blank : tie.Need-sub-is-blank
-sub-is-blank c = omega (arith, length-words (c .before .before .before .before .before .before .before .before .before .args .gcd .now), canonical-long (c .before .before .before .before .before .before .before .before .before .args .s .variables) (words (c .before .before .before .before .before .before .before .before .before .args .gcd .now)) (c .before .before .before .before .before .before .before .before .before .pre .0 .range .vars-to) (c .before .before .before .before .before .before .before .before .before .pre .1 .1))
+sub-is-blank c = omega (arith, length-words (c .before .before .before .before .before .before .before .before .before .args .gcd .now), canonical-length 1 (c .before .before .before .before .before .before .before .before .before .args .s .variables) (words (c .before .before .before .before .before .before .before .before .before .args .gcd .now)) (omega arith) (omega (arith, (c .before .before .before .before .before .before .before .before .before .pre .0 .range .vars-to))) (c .before .before .before .before .before .before .before .before .before .pre .1 .1))
 
 -- src/walk.rt:169:5
 is-blank-requires : tie.Need-is-blank-requires
-is-blank-requires c κs = omega (arith, length-words (c .before .before .before .before .before .before .before .before .before .args .gcd .now), canonical-long (c .before .before .before .before .before .before .before .before .before .args .s .variables) (words (c .before .before .before .before .before .before .before .before .before .args .gcd .now)) (c .before .before .before .before .before .before .before .before .before .pre .0 .range .vars-to) (c .before .before .before .before .before .before .before .before .before .pre .1 .1), c .before .before .before .before .before .before .before .before .before .pre .1 .0)
+is-blank-requires c κs = omega (arith, length-words (c .before .before .before .before .before .before .before .before .before .args .gcd .now), canonical-length 1 (c .before .before .before .before .before .before .before .before .before .args .s .variables) (words (c .before .before .before .before .before .before .before .before .before .args .gcd .now)) (omega arith) (omega (arith, (c .before .before .before .before .before .before .before .before .before .pre .0 .range .vars-to))) (c .before .before .before .before .before .before .before .before .before .pre .1 .1), c .before .before .before .before .before .before .before .before .before .pre .1 .0)
 
 -- src/walk.rt:151:1
 returns-3 : tie.Need-returns-3
