@@ -11,12 +11,13 @@ use Rattle.words.specs.Tables.{part, table}
 use Rattle.words.proofs.Laws.{Words, length-words, words-pasteW, length-pasteW}
 use Rattle.monomial.proofs.Canon.{canon-of}
 use Rattle.words.proofs.Tables.{part-mid, Small, small-append, small-nil, small-cons, small-zeros, small-table, small-each, table-iff, row-fits, split-rows, length-table}
+use Rattle.words.proofs.Lists.{listed, length-listed}
 use Rattle.fast_compare.specs.Labels.{sorted, Labelled}
 use Rattle.fast_compare.specs.Map.{Value, cmp, Good, Row, State, row, value, label, Valid}
 use Rattle.fast_compare.specs.Layout.{rowWords, encode, size, rowAt, orderAt, Is, SoundFor, valueAt, TablesOk, HeadOk}
 use Rattle.fast_compare.proofs.Ranks.{sorted-ranked, sorted-ext, ranked-unique}
 use Rattle.fast_compare.proofs.Maps.{cmp-lawful}
-use Rattle.fast_compare.proofs.Images.{canon-small, of-row, four, together, ranked, encode-length, header, row-is, tables, found-ranked, found-distinct, found-labelled, rowsTo, length-rowsTo, row-rowsTo, length-row}
+use Rattle.fast_compare.proofs.Images.{canon-small, of-row, four, together, ranked, encode-length, header, row-is, tables, found-ranked, found-distinct, found-labelled, row-listed, length-row}
 
 -- ---- what passes
 module _ (W : List ℕ) (m c : ℕ) (len : ℕ) (small : Words W) (lw : length W ≡ len / 4) (hd : HeadOk W m c len) (ok : TablesOk W m c (getD W 3 0)) where
@@ -27,10 +28,10 @@ module _ (W : List ℕ) (m c : ℕ) (len : ℕ) (small : Words W) (lw : length W
   found i = record { value = valueAt W m (rowAt m i); label = getD W (rowAt m i + (m + 2)) 0 }
 
   abbrev rs : List Row
-  rs = rowsTo n found
+  rs = listed n found
 
   pub stateOf : State
-  stateOf = record { variables = m; capacity = c; rows = rowsTo n found }
+  stateOf = record { variables = m; capacity = c; rows = listed n found }
 
   fits : size m c ≤ length W
   fits = omega (arith, hd .room)
@@ -39,13 +40,13 @@ module _ (W : List ℕ) (m c : ℕ) (len : ℕ) (small : Words W) (lw : length W
   few = hd .few
 
   long : length rs ≡ n
-  long = length-rowsTo n found
+  long = length-listed n found
 
   value-rs : (i : ℕ) → i < n → value rs i ≡ valueAt W m (rowAt m i)
-  value-rs i h = ap (λ (r : Row). r .value) (row-rowsTo n found i h)
+  value-rs i h = ap (λ (r : Row). r .value) (row-listed n found i h)
 
   label-rs : (i : ℕ) → i < n → label rs i ≡ getD W (rowAt m i + (m + 2)) 0
-  label-rs i h = ap (λ (r : Row). r .label) (row-rowsTo n found i h)
+  label-rs i h = ap (λ (r : Row). r .label) (row-listed n found i h)
 
   row-ok : (i : ℕ) → i < n → (part W (rowAt m i) (m + 3) ≡ rowWords m (found i)) × Good m (valueAt W m (rowAt m i))
   row-ok i h =
@@ -86,7 +87,7 @@ module _ (W : List ℕ) (m c : ℕ) (len : ℕ) (small : Words W) (lw : length W
   rows-are =
       table-iff W 4 n (m + 3) (λ i. rowWords m (row rs i)) (omega (arith, fits, few, split-rows n c (m + 3) few))
       (λ i h. length-row m (row rs i) (omega (arith, hd .vars-to)) (good i h))
-      .1 (λ i h. row-ok i h .0 ∙ ap (rowWords m) (sym (row-rowsTo n found i h)))
+      .1 (λ i h. row-ok i h .0 ∙ ap (rowWords m) (sym (row-listed n found i h)))
 
   head-is : part W 0 4 ≡ 1 ∷ m ∷ c ∷ n ∷ []
   head-is = four W (omega (arith, fits)) ∙ rw (hd .layout, hd .variables, hd .capacity)

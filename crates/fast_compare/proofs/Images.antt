@@ -8,8 +8,11 @@ use lib.ListN.{length, getD, take, drop, length-append, length-drop, take-append
 use lib.Seq.{length-take-le}
 use Rattle.words.specs.Kinds.{payload, ident, indexWord}
 use Rattle.words.specs.Tables.{part, zeros, table}
+use Rattle.words.proofs.Lists.{listed, getD-listed}
 use Rattle.words.proofs.Laws.{Words}
 use Rattle.words.proofs.Tables.{length-part, part-get, part-nil, part-cons, part-one, part-append, length-zeros, length-table, table-iff, row-fits, split-rows}
+use Rattle.words.proofs.Joined.{joined, Stand, renamed, named-back}
+use Rattle.words.proofs.Joined.{apart as pieces-apart, together as pieces-together}
 use Rattle.monomial.specs.Monomial.{front, Canonical}
 use Rattle.monomial.specs.declared.monomial_ordering.CmpOrd.the-variants.{Less}
 use Rattle.monomial.proofs.Canon.{Canon, IsVar, IsEnd, front-short}
@@ -121,29 +124,44 @@ pub record Pieces (W : List ℕ) (m c n : ℕ) (head rows order : List ℕ) : Ty
 
 module _ (W : List ℕ) (m c n : ℕ) (head rows order : List ℕ) (few : n ≤ c) (fits : size m c ≤ length W)
     (lh : length head ≡ 4) (lr : length rows ≡ n * (m + 3)) (lo : length order ≡ n) where
-  whole : size m c ≡ 4 + (n * (m + 3) + ((c - n) * (m + 3) + (n + (c - n))))
-  whole = omega (arith, split-rows n c (m + 3) few)
+  abbrev five : List (List ℕ)
+  five = head ∷ rows ∷ zeros ((c - n) * (m + 3)) ∷ order ∷ zeros (c - n) ∷ []
 
-  place : 4 + n * (m + 3) + (c - n) * (m + 3) ≡ orderAt m c
-  place = omega (arith, split-rows n c (m + 3) few)
+  whole : joined five ≡ head ++ (rows ++ (zeros ((c - n) * (m + 3)) ++ (order ++ zeros (c - n))))
+  unfolding joined
+  whole = refl
+
+  five-long : length (joined five) ≡ size m c
+  five-long = ap length whole ∙ simp (length-append, length-zeros) (omega (arith, split-rows n c (m + 3) few))
+
+  -- where the pieces begin
+  at1 : 0 + length head ≡ 4
+  at1 = omega arith
+
+  at2 : 0 + length head + length rows ≡ rowAt m n
+  at2 = omega arith
+
+  at3 : 0 + length head + length rows + length (zeros ((c - n) * (m + 3))) ≡ orderAt m c
+  at3 = omega (arith, length-zeros ((c - n) * (m + 3)), split-rows n c (m + 3) few)
+
+  at4 : 0 + length head + length rows + length (zeros ((c - n) * (m + 3))) + length order ≡ orderAt m c + n
+  at4 = omega (arith, at3)
 
   pub apart : part W 0 (size m c) ≡ head ++ (rows ++ (zeros ((c - n) * (m + 3)) ++ (order ++ zeros (c - n)))) → Pieces W m c n head rows order
   apart e =
-      let z = zeros ((c - n) * (m + 3)) in
-      let p1 = part-append W 0 4 (n * (m + 3) + ((c - n) * (m + 3) + (n + (c - n)))) head (rows ++ (z ++ (order ++ zeros (c - n)))) (omega arith) lh .0 (ap (part W 0) (sym whole) ∙ e) in
-      let p2 = part-append W 4 (n * (m + 3)) ((c - n) * (m + 3) + (n + (c - n))) rows (z ++ (order ++ zeros (c - n))) (omega (arith, whole)) lr .0 (p1 .1) in
-      let p3 = part-append W (4 + n * (m + 3)) ((c - n) * (m + 3)) (n + (c - n)) z (order ++ zeros (c - n)) (omega (arith, whole)) (length-zeros ((c - n) * (m + 3))) .0 (p2 .1) in
-      let p4 = part-append W (orderAt m c) n (c - n) order (zeros (c - n)) (omega arith) lo .0 (ap (λ (x : ℕ). part W x (n + (c - n))) (sym place) ∙ p3 .1) in
-      record { head-is = p1 .0; rows-are = p2 .0; rows-rest = p3 .0; order-is = p4 .0; order-rest = p4 .1 }
+      let s = pieces-apart W 0 five (omega (arith, five-long)) (rw (five-long, whole) e) in
+      record {
+        head-is = renamed W (s .0) refl lh;
+        rows-are = renamed W (s .1 .0) at1 lr;
+        rows-rest = renamed W (s .1 .1 .0) at2 (length-zeros ((c - n) * (m + 3)));
+        order-is = renamed W (s .1 .1 .1 .0) at3 lo;
+        order-rest = renamed W (s .1 .1 .1 .1) at4 (length-zeros (c - n));
+      }
 
   pub together : Pieces W m c n head rows order → part W 0 (size m c) ≡ head ++ (rows ++ (zeros ((c - n) * (m + 3)) ++ (order ++ zeros (c - n))))
   together p =
-      let z = zeros ((c - n) * (m + 3)) in
-      let p4 = part-append W (orderAt m c) n (c - n) order (zeros (c - n)) (omega arith) lo .1 (p .order-is, p .order-rest) in
-      let p3 = part-append W (4 + n * (m + 3)) ((c - n) * (m + 3)) (n + (c - n)) z (order ++ zeros (c - n)) (omega (arith, whole)) (length-zeros ((c - n) * (m + 3))) .1 (p .rows-rest, ap (λ (x : ℕ). part W x (n + (c - n))) place ∙ p4) in
-      let p2 = part-append W 4 (n * (m + 3)) ((c - n) * (m + 3) + (n + (c - n))) rows (z ++ (order ++ zeros (c - n))) (omega (arith, whole)) lr .1 (p .rows-are, p3) in
-      let p1 = part-append W 0 4 (n * (m + 3) + ((c - n) * (m + 3) + (n + (c - n)))) head (rows ++ (z ++ (order ++ zeros (c - n)))) (omega arith) lh .1 (p .head-is, p2) in
-      ap (part W 0) whole ∙ p1
+      let s : Stand W 0 five = (named-back W (p .head-is) refl lh, (named-back W (p .rows-are) at1 lr, (named-back W (p .rows-rest) at2 (length-zeros ((c - n) * (m + 3))), (named-back W (p .order-is) at3 lo, named-back W (p .order-rest) at4 (length-zeros (c - n)))))) in
+      rw (five-long, whole) at (pieces-together W 0 five (omega arith) (omega (arith, five-long)) s)
 
 pub four : (W : List ℕ) → 4 ≤ length W → part W 0 4 ≡ getD W 0 0 ∷ getD W 1 0 ∷ getD W 2 0 ∷ getD W 3 0 ∷ []
 four W h = rw (part-cons W 0 3 (omega arith), part-cons W 1 2 (omega arith), part-cons W 2 1 (omega arith), part-cons W 3 0 (omega arith), part-nil W 4)
@@ -285,17 +303,6 @@ module _ (W : List ℕ) (m c n : ℕ) (ok : TablesOk W m c n) where
             rw (eb, place-of cmp-lawful g n o found-distinct found-ranked i hi, place-of cmp-lawful g n o found-distinct found-ranked j hj) at z
 
 -- ---- what passes is the image of a valid map
-pub rowsTo : ℕ → (ℕ → Row) → List Row
-rowsTo zero f = []
-rowsTo (suc n) f = f 0 ∷ rowsTo n (λ i. f (suc i))
-
-pub length-rowsTo : (n : ℕ) (f : ℕ → Row) → length (rowsTo n f) ≡ n
-unfolding rowsTo
-length-rowsTo zero f = refl
-length-rowsTo (suc n) f = ap suc (length-rowsTo n (λ i. f (suc i)))
-
-pub row-rowsTo : (n : ℕ) (f : ℕ → Row) (i : ℕ) → i < n → row (rowsTo n f) i ≡ f i
-unfolding rowsTo row
-row-rowsTo zero f i h = absurd (omega arith)
-row-rowsTo (suc n) f zero h = refl
-row-rowsTo (suc n) f (suc i) h = row-rowsTo n (λ i. f (suc i)) i (omega arith)
+pub row-listed : (n : ℕ) (f : ℕ → Row) (i : ℕ) → i < n → row (listed n f) i ≡ f i
+unfolding row
+row-listed n f i h = getD-listed n f (record { value = record { index = 0; ratio = [] }; label = 0 }) i h

@@ -5,9 +5,10 @@ use mathlib.Core.Logic.{_↔_}
 use Prim.Native.Nat.{ℕ, zero, suc, _+_, _-_, _*_, _≤_, _<_}
 use native.Mathlib.Omega.{arith}
 use native.Mathlib.Nat.{add-mul}
-use lib.ListN.{length, length-append}
-use Rattle.words.specs.Tables.{part, zeros, table}
-use Rattle.words.proofs.Tables.{length-zeros, length-table, part-append, split-rows}
+use lib.ListN.{length, getD, set, length-append}
+use Rattle.words.specs.Tables.{part, zeros, table, over}
+use Rattle.words.proofs.Tables.{length-zeros, length-table, split-rows}
+use Rattle.words.proofs.Joined.{joined, Stand, apart, together, renamed, named-back, before, over-joined}
 use Rattle.monomial.specs.Monomial.{Canonical, monomialOf, pow}
 use Rattle.monomial.proofs.Powers.{monomial-length, canonical-length}
 use Rattle.divmask.specs.Mask.{mask}
@@ -19,38 +20,6 @@ use Rattle.kd_theory.specs.Tree.{Tree, leaf, branch, inorder, nodes, count}
 use Rattle.index_theory.specs.Entries.{Entry, entryAt}
 use Rattle.index_theory.specs.State.{Kind, monomials, ratioed, State, Valid, GoodEntry, powerIn}
 use Rattle.index_image.specs.Layout.{entryWidth, nodeWidth, labelsSize, mapAt, entriesAt, permutationAt, labelsAt, nodesAt, size, slot, header, signWords, entryWords, gcdPowers, nodeWords, treeWords, labelWords, encode}
-
--- ---- pieces that stand one behind the other
-unfoldable pub joined : List ℕ → List (List ℕ) → List ℕ
-joined u [] = u
-joined u (v ∷ us) = u ++ joined v us
-
-abbrev pub Stand : List ℕ → ℕ → List ℕ → List (List ℕ) → Type 0
-Stand W at u [] = part W at (length u) ≡ u
-Stand W at u (v ∷ us) = (part W at (length u) ≡ u) × Stand W (at + length u) v us
-
-pub apart : (W : List ℕ) (at : ℕ) (u : List ℕ) (us : List (List ℕ)) → at + length (joined u us) ≤ length W → part W at (length (joined u us)) ≡ joined u us → Stand W at u us
-unfolding joined
-apart W at u [] h e = e
-apart W at u (v ∷ us) h e =
-    let l : length (u ++ joined v us) ≡ length u + length (joined v us) = length-append u (joined v us) in
-    let p = part-append W at (length u) (length (joined v us)) u (joined v us) (omega (arith, l)) refl .0 (ap (part W at) (sym l) ∙ e) in
-    (p .0, apart W (at + length u) v us (omega (arith, l)) (p .1))
-
-pub together : (W : List ℕ) (at : ℕ) (u : List ℕ) (us : List (List ℕ)) → at + length (joined u us) ≤ length W → Stand W at u us → part W at (length (joined u us)) ≡ joined u us
-unfolding joined
-together W at u [] h e = e
-together W at u (v ∷ us) h e =
-    let l : length (u ++ joined v us) ≡ length u + length (joined v us) = length-append u (joined v us) in
-    let p = together W (at + length u) v us (omega (arith, l)) (e .1) in
-    ap (part W at) l ∙ part-append W at (length u) (length (joined v us)) u (joined v us) (omega (arith, l)) refl .1 (e .0, p)
-
--- a piece by other names of its place and its length
-renamed : (W : List ℕ) {u : List ℕ} {a b n : ℕ} → part W a (length u) ≡ u → a ≡ b → length u ≡ n → part W b n ≡ u
-renamed W p e l = rw (← e, ← l) p
-
-named-back : (W : List ℕ) {u : List ℕ} {a b n : ℕ} → part W b n ≡ u → a ≡ b → length u ≡ n → part W a (length u) ≡ u
-named-back W p e l = rw (e, l) p
 
 -- ---- lengths
 pub slot-length : (m : ℕ) (ws : List ℕ) → length ws ≤ m + 1 → length (slot m ws) ≡ m + 1
@@ -121,6 +90,25 @@ pub record Fits (st : State) : Type 0 where
   pub powers : (v e : ℕ) → st .variables ≤ v → powerIn (st .entries) v e ≡ 0
   pub label-words : length (labelWords (st .kind) (st .labels)) ≡ labelsSize (st .kind) (st .variables) (st .capacity)
 
+-- the tables, one behind the other
+abbrev pub tables : State → List (List ℕ)
+tables st =
+    header st ∷ st .maxima ∷ st .mapMaxima
+    ∷ table (length (st .entries)) (λ i. entryWords (st .kind) (st .variables) (st .mapMaxima) (st .labels) (entryAt (st .entries) i))
+    ∷ zeros ((st .capacity - length (st .entries)) * entryWidth (st .kind) (st .variables))
+    ∷ inorder (st .tree) ∷ zeros (st .capacity - length (st .entries)) ∷ labelWords (st .kind) (st .labels)
+    ∷ treeWords (st .variables) (st .mapMaxima) (powerIn (st .entries)) (st .tree)
+    ∷ zeros ((2 * st .capacity - 1 - nodes (st .tree)) * nodeWidth (st .variables)) ∷ []
+
+pub whole : (st : State) → joined (tables st) ≡ encode st
+unfolding joined encode
+whole st = refl
+
+-- a write to one table leaves the others
+pub table-written : (st : State) (k t : ℕ) (ws : List ℕ) → k < 10 → t + length ws ≤ length (getD (tables st) k [])
+    → over (encode st) (before (tables st) k + t) ws ≡ joined (set (tables st) k (over (getD (tables st) k []) t ws))
+table-written st k t ws h l = rw (← whole st) (over-joined (tables st) k t ws h l)
+
 -- the tables one by one
 pub record Pieces (W : List ℕ) (st : State) : Type 0 where
   pub head : part W 0 16 ≡ header st
@@ -189,15 +177,6 @@ module _ (W : List ℕ) (st : State) (f : Fits st) (room : size (st .kind) (st .
   free-nodes : length (zeros ((2 * c - 1 - d) * x)) ≡ (2 * c - 1 - d) * x
   free-nodes = length-zeros ((2 * c - 1 - d) * x)
 
-  abbrev others : List (List ℕ)
-  others =
-      st .maxima ∷ st .mapMaxima ∷ tabled ∷ zeros ((c - n) * w) ∷ inorder (st .tree) ∷ zeros (c - n) ∷ labelWords k (st .labels)
-      ∷ treed ∷ zeros ((2 * c - 1 - d) * x) ∷ []
-
-  whole : joined (header st) others ≡ encode st
-  unfolding joined encode
-  whole = refl
-
   pub image-length : length (encode st) ≡ size k m c
   unfolding encode
   image-length =
@@ -236,27 +215,52 @@ module _ (W : List ℕ) (st : State) (f : Fits st) (room : size (st .kind) (st .
   at5 : 0 + length (header st) + length (st .maxima) + length (st .mapMaxima) + length tabled + length (zeros ((c - n) * w)) ≡ permutationAt k m c
   at5 = omega (arith, at4, free, entries-whole)
 
-  abbrev before : ℕ
-  before = 0 + length (header st) + length (st .maxima) + length (st .mapMaxima) + length tabled + length (zeros ((c - n) * w))
+  abbrev leaves : ℕ
+  leaves = 0 + length (header st) + length (st .maxima) + length (st .mapMaxima) + length tabled + length (zeros ((c - n) * w))
 
-  at6 : before + length (inorder (st .tree)) ≡ permutationAt k m c + n
+  at6 : leaves + length (inorder (st .tree)) ≡ permutationAt k m c + n
   at6 = omega (arith, at5, f .all)
 
-  at7 : before + length (inorder (st .tree)) + length (zeros (c - n)) ≡ labelsAt k m c
+  at7 : leaves + length (inorder (st .tree)) + length (zeros (c - n)) ≡ labelsAt k m c
   at7 = omega (arith, at6, free-places, f .few)
 
-  at8 : before + length (inorder (st .tree)) + length (zeros (c - n)) + length (labelWords k (st .labels)) ≡ nodesAt k m c
+  at8 : leaves + length (inorder (st .tree)) + length (zeros (c - n)) + length (labelWords k (st .labels)) ≡ nodesAt k m c
   at8 = omega (arith, at7, f .label-words)
 
-  at9 : before + length (inorder (st .tree)) + length (zeros (c - n)) + length (labelWords k (st .labels)) + length treed ≡ nodesAt k m c + d * x
+  at9 : leaves + length (inorder (st .tree)) + length (zeros (c - n)) + length (labelWords k (st .labels)) + length treed ≡ nodesAt k m c + d * x
   at9 = omega (arith, at8, nodes-long)
 
-  fits : 0 + length (joined (header st) others) ≤ length W
-  fits = let l = ap length whole ∙ image-length in omega (arith, l)
+  -- the same, as the places of the ten
+  pub record Places : Type 0 where
+    pub maxima : before (tables st) 1 ≡ 16
+    pub map : before (tables st) 2 ≡ mapAt m
+    pub entries : before (tables st) 3 ≡ entriesAt m
+    pub entries-rest : before (tables st) 4 ≡ entriesAt m + n * w
+    pub permutation : before (tables st) 5 ≡ permutationAt k m c
+    pub permutation-rest : before (tables st) 6 ≡ permutationAt k m c + n
+    pub labels : before (tables st) 7 ≡ labelsAt k m c
+    pub nodes-are : before (tables st) 8 ≡ nodesAt k m c
+    pub nodes-rest : before (tables st) 9 ≡ nodesAt k m c + d * x
+
+  pub places : Places
+  places = record {
+    maxima = omega (arith, at1);
+    map = omega (arith, at2);
+    entries = omega (arith, at3);
+    entries-rest = omega (arith, at4);
+    permutation = omega (arith, at5);
+    permutation-rest = omega (arith, at6);
+    labels = omega (arith, at7);
+    nodes-are = omega (arith, at8);
+    nodes-rest = omega (arith, at9);
+  }
+
+  fits : 0 + length (joined (tables st)) ≤ length W
+  fits = let l = ap length (whole st) ∙ image-length in omega (arith, l)
 
   pub pieces-of : part W 0 (size k m c) ≡ encode st → Pieces W st
   pieces-of is =
-      let s = apart W 0 (header st) others fits (rw (whole, image-length) is) in
+      let s = apart W 0 (tables st) fits (rw (whole st, image-length) is) in
       record {
         head = renamed W (s .0) refl (header-length st);
         maxima = renamed W (s .1 .0) at1 (f .maxima);
@@ -272,5 +276,5 @@ module _ (W : List ℕ) (st : State) (f : Fits st) (room : size (st .kind) (st .
 
   pub of-pieces : Pieces W st → part W 0 (size k m c) ≡ encode st
   of-pieces p =
-      let s : Stand W 0 (header st) others = (named-back W (p .head) refl (header-length st), (named-back W (p .maxima) at1 (f .maxima), (named-back W (p .map) at2 (f .map), (named-back W (p .entries) at3 entries-long, (named-back W (p .entries-rest) at4 free, (named-back W (p .permutation) at5 (f .all), (named-back W (p .permutation-rest) at6 free-places, (named-back W (p .labels) at7 (f .label-words), (named-back W (p .nodes-are) at8 nodes-long, named-back W (p .nodes-rest) at9 free-nodes))))))))) in
-      rw (whole, image-length) at (together W 0 (header st) others fits s)
+      let s : Stand W 0 (tables st) = (named-back W (p .head) refl (header-length st), (named-back W (p .maxima) at1 (f .maxima), (named-back W (p .map) at2 (f .map), (named-back W (p .entries) at3 entries-long, (named-back W (p .entries-rest) at4 free, (named-back W (p .permutation) at5 (f .all), (named-back W (p .permutation-rest) at6 free-places, (named-back W (p .labels) at7 (f .label-words), (named-back W (p .nodes-are) at8 nodes-long, named-back W (p .nodes-rest) at9 free-nodes))))))))) in
+      rw (whole st, image-length) at (together W 0 (tables st) (omega arith) fits s)

@@ -311,20 +311,21 @@ blank-more W at i h e z = part-snoc W at i h ∙ rw (e, z) (sym (zeros-add i 1 �
 pub not-blank : (W : List ℕ) (at n i : ℕ) → i < n → (getD W (at + i) 0 ≡ 0 → ⊥) → part W at n ≡ zeros n → ⊥
 not-blank W at n i h z e = z (sym (part-get W at n i h) ∙ ap (λ (l : List ℕ). getD l i 0) e ∙ zeros-get n i)
 
--- moving up, from the end down: the words from i on stand one further up
-pub up-none : (bs : List ℕ) (e : ℕ) → bs ≡ pasteW bs (e + 1) (part (words bs) e (e - e))
-up-none bs e = let z : e - e ≡ 0 = omega arith in rw (z, part-nil (words bs) e) (sym (pasteW-nil bs (e + 1)))
+-- moving up by d, from the end down: the words from i on stand d further up
+pub up-none : (bs : List ℕ) (e d : ℕ) → bs ≡ pasteW bs (e + d) (part (words bs) e (e - e))
+up-none bs e d = let z : e - e ≡ 0 = omega arith in rw (z, part-nil (words bs) e) (sym (pasteW-nil bs (e + d)))
 
-pub up-more : (bs s : List ℕ) (i e w : ℕ) → i < e → 4 * e + 4 ≤ length bs → s ≡ pasteW bs (i + 1 + 1) (part (words bs) (i + 1) (e - (i + 1))) → w ≡ getD (words s) i 0
-    → putW s (i + 1) w ≡ pasteW bs (i + 1) (part (words bs) i (e - i))
-up-more bs s i e w h l q g =
+pub up-more : (bs s : List ℕ) (i e d w : ℕ) → i < e → 4 * (e + d) ≤ length bs → s ≡ pasteW bs (i + 1 + d) (part (words bs) (i + 1) (e - (i + 1))) → w ≡ getD (words s) i 0
+    → putW s (i + d) w ≡ pasteW bs (i + d) (part (words bs) i (e - i))
+up-more bs s i e d w h l q g =
     let W = words bs in
     let lw = length-words bs in
     let n = e - (i + 1) in
     let en : e - i ≡ suc n = omega arith in
+    let ed : i + 1 + d ≡ i + d + 1 = omega arith in
     let lp : length (part W (i + 1) n) ≡ n = length-part W (i + 1) n (omega arith) in
-    let gw : w ≡ getD W i 0 = g ∙ ap (λ (z : List ℕ). getD (words z) i 0) q ∙ pasteW-before bs (i + 1 + 1) (part W (i + 1) n) i (omega arith) (omega arith) in
-    rw (q, en, part-cons W i n (omega arith), gw) (pasteW-cons bs (i + 1) (part W (i + 1) n) (getD W i 0) (omega arith))
+    let gw : w ≡ getD W i 0 = g ∙ ap (λ (z : List ℕ). getD (words z) i 0) q ∙ pasteW-before bs (i + 1 + d) (part W (i + 1) n) i (omega arith) (omega arith) in
+    rw (q, ed, en, part-cons W i n (omega arith), gw) (pasteW-cons bs (i + d) (part W (i + 1) n) (getD W i 0) (omega arith))
 
 -- words pasted behind words pasted
 pub pasteW-append : (bs : List ℕ) (at : ℕ) (a : List ℕ) (i : ℕ) (b : List ℕ) → i ≡ at + length a → 4 * i ≤ length bs → pasteW (pasteW bs at a) i b ≡ pasteW bs at (a ++ b)

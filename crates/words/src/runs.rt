@@ -49,17 +49,17 @@ pub fn paste(s: &mut [u8], at: usize, row: &[u8])
     }
 }
 
-// Moves the words from `at` up to `end` up by one.
-fn move_up(s: &mut [u8], at: usize, end: usize)
+// Moves the words from `at` up to `end` up by `by` words.
+pub fn move_up(s: &mut [u8], at: usize, end: usize, by: usize)
     requires { ⌜ at ≤ end ⌝ }
-    requires { ⌜ 4 * end + 4 ≤ length (now s) ⌝ }
-    ensures { λ _. ⌜ now (s .exit) ≡ pasteW (now (s .entry)) (at + 1) (part (words (now (s .entry))) at (end - at)) ⌝ }
+    requires { ⌜ 4 * (end + by) ≤ length (now s) ⌝ }
+    ensures { λ _. ⌜ now (s .exit) ≡ pasteW (now (s .entry)) (at + by) (part (words (now (s .entry))) at (end - at)) ⌝ }
 {
     let mut i = end;
     while at < i {
         i -= 1;
         let w = crate::get(s, i);
-        crate::put(s, i + 1, w);
+        crate::put(s, i + by, w);
     }
 }
 
@@ -69,6 +69,6 @@ pub fn insert(s: &mut [u8], at: usize, end: usize, w: u32)
     requires { ⌜ 4 * end + 4 ≤ length (now s) ⌝ }
     ensures { λ _. ⌜ now (s .exit) ≡ pasteW (now (s .entry)) at (w ∷ part (words (now (s .entry))) at (end - at)) ⌝ }
 {
-    move_up(s, at, end);
+    move_up(s, at, end, 1);
     crate::put(s, at, w);
 }

@@ -14,14 +14,14 @@ use Rattle.words.proofs.get.Reads as get-reads
 use Rattle.words.proofs.put.Reads as put-reads
 
 abbrev Inv-loop : tie.InvT-loop
-Inv-loop s₀ at end i₀ s i = ((at ≤ i) × (i ≤ end)) × ((s ≡ pasteW s₀ (i + 1) (part (words s₀) i (end - i))) × (length s ≡ length s₀))
+Inv-loop s₀ at end by i₀ s i = ((at ≤ i) × (i ≤ end)) × ((s ≡ pasteW s₀ (i + by) (part (words s₀) i (end - i))) × (length s ≡ length s₀))
 
 abbrev μ-loop : tie.MeasureT-loop
-μ-loop s₀ at end i₀ s i = i
+μ-loop s₀ at end by i₀ s i = i
 
 -- src/runs.rt:59:5
 loop-holds : tie.Need-loop-holds Inv-loop μ-loop
-loop-holds c = ((omega arith, omega arith), (up-none (c .before .args .s .now) (c .before .args .end), refl))
+loop-holds c = ((omega arith, omega arith), (up-none (c .before .args .s .now) (c .before .args .end) (c .before .args .by), refl))
 
 -- src/runs.rt:60:9
 sub-i : tie.Need-sub-i Inv-loop μ-loop
@@ -47,8 +47,8 @@ loop-less c = search needs
 loop-again : tie.Need-loop-again Inv-loop μ-loop
 loop-again c = let i = (c .before .before .before .before .before .before .before .loop .i) - 1 in
     let e : (c .before .before .before .before .before .before .before .loop .i) ≡ i + 1 = omega arith in
-    let now : (c .before .before .before .before .before .before .before .loop .s) ≡ pasteW (c .before .before .before .before .before .before .before .before .before .args .s .now) (i + 1 + 1) (part (words (c .before .before .before .before .before .before .before .before .before .args .s .now)) (i + 1) ((c .before .before .before .before .before .before .before .before .before .args .end) - (i + 1))) = c .before .before .before .before .before .before .before .loop .inv .1 .0 ∙ ap (λ (n : ℕ). pasteW (c .before .before .before .before .before .before .before .before .before .args .s .now) (n + 1) (part (words (c .before .before .before .before .before .before .before .before .before .args .s .now)) n ((c .before .before .before .before .before .before .before .before .before .args .end) - n))) e in
-    ((omega arith, omega arith), (c .before .before .put .ensures ∙ up-more (c .before .before .before .before .before .before .before .before .before .args .s .now) (c .before .before .before .before .before .before .before .loop .s) i (c .before .before .before .before .before .before .before .before .before .args .end) (c .before .before .before .before .get .result) (omega arith) (omega arith) now (c .before .before .before .before .get .ensures), c .before .before .put .kept .0 ∙ c .before .before .before .before .before .before .before .loop .inv .1 .1))
+    let now : (c .before .before .before .before .before .before .before .loop .s) ≡ pasteW (c .before .before .before .before .before .before .before .before .before .args .s .now) (i + 1 + (c .before .before .before .before .before .before .before .before .before .args .by)) (part (words (c .before .before .before .before .before .before .before .before .before .args .s .now)) (i + 1) ((c .before .before .before .before .before .before .before .before .before .args .end) - (i + 1))) = c .before .before .before .before .before .before .before .loop .inv .1 .0 ∙ ap (λ (n : ℕ). pasteW (c .before .before .before .before .before .before .before .before .before .args .s .now) (n + (c .before .before .before .before .before .before .before .before .before .args .by)) (part (words (c .before .before .before .before .before .before .before .before .before .args .s .now)) n ((c .before .before .before .before .before .before .before .before .before .args .end) - n))) e in
+    ((omega arith, omega arith), (c .before .before .put .ensures ∙ up-more (c .before .before .before .before .before .before .before .before .before .args .s .now) (c .before .before .before .before .before .before .before .loop .s) i (c .before .before .before .before .before .before .before .before .before .args .end) (c .before .before .before .before .before .before .before .before .before .args .by) (c .before .before .before .before .get .result) (omega arith) (omega arith) now (c .before .before .before .before .get .ensures), c .before .before .put .kept .0 ∙ c .before .before .before .before .before .before .before .loop .inv .1 .1))
 
 -- src/runs.rt:53:1
 same-length : tie.Need-same-length Inv-loop μ-loop
