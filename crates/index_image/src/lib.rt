@@ -7,6 +7,7 @@ pub mod walk;
 ghost use mathlib.Core.Path.{_≡_};
 ghost use Prim.Native.Nat.{_≤_};
 ghost use Rattle.index_image.specs.Shape as at;
+ghost use Rattle.index_image.specs.Size.{Asked, IsLength};
 
 // The numbers of an image's header. They say where its tables begin, in words.
 pub struct Shape {
@@ -72,4 +73,19 @@ impl Shape {
     {
         self.node_at(2 * self.capacity - 1)
     }
+}
+
+// The length in bytes of the image of an index.
+pub fn length(kind: usize, variables: usize, capacity: usize) -> usize
+    requires { ⌜ Asked kind variables capacity ⌝ }
+    ensures { λ r. ⌜ IsLength kind variables capacity r ⌝ }
+{
+    let s = Shape {
+        kind: kind,
+        variables: variables,
+        capacity: capacity,
+        entries: 0,
+        nodes: 1,
+    };
+    4 * s.size()
 }

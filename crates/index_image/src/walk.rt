@@ -379,7 +379,7 @@ fn exchange(hi: &mut [u8], i: usize, x: u32) -> u32
 
 // The number of rows of the tree at row k, of at most `avail` entries, which start at place lo of the permutation,
 // with powers below `hi` and labels from ll on and below lh; 0 where there is none.
-// Each side is allowed fewer entries than its branch, so the depth is at most the number of entries.
+// Each side is allowed fewer entries than its branch. That is what its proof of termination counts, so no call is deeper than the entries.
 pub fn walk(
     image: &[u8],
     s: Shape,
