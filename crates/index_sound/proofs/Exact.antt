@@ -1,0 +1,37 @@
+-- The checks pass exactly on the images of valid states. Assumes nothing.
+use mathlib.Core.Path.{_≡_, sym, _∙_}
+use mathlib.Core.List.{List}
+use mathlib.Core.Logic.{_↔_}
+use Prim.Native.Nat.{ℕ}
+use lib.ListN.{length, getD}
+use Rattle.words.specs.Words.{words}
+use Rattle.index_image.specs.Layout.{Sound}
+use Rattle.index_image.specs.Head.{HeadOk, HeadIs}
+use Rattle.index_image.specs.declared.Shape.{Shape}
+use Rattle.index_image.specs.declared.head.Head.the-variants.{Bad}
+use Rattle.index_sound.specs.Checks.{TablesOk}
+use Rattle.index_image.proofs.Shapes.{shapeOf}
+use Rattle.index_sound.proofs.Decoding.{decode}
+use Rattle.index_sound.proofs.Checking.{head-ok, tables-ok}
+
+-- a header has one shape
+pub same-shape : (W : List ℕ) (len : ℕ) (s t : Shape) → HeadOk W len s → HeadOk W len t → s ≡ t
+same-shape W len s t h k = λ i. record {
+  kind = (sym (h .kind) ∙ k .kind) i;
+  variables = (sym (h .variables) ∙ k .variables) i;
+  capacity = (sym (h .capacity) ∙ k .capacity) i;
+  entries = (sym (h .entries) ∙ k .entries) i;
+  nodes = (sym (h .nodes) ∙ k .nodes) i;
+}
+
+pub tables-sound : (bs : List ℕ) (s : Shape) → HeadOk (words bs) (length bs) s → TablesOk bs s ↔ Sound bs
+tables-sound bs s h = (
+  decode bs s h,
+  λ x.
+      let e = same-shape (words bs) (length bs) (shapeOf (x .state)) s (head-ok bs (x .state) (x .is)) h in
+      rw e at (tables-ok bs (x .state) (x .is)),
+)
+
+pub no-image : (bs : List ℕ) → HeadIs (words bs) (length bs) Bad → Sound bs → ⊥
+unfolding HeadIs
+no-image bs h x = h (shapeOf (x .state)) (head-ok bs (x .state) (x .is))

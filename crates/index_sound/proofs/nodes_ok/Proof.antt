@@ -1,0 +1,94 @@
+use native.Mathlib.Omega.{arith}
+use mathlib.Core.Path.{_∙_}
+use Rattle.words.specs.Words.{words}
+use Rattle.fast_compare.proofs.Checks.{passed}
+use Rattle.index_sound.proofs.Steps.{stop, no-tree, tree-is, nodes-rest}
+use borrow.Author.Needs.{needs}
+use Rattle.index_sound.proofs.nodes_ok.Statement.{statement}
+use Rattle.index_sound.proofs.nodes_ok.Tie as tie
+use Rattle.index_sound.proofs.nodes_ok.Reads as reads
+use Rattle.index_sound.proofs.nodes_ok.Lts as lts
+use Rattle.index_image.proofs.Shape.node_at.Reads as node-at-reads
+use Rattle.index_sound.proofs.tree_rows.Reads as tree-rows-reads
+use Rattle.words.proofs.get.Reads as get-reads
+use Rattle.words.proofs.runs.is_blank.Reads as is-blank-reads
+
+-- src/lib.rt:119:26
+node-at-requires : tie.Need-node-at-requires
+node-at-requires c κs = search needs
+
+-- src/lib.rt:119:26
+add-get : tie.Need-add-get
+add-get c = omega (arith, nodes-rest (c .before .before .args .image .now) (c .before .before .args .s) (c .before .before .pre) .first, c .node-at .ensures, nodes-rest (c .before .before .args .image .now) (c .before .before .args .s) (c .before .before .pre) .small)
+
+-- src/lib.rt:119:8
+get-requires : tie.Need-get-requires
+get-requires c κs = omega (arith, nodes-rest (c .before .before .args .image .now) (c .before .before .args .s) (c .before .before .pre) .first, c .node-at .ensures)
+
+-- src/lib.rt:119:8
+cast-if1 : tie.Need-cast-if1
+cast-if1 c = search needs
+
+-- src/lib.rt:120:9
+returns : tie.Need-returns
+returns c = no-tree (words (c .before .before .before .before .before .args .image .now)) (c .before .before .before .before .before .args .s) (c .before .before .before .before .before .pre) _ (c .before .before .get .ensures ∙ rw (c .before .before .before .node-at .ensures)) (c .if1 .taken)
+
+-- src/lib.rt:122:17
+mul-rest : tie.Need-mul-rest
+mul-rest c = search needs
+
+-- src/lib.rt:122:17
+sub-rest : tie.Need-sub-rest
+sub-rest c = search needs
+
+-- src/lib.rt:122:17
+sub-rest-2 : tie.Need-sub-rest-2
+sub-rest-2 c = search needs
+
+-- src/lib.rt:122:50
+add-rest : tie.Need-add-rest
+add-rest c = search needs
+
+-- src/lib.rt:122:16
+mul-rest-2 : tie.Need-mul-rest-2
+mul-rest-2 c = omega (arith, nodes-rest (c .before .before .before .before .before .before .before .before .args .image .now) (c .before .before .before .before .before .before .before .before .args .s) (c .before .before .before .before .before .before .before .before .pre) .fits)
+
+-- src/lib.rt:123:38
+node-at-requires-2 : tie.Need-node-at-requires-2
+node-at-requires-2 c κs = search needs
+
+-- src/lib.rt:123:9
+is-blank-requires : tie.Need-is-blank-requires
+is-blank-requires c κs = omega (arith, nodes-rest (c .before .before .before .before .before .before .before .before .before .args .image .now) (c .before .before .before .before .before .before .before .before .before .args .s) (c .before .before .before .before .before .before .before .before .before .pre) .room, c .node-at2 .ensures)
+
+-- src/lib.rt:124:9
+returns-2 : tie.Need-returns-2
+returns-2 c = stop _ (rw (c .before .before .node-at2 .ensures) at (c .before .is-blank .ensures)) (c .if2 .taken) (λ n. n .rest)
+
+-- src/lib.rt:126:5
+tree-rows-requires : tie.Need-tree-rows-requires
+tree-rows-requires c κs = search needs
+
+-- src/lib.rt:115:1
+returns-3 : tie.Need-returns-3
+returns-3 c = tree-is (words (c .before .before .before .before .before .before .before .before .before .before .before .before .before .args .image .now)) (c .before .before .before .before .before .before .before .before .before .before .before .before .before .args .s) (c .before .before .before .before .before .before .before .before .before .before .before .before .before .pre) _ _ (c .before .tree-rows .ensures) (c .before .before .before .before .before .before .before .before .before .before .get .ensures ∙ rw (c .before .before .before .before .before .before .before .before .before .before .before .node-at .ensures)) (c .before .before .before .before .before .before .before .before .if1 .left) (passed _ (rw (c .before .before .before .before .node-at2 .ensures) at (c .before .before .before .is-blank .ensures)) (c .before .before .if2 .left))
+
+pub nodes-ok-spec : {M : Type 1} → statement M
+nodes-ok-spec =
+    tie.close
+    (tie.spec
+    node-at-requires
+    add-get
+    get-requires
+    cast-if1
+    returns
+    mul-rest
+    sub-rest
+    sub-rest-2
+    add-rest
+    mul-rest-2
+    node-at-requires-2
+    is-blank-requires
+    returns-2
+    tree-rows-requires
+    returns-3)

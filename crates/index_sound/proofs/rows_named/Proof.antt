@@ -1,0 +1,78 @@
+use mathlib.Core.Path.{_∙_}
+use Rattle.words.specs.Words.{words}
+use Rattle.index_sound.proofs.Steps.{no-ratio, is-ratio, rows-can, rows-is}
+use borrow.Author.Needs.{needs}
+use Rattle.index_sound.proofs.rows_named.Statement.{statement}
+use Rattle.index_sound.proofs.rows_named.Tie as tie
+use Rattle.index_sound.proofs.rows_named.Reads as reads
+use Rattle.index_sound.proofs.rows_named.Lts as lts
+use Rattle.index_image.proofs.Shape.entry_at.Reads as entry-at-reads
+use Rattle.index_image.proofs.Shape.entry_width.Reads as entry-width-reads
+use Rattle.index_image.proofs.Shape.labels_at.Reads as labels-at-reads
+use Rattle.index_image.proofs.marks.all_named.Reads as all-named-reads
+use Rattle.words.proofs.get.Reads as get-reads
+
+-- src/lib.rt:83:9
+returns : tie.Need-returns
+returns c = no-ratio (c .before .before .before .args .s) (c .if1 .taken)
+
+-- src/lib.rt:85:13
+entry-at-requires : tie.Need-entry-at-requires
+entry-at-requires c κs = search needs
+
+-- src/lib.rt:85:30
+mul-e : tie.Need-mul-e
+mul-e c = search needs
+
+-- src/lib.rt:85:30
+add-e : tie.Need-add-e
+add-e c = search needs
+
+-- src/lib.rt:85:13
+add-e-2 : tie.Need-add-e-2
+add-e-2 c = search needs
+
+-- src/lib.rt:86:34
+labels-at-requires : tie.Need-labels-at-requires
+labels-at-requires c κs = search needs
+
+-- src/lib.rt:86:34
+add-get : tie.Need-add-get
+add-get c = search needs
+
+-- src/lib.rt:86:16
+get-requires : tie.Need-get-requires
+get-requires c κs = search needs
+
+-- src/lib.rt:86:16
+cast-rows : tie.Need-cast-rows
+cast-rows c = search needs
+
+-- src/lib.rt:87:45
+entry-width-requires : tie.Need-entry-width-requires
+entry-width-requires c κs = search needs
+
+-- src/lib.rt:87:5
+all-named-requires : tie.Need-all-named-requires
+all-named-requires c κs = rows-can (c .before .before .before .before .before .before .before .before .args .image .now) (c .before .before .before .before .before .before .before .before .args .s) (c .before .before .before .before .before .before .before .before .pre .0) (c .before .before .before .before .before .before .before .before .pre .1 .0) (is-ratio (c .before .before .before .before .before .before .before .before .args .s) (c .before .before .before .before .before .before .before .before .pre .0) (c .before .before .before .before .before .if1 .left)) (c .before .before .before .before .before .before .before .before .pre .1 .1 .0) (c .before .before .before .before .before .before .before .before .pre .1 .1 .1) _ _ _ (c .before .before .before .before .entry-at .ensures) (c .entry-width .ensures) (c .before .get .ensures ∙ rw (c .before .before .labels-at .ensures))
+
+-- src/lib.rt:75:1
+returns-2 : tie.Need-returns-2
+returns-2 c = rows-is (words (c .before .before .before .before .before .before .before .before .before .args .image .now)) (c .before .before .before .before .before .before .before .before .before .args .s) _ _ _ _ (is-ratio (c .before .before .before .before .before .before .before .before .before .args .s) (c .before .before .before .before .before .before .before .before .before .pre .0) (c .before .before .before .before .before .before .if1 .left)) (c .before .before .before .before .before .entry-at .ensures) (c .before .entry-width .ensures) (c .before .before .get .ensures ∙ rw (c .before .before .before .labels-at .ensures)) (c .all-named .ensures)
+
+pub rows-named-spec : {M : Type 1} → statement M
+rows-named-spec =
+    tie.close
+    (tie.spec
+    returns
+    entry-at-requires
+    mul-e
+    add-e
+    add-e-2
+    labels-at-requires
+    add-get
+    get-requires
+    cast-rows
+    entry-width-requires
+    all-named-requires
+    returns-2)

@@ -1,0 +1,40 @@
+use Rattle.index_image.proofs.Slots.{refuse}
+use Rattle.index_sound.proofs.Exact.{tables-sound, no-image}
+use Rattle.words.specs.Words.{words}
+use lib.ListN.{length}
+use Rattle.index_sound.proofs.Steps.{head-is, last}
+use borrow.Author.Needs.{needs}
+use Rattle.index_sound.proofs.sound.Statement.{statement}
+use Rattle.index_sound.proofs.sound.Tie as tie
+use Rattle.index_sound.proofs.sound.Reads as reads
+use Rattle.index_sound.proofs.sound.Lts as lts
+use Rattle.index_image.proofs.head.read.Reads as read-reads
+use Rattle.index_sound.proofs.tables_ok.Reads as tables-ok-reads
+
+-- src/lib.rt:157:11
+read-requires : tie.Need-read-requires
+read-requires c κs = search needs
+
+-- src/lib.rt:158:21
+enum-known-s : tie.Need-enum-known-s
+enum-known-s c = search needs
+
+-- src/lib.rt:158:27
+tables-ok-requires : tie.Need-tables-ok-requires
+tables-ok-requires c κs = let h = head-is (words (c .before .before .before .before .before .args .image .now)) (length (c .before .before .before .before .before .args .image .now)) _ (c .before .s .given .0 .0) (c .before .s .given .1) (c .before .before .before .read .ensures) in (h .range, h .room)
+
+-- src/lib.rt:159:22
+enum-told : tie.Need-enum-told
+enum-told c = search needs
+
+-- src/lib.rt:154:1
+returns : tie.Need-returns
+returns c = let e = tables-sound (c .before .before .before .before .before .before .args .image .now) (c .before .before .s .given .0 .0) (head-is (words (c .before .before .before .before .before .before .args .image .now)) (length (c .before .before .before .before .before .before .args .image .now)) _ (c .before .before .s .given .0 .0) (c .before .before .s .given .1) (c .before .before .before .before .read .ensures)) in last _ (c .tables-ok .ensures) (e .0) (e .1)
+
+-- src/lib.rt:154:1
+returns-2 : tie.Need-returns-2
+returns-2 c = refuse (no-image (c .before .before .before .before .args .image .now) (rw (c .enum-told .given .1) at (c .before .before .read .ensures)))
+
+pub sound-spec : {M : Type 1} → statement M
+sound-spec =
+    tie.close (tie.spec read-requires enum-known-s tables-ok-requires enum-told returns returns-2)
