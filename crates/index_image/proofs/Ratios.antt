@@ -11,7 +11,7 @@ use native.Mathlib.Nat.{add-assoc}
 use Rattle.words.specs.Kinds.{kind, payload}
 use Rattle.words.specs.Words.{words}
 use Rattle.words.specs.Tables.{part}
-use Rattle.monomial.specs.Monomial.{front, found, Canonical}
+use Rattle.monomial.specs.Monomial.{front, found, PartAt, Canonical}
 use Rattle.monomial.specs.Operations.{result, equal}
 use Rattle.monomial.specs.declared.ordered_ops.Op.{Op}
 use Rattle.monomial.proofs.Divisions.{equal-iff}
@@ -26,9 +26,30 @@ use Rattle.index_image.specs.declared.Shape.{Shape}
 use Rattle.index_image.proofs.Slots.{part-words, slot-canonical, refuse}
 
 -- the words of what the finder hands back
-pub found-words : (k m : ℕ) (bs : List ℕ) (i : ℕ) → words (found k m bs i) ≡ part (words bs) i (front k m 0 (drop i (words bs)))
+found-words : (k m : ℕ) (bs : List ℕ) (i : ℕ) → words (found k m bs i) ≡ part (words bs) i (front k m 0 (drop i (words bs)))
 unfolding found
 found-words k m bs i = part-words bs i (front k m 0 (drop i (words bs))) (4 * front k m 0 (drop i (words bs))) refl
+
+-- the words of a part that is known to be a monomial or ratio
+part-words-at : (k m : ℕ) (bs : List ℕ) (i j : ℕ) (r : List ℕ) → i ≡ j → PartAt bs i r → (front k m 0 (drop j (words bs)) ≡ 0 → ⊥) → words r ≡ part (words bs) j (front k m 0 (drop j (words bs)))
+part-words-at k m bs i j r e p f = ap words (p k m (λ z. f (rw (← e) z)) ∙ ap (found k m bs) e) ∙ found-words k m bs j
+
+module _ (bs : List ℕ) (s : Shape) (i a : ℕ) (ea : a ≡ at.entryAt s i) (r : List ℕ) where
+  pub lm-part : PartAt bs a r → (slotLength (words bs) (s .variables) (at.entryAt s i) ≡ 0 → ⊥) → words r ≡ lmIn (words bs) s i
+  unfolding lmIn
+  lm-part p f = part-words-at 1 (s .variables) bs a (at.entryAt s i) r ea p f
+
+  pub sign-part : PartAt bs (a + (s .variables + 3)) r → (slotLength (words bs) (s .variables) (at.entryAt s i + (s .variables + 3)) ≡ 0 → ⊥) → words r ≡ signIn (words bs) s i
+  unfolding signIn slotIn
+  sign-part p f = part-words-at 1 (s .variables) bs (a + (s .variables + 3)) (at.entryAt s i + (s .variables + 3)) r (rw ea) p f
+
+-- the ratio of the label map's row at word x
+pub ratio-part : (bs : List ℕ) (s : Shape) (j x : ℕ) (r : List ℕ) → x ≡ at.labelsAt s + labels.rowAt (s .variables) j → PartAt bs (x + 1) r
+    → labels.RowOk (labelsIn (words bs) s) (s .variables) (labels.rowAt (s .variables) j) → words r ≡ part (words bs) (x + 1) (front 2 (s .variables) 0 (drop (x + 1) (words bs)))
+ratio-part bs s j x r e p o =
+    let q : at.labelsAt s + (labels.rowAt (s .variables) j + 1) ≡ x + 1 = omega arith in
+    part-words-at 2 (s .variables) bs (x + 1) (x + 1) r refl p
+    (rw (drop-drop (labels.rowAt (s .variables) j + 1) (at.labelsAt s) (words bs), q) at (o .some))
 
 -- the value of a row, by the words of the whole image
 row-value : (W : List ℕ) (s : Shape) (j r : ℕ) → r ≡ at.labelsAt s + labels.rowAt (s .variables) j
@@ -38,6 +59,14 @@ row-value W s j r e =
     let a = labels.rowAt (s .variables) j in
     let q : at.labelsAt s + (a + 1) ≡ r + 1 = omega arith in
     rw (getD-drop (at.labelsAt s) W a 0, drop-drop (a + 1) (at.labelsAt s) W, q, ← e)
+
+-- the signature monomial and lm of an entry are canonical
+pub parts-canonical : (W : List ℕ) (s : Shape) (i : ℕ) → s .variables ≤ 64 → RatioReady W s i → Canonical 1 64 (signIn W s i) × Canonical 1 64 (lmIn W s i)
+unfolding signIn lmIn slotIn
+parts-canonical W s i few n = (
+  canonical-more (omega arith) few (slot-canonical W (s .variables) (at.entryAt s i + (s .variables + 3)) (omega arith) (n .sign)),
+  canonical-more (omega arith) few (slot-canonical W (s .variables) (at.entryAt s i) (omega arith) (n .lm)),
+)
 
 module _ (bs : List ℕ) (s : Shape) (i r x y : ℕ) (few : s .variables ≤ 64) (n : RatioReady (words bs) s i)
     (er : r ≡ at.labelsAt s + labels.rowAt (s .variables) (rowIn (words bs) s i))

@@ -11,15 +11,15 @@ use lib.Seq.{take-at}
 use borrow.Author.Tests.{le-leb, leb-true, lt-ltb, ltb-true}
 use Rattle.words.specs.Words.{words, bytes, putW, pasteW}
 use Rattle.words.specs.Tables.{part, zeros}
-use Rattle.words.proofs.Laws.{Words, length-words, length-bytes, words-take, words-part, words-bytes, pasteW-front, putW-paste}
-use Rattle.words.proofs.Tables.{length-part, part-nil, part-one, part-snoc, part-append}
+use Rattle.words.proofs.Laws.{Bytes, Words, length-words, length-bytes, words-take, words-part, words-bytes, pasteW-front, putW-paste}
+use Rattle.words.proofs.Tables.{length-part, part-nil, part-one, part-snoc, part-append, paste-own}
 use Rattle.monomial.specs.Monomial.{front, found, pow, Canonical}
-use Rattle.monomial.specs.Operations.{result, equal}
+use Rattle.monomial.specs.Operations.{result, equal, divides}
 use Rattle.monomial.specs.declared.ordered_ops.Op.the-variants.{Gcd}
 use Rattle.monomial.proofs.Canon.{front-short}
 use Rattle.monomial.proofs.Powers.{canonical-length}
 use Rattle.monomial.proofs.Divisions.{equal-iff}
-use Rattle.monomial.proofs.Laws.{canonical-more, canonical-result, result-small, length-result}
+use Rattle.monomial.proofs.Laws.{canonical-more, canonical-result, result-small, length-result, gcd-divided}
 use Rattle.divmask.specs.Mask.{mask}
 use Rattle.fast_compare.proofs.Checks.{refuse, accept, failed, passed}
 use Rattle.index_image.specs.declared.Shape.{Shape}
@@ -63,6 +63,17 @@ module _ (a b : List ℕ) (ca : Canonical 1 64 a) (cb : Canonical 1 64 b) where
 
   pub gcd-small : Words (result Gcd a b)
   gcd-small = result-small 64 a b ca cb Gcd
+
+-- bytes whose first n words are a monomial hold its gcd with a multiple of it
+pub record Held (acc : List ℕ) (n : ℕ) (ws : List ℕ) : Type 0 where
+  pub long : n ≡ length ws
+  pub kept : acc ≡ pasteW acc 0 ws
+
+pub gcd-held : (acc : List ℕ) (n : ℕ) (b : List ℕ) → Bytes acc → 4 * n ≤ length acc → Canonical 1 64 (part (words acc) 0 n) → Canonical 1 64 b
+    → divides (part (words acc) 0 n) b ≡ true → Held acc n (result Gcd (part (words acc) 0 n) b)
+gcd-held acc n b by room ca cb d =
+    let e : result Gcd (part (words acc) 0 n) b ≡ part (words acc) 0 n = gcd-divided 64 (part (words acc) 0 n) b ca cb (omega arith) d in
+    rw e (record { long = sym (length-part (words acc) 0 n (omega (arith, length-words acc))); kept = sym (paste-own acc n by room) })
 
 pub slots-gcd : (W : List ℕ) (m a b : ℕ) → m ≤ 64 → Slots W m a b → Canonical 1 m (result Gcd (monomialIn W m (a + 5)) (monomialIn W m (b + 5)))
 slots-gcd W m a b h s =

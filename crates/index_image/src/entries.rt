@@ -60,16 +60,15 @@ fn has_ratio(image: &[u8], s: Shape, i: usize) -> bool
     ensures { λ r. ⌜ (r ≡ true) ↔ (door.rowValue (words (now (image .entry))) s (rowIn (words (now (image .entry))) s i) ≡ quotientOf (door.indexIn (words (now (image .entry))) s i) (door.signIn (words (now (image .entry))) s i) (lmIn (words (now (image .entry))) s i)) ⌝ }
 {
     let m = s.variables;
-    let v = m as u32;
     let e = s.entry_at(i);
     let row = words::get(image, e + (2 * m + 5)) as usize;
     let r = s.labels_at() + (4 + row * (m + 3));
     if words::get(image, e + (m + 2)) != words::get(image, r) {
         return false;
     }
-    let sign = monomial::monomial_at(image, e + (m + 3), v);
-    let lm = monomial::monomial_at(image, e, v);
-    let ratio = monomial::ratio_at(image, r + 1, v);
+    let sign = monomial::known_at(image, e + (m + 3));
+    let lm = monomial::known_at(image, e);
+    let ratio = monomial::known_at(image, r + 1);
     is_ratio(sign, lm, ratio)
 }
 

@@ -5,10 +5,10 @@ ghost use mathlib.Core.Path.{_≡_};
 ghost use mathlib.Core.Bool.{true};
 ghost use mathlib.Core.Logic.{_↔_};
 ghost use Prim.Native.Nat.{ℕ, min, max, _+_, _*_, _<_, _≤_};
-ghost use lib.ListN.{length, getD};
+ghost use lib.ListN.{length, getD, drop};
 ghost use Rattle.words.specs.Words.{words, putW, pasteW};
 ghost use Rattle.words.specs.Tables.{part};
-ghost use Rattle.monomial.specs.Monomial.{Canonical, pow};
+ghost use Rattle.monomial.specs.Monomial.{Canonical, front, pow};
 ghost use Rattle.monomial.specs.Operations.{result};
 ghost use Rattle.monomial.specs.declared.ordered_ops.Op.the-variants.{Gcd};
 ghost use Rattle.index_image.specs.Shape as shape;
@@ -25,12 +25,12 @@ pub struct Limits {
     pub other: u64,
 }
 
-// The part of the image that is the canonical monomial at word g.
+// The part of the image that is the canonical monomial at word g, which is known to stand there.
 fn monomial_in(image: &[u8], s: Shape, g: usize) -> &[u8]
-    requires { ⌜ s .variables ≤ 64 ⌝ }
+    requires { ⌜ (front 1 (s .variables) 0 (drop g (words (now image))) ≡ 0 → ⊥) ⌝ }
     ensures { λ r. ⌜ row.Taken (now r) (row.monomialIn (words (now (image .entry))) (s .variables) g) ⌝ }
 {
-    monomial::monomial_at(image, g, s.variables as u32)
+    monomial::known_at(image, g)
 }
 
 // Whether every power of a monomial is below its bound. Absent variables have power 0, and no bound is 0.
@@ -106,7 +106,7 @@ fn entries_ok(image: &[u8], s: Shape, hi: &[u8], ll: u64, lh: u64, lo: usize, c:
 }
 
 // Replaces the monomial in the first n words by its gcd with another, and returns its length in words.
-fn meet(acc: &mut [u8], n: usize, other: &[u8]) -> usize
+fn make_gcd(acc: &mut [u8], n: usize, other: &[u8]) -> usize
     requires { ⌜ length (now acc) ≡ 260 ⌝ }
     requires { ⌜ n ≤ 65 ⌝ }
     requires { ⌜ Canonical 1 64 (part (words (now acc)) 0 n) ⌝ }
@@ -120,6 +120,22 @@ fn meet(acc: &mut [u8], n: usize, other: &[u8]) -> usize
     let f = 4 * r;
     words::runs::paste(acc, 0, &made[..f]);
     r
+}
+
+// The same, without a write where the monomial divides the other: the gcd of a leaf is found early, and divides all the rest.
+fn meet(acc: &mut [u8], n: usize, other: &[u8]) -> usize
+    requires { ⌜ length (now acc) ≡ 260 ⌝ }
+    requires { ⌜ n ≤ 65 ⌝ }
+    requires { ⌜ Canonical 1 64 (part (words (now acc)) 0 n) ⌝ }
+    requires { ⌜ Canonical 1 64 (words (now other)) ⌝ }
+    ensures { λ r. ⌜ r ≡ length (result Gcd (part (words (now (acc .entry))) 0 n) (words (now (other .entry)))) ⌝ }
+    ensures { λ _. ⌜ now (acc .exit) ≡ pasteW (now (acc .entry)) 0 (result Gcd (part (words (now (acc .entry))) 0 n) (words (now (other .entry)))) ⌝ }
+{
+    let e = 4 * n;
+    if monomial::divides(&acc[..e], other) {
+        return n;
+    }
+    make_gcd(acc, n, other)
 }
 
 // Writes the gcd of the c entries from place lo on, and returns its length in words. Of none it is one.

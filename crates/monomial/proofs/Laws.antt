@@ -22,7 +22,7 @@ use Rattle.monomial.specs.declared.monomial_ordering.CmpOrd.{CmpOrd}
 use Rattle.monomial.specs.declared.monomial_ordering.CmpOrd.the-variants.{Less, Equal, Greater}
 use Rattle.monomial.proofs.Canon.{IsVar, IsEnd, Canon, both-true, front-none, front-cases, front-end, front-var, var-is, front-of-canon, canon-of, canonical-of, raise}
 use Rattle.monomial.proofs.Powers.{InRange, pow-ids, powers-in-range, absent-above, pow-monomial, canonical-monomial, monomial-length, monomial-small, canonical-unique}
-use Rattle.monomial.proofs.Divisions.{divides-by, at-most}
+use Rattle.monomial.proofs.Divisions.{divides-by, at-most, divides-iff}
 use Rattle.monomial.proofs.Sums.{met-zero, met-small, kind-small}
 use Rattle.monomial.proofs.Orders.{Trichotomy, less, equal, greater, trichotomy, compare-equal, revlex-suc}
 use Rattle.monomial.proofs.Lawful.{Lawful, flip, by-lawful, grevlex-lawful}
@@ -58,6 +58,9 @@ pub canonical-front : (k m : ℕ) (ws rest : List ℕ) → 0 < k → Canonical k
 canonical-front k m ws rest pos c = front-of-canon k m 0 ws rest pos (canon-of c) ∙ omega arith
 
 -- ---- the operations, by powers
+gcd-no-product : Gcd ≡ Product → ⊥
+gcd-no-product e = let z : _≡_ {A = ℕ} 0 1 = cc in omega arith
+
 module _ (m : ℕ) (a b : List ℕ) (ca : Canonical 1 m a) (cb : Canonical 1 m b) where
   high : (ws : List ℕ) → Canonical 1 m ws → (v : ℕ) → pow 1 ws v ≤ 32767
   high ws c v = powers-in-range 1 m ws v (omega arith) (omega arith) c .high
@@ -115,6 +118,12 @@ module _ (m : ℕ) (a b : List ℕ) (ca : Canonical 1 m a) (cb : Canonical 1 m b
 
   pub gcd-greatest : (c : List ℕ) → Divides c a → Divides c b → Divides c (result Gcd a b)
   gcd-greatest c da db = divides-by _ _ (λ v. omega (arith, pow-result Gcd v, at-most c a da v, at-most c b db v))
+
+  -- the gcd of a monomial and a multiple of it is the monomial
+  pub gcd-divided : m ≤ 4096 → divides a b ≡ true → result Gcd a b ≡ a
+  gcd-divided l d =
+      canonical-unique 1 m (result Gcd a b) a (omega arith) (canonical-result Gcd l (λ e. absurd (gcd-no-product e))) ca
+      (λ v. omega (arith, pow-result Gcd v, at-most a b (divides-iff a b .0 d) v))
 
 quotient-no-product : Quotient ≡ Product → ⊥
 quotient-no-product e = let z : _≡_ {A = ℕ} 0 1 = cc in omega arith

@@ -1,5 +1,6 @@
--- `Canon`: canonical words, piece by piece. `Powers`: the powers of a word list, and the list of given powers. `Walks`: what a walk knows of the rest.
+-- `Canon`: canonical words, piece by piece. `Ends`: where they end. `Powers`: the powers of a word list, and the list of given powers. `Walks`: what a walk knows of the rest.
 pub mod Canon
+pub mod Ends
 pub mod Powers
 pub mod Walks
 pub mod Sums

@@ -39,6 +39,13 @@ lent k m s = ltb 0 (length s) && eqb (4 * front k m 0 (words s)) (length s)
 unfoldable pub found : ℕ → ℕ → List ℕ → ℕ → List ℕ
 found k m s at = take (4 * front k m 0 (drop at (words s))) (drop (4 * at) s)
 
+-- the same where one is known to stand there, whatever its kind and number of variables: how many words it has, and its bytes
+abbrev pub LengthAt : List ℕ → ℕ → ℕ → Type 0
+LengthAt W at r = (k m : ℕ) → (front k m 0 (drop at W) ≡ 0 → ⊥) → r ≡ front k m 0 (drop at W)
+
+abbrev pub PartAt : List ℕ → ℕ → List ℕ → Type 0
+PartAt s at r = (k m : ℕ) → (front k m 0 (drop at (words s)) ≡ 0 → ⊥) → r ≡ found k m s at
+
 -- what a list of words says of variable v: the bits of its power, or that it is absent
 unfoldable pub find : ℕ → List ℕ → ℕ → Power
 find k [] v = Absent

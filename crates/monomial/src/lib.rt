@@ -9,7 +9,7 @@ ghost use mathlib.Core.Bool.{cond};
 ghost use Prim.Native.Nat.{_+_, _*_, _<_, _≤_};
 ghost use lib.ListN.{length, drop};
 ghost use Rattle.words.specs.Words.{words, pasteW};
-ghost use Rattle.monomial.specs.Monomial.{Canonical, isVar, front, lent, found, find, pow};
+ghost use Rattle.monomial.specs.Monomial.{Canonical, isVar, front, lent, found, LengthAt, PartAt, find, pow};
 ghost use Rattle.monomial.specs.Operations as ops;
 
 // What a monomial says of a variable.
@@ -111,6 +111,35 @@ pub fn ratio_at(s: &[u8], at: usize, variables: u32) -> &[u8]
     ensures { λ r. ⌜ now r ≡ found 2 variables (now (s .entry)) at ⌝ }
 {
     canonical_at(s, at, 2, variables)
+}
+
+// How many words the canonical monomial or ratio at word `at` has, where one is known to stand: its end word alone is looked for.
+fn known_words(s: &[u8], at: usize) -> usize
+    ensures { λ r. ⌜ LengthAt (words (now (s .entry))) at r ⌝ }
+    ensures { λ r. ⌜ ((r ≡ 0 → ⊥) → 4 * (at + r) ≤ length (now (s .entry))) ⌝ }
+{
+    let end = s.len() / 4;
+    let mut i = at;
+    while i < end {
+        if words::get(s, i) / 268435456 == 0 {
+            return i - at + 1;
+        }
+        i += 1;
+    }
+    0
+}
+
+// The part of s that is the canonical monomial or ratio at word `at`, where one is known to stand.
+pub fn known_at(s: &[u8], at: usize) -> &[u8]
+    ensures { λ r. ⌜ PartAt (now (s .entry)) at (now r) ⌝ }
+{
+    let n = known_words(s, at);
+    if n == 0 {
+        return &s[0..0];
+    }
+    let a = 4 * at;
+    let e = a + 4 * n;
+    &s[a..e]
 }
 
 // What m says of variable v. Ids fall, so the walk stops at the first that is not above v.

@@ -18,7 +18,7 @@ entry-at-requires c κs = search needs
 
 -- src/walk.rt:75:9
 monomial-in-requires : tie.Need-monomial-in-requires
-monomial-in-requires c κs = search needs
+monomial-in-requires c κs = rw (c .entry-at .ensures) ((c .before .before .before .pre .0 .lms) (c .before .before .before .args .e) (c .before .before .before .pre .1 .1))
 
 -- src/walk.rt:76:9
 powers-below-requires : tie.Need-powers-below-requires

@@ -63,7 +63,7 @@ entry-at-requires c κs = (c .before .before .before .before .before .pre .0 .ra
 
 -- src/walk.rt:138:9
 monomial-in-requires : tie.Need-monomial-in-requires Inv-loop μ-loop
-monomial-in-requires c κs = c .before .before .before .before .before .before .pre .0 .range .vars-to
+monomial-in-requires c κs = rw (c .entry-at .ensures) ((c .before .before .before .before .before .before .pre .0 .lms) (c .before .get .result) ((entry-at-place (words (c .before .before .before .before .before .before .args .image .now)) (c .before .before .before .before .before .before .args .s) (c .before .before .before .before .before .before .pre .0) (c .before .before .before .before .before .before .args .lo) 0 ((c .before .before .permutation-at .result) + (c .before .before .before .before .before .before .args .lo)) (c .before .get .result) (omega (arith, c .before .before .permutation-at .ensures)) (omega (arith, c .before .before .before .before .before .before .pre .1 .0, c .before .before .before .if1 .left)) (c .before .get .ensures)) .small))
 
 -- src/walk.rt:139:5
 paste-requires : tie.Need-paste-requires Inv-loop μ-loop
@@ -91,7 +91,7 @@ entry-at-requires-2 c κs = (c .before .before .before .before .before .before .
 
 -- src/walk.rt:144:26
 monomial-in-requires-2 : tie.Need-monomial-in-requires-2 Inv-loop μ-loop
-monomial-in-requires-2 c κs = c .before .before .before .before .before .before .before .before .before .before .before .before .before .before .before .before .pre .0 .range .vars-to
+monomial-in-requires-2 c κs = rw (c .entry-at2 .ensures) ((c .before .before .before .before .before .before .before .before .before .before .before .before .before .before .before .before .pre .0 .lms) (c .before .before .get2 .result) ((entry-at-place (words (c .before .before .before .before .before .before .before .before .before .before .before .before .before .before .before .before .args .image .now)) (c .before .before .before .before .before .before .before .before .before .before .before .before .before .before .before .before .args .s) (c .before .before .before .before .before .before .before .before .before .before .before .before .before .before .before .before .pre .0) (c .before .before .before .before .before .before .before .before .before .before .before .before .before .before .before .before .args .lo) (c .before .before .before .before .loop .i) ((c .before .before .before .before .before .before .before .before .before .before .before .before .permutation-at .result) + (c .before .before .before .before .before .before .before .before .before .before .before .before .before .before .before .before .args .lo) + (c .before .before .before .before .loop .i)) (c .before .before .get2 .result) (omega (arith, c .before .before .before .before .before .before .before .before .before .before .before .before .permutation-at .ensures)) (omega (arith, c .before .before .before .before .before .before .before .before .before .before .before .before .before .before .before .before .pre .1 .0, c .before .before .before .loop-test .taken)) (c .before .before .get2 .ensures)) .small))
 
 -- src/walk.rt:144:9
 meet-requires : tie.Need-meet-requires Inv-loop μ-loop

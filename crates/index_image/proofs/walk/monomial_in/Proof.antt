@@ -4,19 +4,15 @@ use Rattle.index_image.proofs.walk.monomial_in.Statement.{statement}
 use Rattle.index_image.proofs.walk.monomial_in.Tie as tie
 use Rattle.index_image.proofs.walk.monomial_in.Reads as reads
 use Rattle.index_image.proofs.walk.monomial_in.Lts as lts
-use Rattle.monomial.proofs.monomial_at.Reads as monomial-at-reads
-
--- src/walk.rt:33:37
-cast-monomial-at : tie.Need-cast-monomial-at
-cast-monomial-at c = search needs
+use Rattle.monomial.proofs.known_at.Reads as known-at-reads
 
 -- src/walk.rt:33:5
-monomial-at-requires : tie.Need-monomial-at-requires
-monomial-at-requires c κs = search needs
+known-at-requires : tie.Need-known-at-requires
+known-at-requires c κs = search needs
 
 -- src/walk.rt:29:1
 returns : tie.Need-returns
-returns c = taken (c .before .before .before .args .image .now) (c .before .before .before .args .s .variables) (c .before .before .before .args .g) (c .monomial-at .result .now) (c .monomial-at .ensures)
+returns c = taken (c .before .before .args .image .now) (c .before .before .args .s .variables) (c .before .before .args .g) (c .known-at .result .now) ((c .known-at .ensures) 1 (c .before .before .args .s .variables) (c .before .before .pre))
 
 pub monomial-in-spec : {M : Type 1} → statement M
-monomial-in-spec = tie.close (tie.spec cast-monomial-at monomial-at-requires returns)
+monomial-in-spec = tie.close (tie.spec known-at-requires returns)
