@@ -9,6 +9,7 @@ use native.Mathlib.Numerals.{add-one}
 use native.Mathlib.Omega.{arith}
 use native.Mathlib.Decide.{decLe}
 use lib.ListN.{length, getD, take, drop, length-append, length-take, length-drop, take-append-drop}
+use lib.Bits.{bitOr, or-add-and, and-le-l, and-le-r}
 use lib.Seq.{take-at, drop-at, take-add, drop-drop, drop-cons, getD-take, getD-drop, drop-append-le, take-append-le, drop-append-add, take-append-add, take-take, length-take-le}
 use Rattle.words.specs.Words.{words, bytes, putW, pasteW}
 use Rattle.words.specs.Tables.{part, zeros, table, over}
@@ -308,8 +309,29 @@ clear-more bs s at i e h =
 pub blank-more : (W : List ℕ) (at i : ℕ) → at + i < length W → part W at i ≡ zeros i → getD W (at + i) 0 ≡ 0 → part W at (i + 1) ≡ zeros (i + 1)
 blank-more W at i h e z = part-snoc W at i h ∙ rw (e, z) (sym (zeros-add i 1 ∙ rw (zeros-suc 0, zeros-nil)))
 
-pub not-blank : (W : List ℕ) (at n i : ℕ) → i < n → (getD W (at + i) 0 ≡ 0 → ⊥) → part W at n ≡ zeros n → ⊥
-not-blank W at n i h z e = z (sym (part-get W at n i h) ∙ ap (λ (l : List ℕ). getD l i 0) e ∙ zeros-get n i)
+-- words joined by or are 0 where all of them are
+or-zero : (a b : ℕ) → (bitOr a b ≡ 0) ↔ ((a ≡ 0) × (b ≡ 0))
+or-zero a b = (
+  λ (e : bitOr a b ≡ 0). (omega (arith, or-add-and a b, and-le-r a b), omega (arith, or-add-and a b, and-le-l a b)),
+  λ h. omega (arith, or-add-and a b, h .0, h .1),
+)
+
+pub bits-none : (W : List ℕ) (at : ℕ) → (_≡_ {A = ℕ} 0 0) ↔ (part W at 0 ≡ zeros 0)
+bits-none W at = (λ (e : _≡_ {A = ℕ} 0 0). part-nil W at ∙ sym zeros-nil, λ e. refl)
+
+pub bits-more : (W : List ℕ) (at i b w : ℕ) → at + i < length W → w ≡ getD W (at + i) 0 → (b ≡ 0) ↔ (part W at i ≡ zeros i) → (bitOr b w ≡ 0) ↔ (part W at (i + 1) ≡ zeros (i + 1))
+bits-more W at i b w h ew e = (
+  λ (z : bitOr b w ≡ 0). let q = or-zero b w .0 z in blank-more W at i h (e .0 (q .0)) (sym ew ∙ q .1),
+  λ p. or-zero b w .1 (
+    e .1 (fewer p),
+    ew ∙ sym (part-get W at (i + 1) i (omega arith)) ∙ ap (λ (l : List ℕ). getD l i 0) p ∙ zeros-get (i + 1) i,
+  ),
+)
+  where
+    fewer : part W at (i + 1) ≡ zeros (i + 1) → part W at i ≡ zeros i
+    fewer p =
+        let a = part-append W at i 1 (zeros i) (zeros 1) (omega arith) (length-zeros i) .0 (p ∙ zeros-add i 1) in
+        a .0
 
 -- moving up by d, from the end down: the words from i on stand d further up
 pub up-none : (bs : List ℕ) (e d : ℕ) → bs ≡ pasteW bs (e + d) (part (words bs) e (e - e))

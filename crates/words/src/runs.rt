@@ -8,19 +8,27 @@ ghost use lib.ListN.{length};
 ghost use Rattle.words.specs.Words.{words, pasteW};
 ghost use Rattle.words.specs.Tables.{part, zeros};
 
+// The n words from word `at` on joined by or: 0 where each of them is. It reads on behind a word that is not 0, so that the
+// compiler can read many words at once.
+fn bits_of(s: &[u8], at: usize, n: usize) -> u32
+    requires { ⌜ 4 * (at + n) ≤ length (now s) ⌝ }
+    ensures { λ r. ⌜ (r ≡ 0) ↔ (part (words (now (s .entry))) at n ≡ zeros n) ⌝ }
+{
+    let mut bits: u32 = 0;
+    let mut i: usize = 0;
+    while i < n {
+        bits = bits | crate::get(s, at + i);
+        i += 1;
+    }
+    bits
+}
+
 // Whether the n words from word `at` on are 0.
 pub fn is_blank(s: &[u8], at: usize, n: usize) -> bool
     requires { ⌜ 4 * (at + n) ≤ length (now s) ⌝ }
     ensures { λ r. ⌜ (r ≡ true) ↔ (part (words (now (s .entry))) at n ≡ zeros n) ⌝ }
 {
-    let mut i: usize = 0;
-    while i < n {
-        if crate::get(s, at + i) != 0 {
-            return false;
-        }
-        i += 1;
-    }
-    true
+    bits_of(s, at, n) == 0
 }
 
 // Writes n zeros from word `at` on.
