@@ -107,6 +107,14 @@ module _ (W : List ℕ) (s : Shape) (R : Ready W s) where
     head : (t : Tree) → Found W s H ll lh k lo avail t → Head W s R k t
     head t f = tree-head W s R k lo t (f .is) (f .inside) (omega (arith, f .few))
 
+    -- one row is left, and it is not a leaf's
+    pub not-one : k < s .nodes → s .nodes ≤ k + 1 → (tag : ℕ) → tag ≡ getD W a 0 → (tag ≡ 0 → ⊥) → Walked W s H ll lh k lo avail 0
+    not-one hk last tag et n = none go
+      where
+        go : (t : Tree) → Found W s H ll lh k lo avail t → ⊥
+        go (leaf es) f = n (et ∙ leaf-row W s R k lo es (f .is) hk .tag-is)
+        go (branch d key l r) f = omega (arith, nodes-branch d key l r, some-node l, some-node r, f .inside)
+
     module _ (c : ℕ) (ec : c ≡ getD W (a + 2) 0) where
       pub too-many : avail < c → Walked W s H ll lh k lo avail 0
       too-many h = none (λ t f. omega (arith, head t f .count, f .few))

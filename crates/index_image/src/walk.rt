@@ -449,3 +449,25 @@ pub fn walk(
     }
     0
 }
+
+// The same from the root where there is one row: a leaf, whose entries are held against no key.
+// So `leaf_ok`, which has large local arrays, has two callers and is compiled by itself: they stay out of the frames of `walk`.
+pub fn one_row(image: &[u8], s: Shape, hi: &[u8]) -> usize
+    requires { ⌜ Ready (words (now image)) s ⌝ }
+    requires { ⌜ row.Uppers (s .variables) (now hi) ⌝ }
+    requires { ⌜ s .nodes ≡ 1 ⌝ }
+    ensures { λ r. ⌜ Walked (words (now (image .entry))) s (words (now (hi .entry))) 0 4294967296 0 0 (s .entries) r ⌝ }
+{
+    let at = s.node_at(0);
+    if words::get(image, at) != 0 {
+        return 0;
+    }
+    let c = words::get(image, at + 2) as usize;
+    if s.entries < c {
+        return 0;
+    }
+    if leaf_ok(image, s, hi, 0, 4294967296, at, 0, c) {
+        return 1;
+    }
+    0
+}

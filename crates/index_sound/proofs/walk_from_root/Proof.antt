@@ -5,6 +5,7 @@ use Rattle.index_sound.proofs.walk_from_root.Statement.{statement}
 use Rattle.index_sound.proofs.walk_from_root.Tie as tie
 use Rattle.index_sound.proofs.walk_from_root.Reads as reads
 use Rattle.index_sound.proofs.walk_from_root.Lts as lts
+use Rattle.index_image.proofs.walk.one_row.Reads as one-row-reads
 use Rattle.index_image.proofs.walk.walk.Reads as walk-reads
 use Rattle.index_sound.proofs.unbounded.Reads as unbounded-reads
 
@@ -12,17 +13,38 @@ use Rattle.index_sound.proofs.unbounded.Reads as unbounded-reads
 unbounded-requires : tie.Need-unbounded-requires
 unbounded-requires c κs = search needs
 
--- src/lib.rt:111:5
-walk-requires : tie.Need-walk-requires
-walk-requires c κs = (c .before .before .before .before .before .before .before .pre .0, (uppers-of (c .before .before .before .before .before .before .before .args .s .variables) (c .before .before .before .before .before .before .before .args .hi .now) _ (c .before .before .before .before .before .before .before .pre .1) (c .before .before .before .unbounded .ensures .0) (c .before .before .before .unbounded .ensures .1), (omega arith, omega arith)))
+-- src/lib.rt:112:9
+one-row-requires : tie.Need-one-row-requires
+one-row-requires c κs = (c .before .before .before .before .before .before .before .before .before .pre .0, (uppers-of (c .before .before .before .before .before .before .before .before .before .args .s .variables) (c .before .before .before .before .before .before .before .before .before .args .hi .now) _ (c .before .before .before .before .before .before .before .before .before .pre .1) (c .before .before .before .before .before .unbounded .ensures .0) (c .before .before .before .before .before .unbounded .ensures .1), c .before .if1 .taken))
 
--- src/lib.rt:105:1
+-- src/lib.rt:112:9
 same-length : tie.Need-same-length
 same-length c = search needs
 
--- src/lib.rt:105:1
+-- src/lib.rt:112:9
 returns : tie.Need-returns
-returns c = rooted (c .before .before .before .before .before .before .before .before .before .before .args .image .now) (c .before .before .before .before .before .before .before .before .before .before .args .s) (λ j. (c .before .before .before .before .before .before .before .before .before .shared-slice-known .given) j .fits) _ (λ v h. (c .before .before .before .before .before .before .unbounded .ensures .1) v (omega (arith, c .before .before .before .before .before .before .before .before .before .before .pre .1))) _ (c .before .before .walk .ensures .0)
+returns c = rooted (c .before .before .before .before .before .before .before .before .before .before .args .image .now) (c .before .before .before .before .before .before .before .before .before .before .args .s) (λ j. (c .before .before .before .before .before .before .before .before .before .shared-slice-known .given) j .fits) _ (λ v h. (c .before .before .before .before .before .before .unbounded .ensures .1) v (omega (arith, c .before .before .before .before .before .before .before .before .before .before .pre .1))) _ (c .one-row .ensures)
+
+-- src/lib.rt:114:5
+walk-requires : tie.Need-walk-requires
+walk-requires c κs = (c .before .before .before .before .before .before .before .before .before .pre .0, (uppers-of (c .before .before .before .before .before .before .before .before .before .args .s .variables) (c .before .before .before .before .before .before .before .before .before .args .hi .now) _ (c .before .before .before .before .before .before .before .before .before .pre .1) (c .before .before .before .before .before .unbounded .ensures .0) (c .before .before .before .before .before .unbounded .ensures .1), (omega arith, omega arith)))
+
+-- src/lib.rt:105:1
+same-length-2 : tie.Need-same-length-2
+same-length-2 c = search needs
+
+-- src/lib.rt:105:1
+returns-2 : tie.Need-returns-2
+returns-2 c = rooted (c .before .before .before .before .before .before .before .before .before .before .before .before .args .image .now) (c .before .before .before .before .before .before .before .before .before .before .before .before .args .s) (λ j. (c .before .before .before .before .before .before .before .before .before .before .before .shared-slice-known .given) j .fits) _ (λ v h. (c .before .before .before .before .before .before .before .before .unbounded .ensures .1) v (omega (arith, c .before .before .before .before .before .before .before .before .before .before .before .before .pre .1))) _ (c .before .before .walk .ensures .0)
 
 pub walk-from-root-spec : {M : Type 1} → statement M
-walk-from-root-spec = tie.close (tie.spec unbounded-requires walk-requires same-length returns)
+walk-from-root-spec =
+    tie.close
+    (tie.spec
+    unbounded-requires
+    one-row-requires
+    same-length
+    returns
+    walk-requires
+    same-length-2
+    returns-2)
