@@ -3,7 +3,7 @@ use mathlib.Core.Path.{_≡_, _∙_}
 use mathlib.Core.List.{List}
 use Prim.Native.Nat.{ℕ, _+_, _-_, _*_, _≤_, _<_}
 use native.Mathlib.Omega.{arith}
-use native.Mathlib.Nat.{mul-le-mul, one-mul}
+use native.Mathlib.Nat.{mul-le-mul, one-mul, add-mul}
 use lib.ListN.{length, getD}
 use Rattle.words.specs.Words.{words}
 use Rattle.words.proofs.Laws.{length-words}
@@ -38,6 +38,10 @@ module _ (W : List ℕ) (s : Shape) (R : Ready W s) where
 
   pub node-fits : (k : ℕ) → k < s .nodes → at.nodeAt s k + (s .variables + 6) ≤ length W
   node-fits k h = omega (arith, R .room, row-fits k (2 * s .capacity - 1) (s .variables + 6) (omega (arith, r .nodes-to)))
+
+-- the row behind row k
+pub row-behind : (s : Shape) (k : ℕ) → at.nodeAt s k + (s .variables + 6) ≡ at.nodeAt s (k + 1)
+row-behind s k = omega (arith, add-mul k 1 (s .variables + 6))
 
 -- the entry at place lo + i of the permutation
 pub record EntryAt (W : List ℕ) (s : Shape) (lo i x : ℕ) : Type 0 where

@@ -364,6 +364,15 @@ fn count_at(image: &[u8], s: Shape, k: usize) -> usize
     words::get(image, s.node_at(k) + 2) as usize
 }
 
+// The number of entries that the row behind row k has, which is at word `at`.
+fn count_behind(image: &[u8], s: Shape, k: usize, at: usize) -> usize
+    requires { ⌜ Ready (words (now image)) s ⌝ }
+    requires { ⌜ (k + 1 < s .nodes) × (at ≡ shape.nodeAt s k) ⌝ }
+    ensures { λ r. ⌜ r ≡ getD (words (now (image .entry))) (shape.nodeAt s (k + 1) + 2) 0 ⌝ }
+{
+    words::get(image, at + (s.variables + 8)) as usize
+}
+
 // Whether row k is that of a branch over the rows k + 1 and k + 1 + t.
 fn over_ok(image: &[u8], s: Shape, k: usize, t: usize) -> bool
     requires { ⌜ Ready (words (now image)) s ⌝ }
@@ -436,11 +445,13 @@ pub fn walk(
     if t == 0 {
         return 0;
     }
-    let ca = count_at(image, s, k + 1);
+    let ca = count_behind(image, s, k, at);
     if ca == 0 {
         return 0;
     }
-    let w = walk(image, s, hi, b.other, lh, k + 1 + t, lo + ca, c - ca);
+    // read again, so that it need not be kept while the less side is walked
+    let all = count_at(image, s, k);
+    let w = walk(image, s, hi, b.other, lh, k + 1 + t, lo + ca, all - ca);
     if w == 0 {
         return 0;
     }
