@@ -5,14 +5,17 @@
 //! shows the median. The port is called through C on bytes, with a buffer that
 //! is lent again and again, and pays for the checks of its questions. The
 //! original is called on its own values; where it takes them by value, copies
-//! are made before the clock starts.
+//! are made before the clock starts. The check of an index image stands beside a
+//! sum of the image's words, and the deepest trees beside balanced ones.
 
+mod images;
 mod inputs;
 mod labels;
 mod operations;
 
 use std::{env, time::Duration};
 
+use harness::{images::chains::Form, model::Kind};
 use inputs::{draw, Inputs, PAIRS};
 use labels::{Asked, ASKED};
 use operations::{questions, OPERATIONS};
@@ -59,6 +62,53 @@ fn main() {
         let port = median((0..rounds).map(|_| sample.questions()).collect(), ASKED);
         println!("| get_comparer, questions alone | {variables} | | {port:.1} | |");
     }
+    print_images(rounds);
+    print_trees(rounds);
+}
+
+const KINDS: [Kind; 2] = [Kind::Monomial, Kind::Ratio];
+
+/// Images of capacity 4,096.
+fn print_images(rounds: usize) {
+    println!();
+    println!("| image | variables | entries | words | sum, ns | check, ns | a word | an entry |");
+    println!("|---|---|---|---|---|---|---|---|");
+    for (variables, entries) in [(8, 4000), (20, 4000), (8, 2000), (8, 0)] {
+        for kind in KINDS {
+            let image = images::draw(kind, variables, entries);
+            let words = image.len() / 4;
+            let (sum, check) = measure(|| images::sum(&image), || images::judge(&image), 1, rounds);
+            let a_word = check / words as f64;
+            let an_entry = match entries {
+                0 => String::new(),
+                _ => format!("{:.1}", check / entries as f64),
+            };
+            println!(
+                "| {kind:?} | {variables} | {entries} | {words} | {sum:.0} | {check:.0} | {a_word:.2} | {an_entry} |"
+            );
+        }
+    }
+}
+
+/// Full images of capacity 4,096 with one entry a leaf.
+fn print_trees(rounds: usize) {
+    println!();
+    println!("| tree | index | variables | check, ns | balanced, ns | tree / balanced |");
+    println!("|---|---|---|---|---|---|");
+    for kind in KINDS {
+        for variables in [1, 8] {
+            let balanced = images::draw_tree(kind, variables, Form::Balanced);
+            for form in [Form::LessLeaves, Form::OtherLeaves] {
+                let tree = images::draw_tree(kind, variables, form);
+                let judge = || images::judge(&tree);
+                let (tree, balanced) = measure(judge, || images::judge(&balanced), 1, rounds);
+                let ratio = tree / balanced;
+                println!(
+                    "| {form:?} | {kind:?} | {variables} | {tree:.0} | {balanced:.0} | {ratio:.2} |"
+                );
+            }
+        }
+    }
 }
 
 fn print_row(name: &str, variables: u32, (original, port): (f64, f64)) {
@@ -66,16 +116,16 @@ fn print_row(name: &str, variables: u32, (original, port): (f64, f64)) {
     println!("| {name} | {variables} | {original:.1} | {port:.1} | {ratio:.2} |");
 }
 
-/// Nanoseconds a call, of the original and of the port.
+/// Nanoseconds a call of two that take turns, as the original and the port.
 fn measure(
-    original: impl Fn() -> Duration,
-    port: impl Fn() -> Duration,
+    one: impl Fn() -> Duration,
+    other: impl Fn() -> Duration,
     calls: usize,
     rounds: usize,
 ) -> (f64, f64) {
-    let times: Vec<_> = (0..rounds).map(|_| (original(), port())).collect();
-    let (originals, ports) = times.into_iter().unzip();
-    (median(originals, calls), median(ports, calls))
+    let times: Vec<_> = (0..rounds).map(|_| (one(), other())).collect();
+    let (ones, others) = times.into_iter().unzip();
+    (median(ones, calls), median(others, calls))
 }
 
 fn median(mut times: Vec<Duration>, calls: usize) -> f64 {

@@ -58,6 +58,10 @@ uint32_t fast_compare_open(uint32_t variables, uint32_t capacity, uint8_t *image
 uint64_t fast_compare_get_comparer(uint8_t *image, size_t image_len, uint32_t index, const uint8_t *ratio, size_t ratio_len);
 uint32_t fast_compare_rebuild(uint8_t *image, size_t image_len);
 
+/* libindex_sound.a: whether the bytes begin with the image of a valid index, 0
+ * or 3. Nothing is changed. */
+uint32_t index_image_check(const uint8_t *image, size_t image_len);
+
 /* To come: the indexes' divisor_index_*. */
 
 #ifdef __cplusplus

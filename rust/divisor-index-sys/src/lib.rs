@@ -135,4 +135,11 @@ extern "C" {
     pub fn fast_compare_rebuild(image: *mut u8, image_len: usize) -> u32;
 }
 
+// crates/index_sound. Refusal: 3 image.
+extern "C" {
+    /// Whether the bytes begin with the image of a valid index. It changes
+    /// nothing.
+    pub fn index_image_check(image: *const u8, image_len: usize) -> u32;
+}
+
 // To come, with a line in exports.txt: the indexes' divisor_index_*.

@@ -126,3 +126,9 @@ pub fn fast_compare_rebuild(image: &mut [u8]) -> u32 {
     // SAFETY: as in `on_two`, with `image` exclusive.
     unsafe { sys::fast_compare_rebuild(image.as_mut_ptr(), image.len()) }
 }
+
+/// Whether the bytes begin with the image of a valid index: 0 or 3.
+pub fn index_image_check(image: &[u8]) -> u32 {
+    // SAFETY: as in `on_two`, and nothing is written.
+    unsafe { sys::index_image_check(image.as_ptr(), image.len()) }
+}

@@ -1,10 +1,10 @@
 //! The proved divisor index for Rust, with the names of polynomial-solver.
 //!
 //! Monomials, ratios and maxima are slices of document 01's words (see
-//! docs/LAYOUT.md). The functions of [`monomial`], [`ratio`], [`divmask`] and
-//! [`fast_compare`] return a value or a [`Refusal`]; those of [`doors`] are the
-//! C functions themselves on byte slices. Nothing is decided on this side: every
-//! question is asked by the proved code.
+//! docs/LAYOUT.md). The functions of [`monomial`], [`ratio`], [`divmask`],
+//! [`fast_compare`] and [`image`] return a value or a [`Refusal`]; those of
+//! [`doors`] are the C functions themselves on byte slices. Nothing is decided
+//! on this side: every question is asked by the proved code.
 //!
 //! The indexes follow as a module of their own, once they are exported.
 
@@ -12,6 +12,7 @@ mod answer;
 pub mod divmask;
 pub mod doors;
 pub mod fast_compare;
+pub mod image;
 pub mod monomial;
 pub mod ratio;
 mod refusal;

@@ -5,11 +5,13 @@
 //! same down to the ties; and the definitions of [`meaning`], which know no
 //! tree. [`jobs`] makes the lists, [`compare`] holds the opinions against each
 //! other, and [`leaves`] does the same for the operations below the index.
-//! [`doors`] lends the same work to the port, as bytes through C.
+//! [`doors`] lends the same work to the port, as bytes through C, and
+//! [`images`] lends it images of indexes.
 
 pub mod compare;
 pub mod doors;
 pub mod grevlex;
+pub mod images;
 pub mod jobs;
 pub mod leaves;
 pub mod meaning;

@@ -2,7 +2,8 @@
 
 use super::{
     bytes,
-    labels::{Change, Run, Step, Value},
+    change::Change,
+    labels::{Run, Step, Value},
 };
 use crate::{
     model::{label_map::size, powers::Powers},
@@ -45,7 +46,7 @@ pub fn random_run(rng: &mut Rng) -> Run {
         let value = form.value(variables, place);
         match rng.below(20) {
             0 => steps.push(Step::Ask(damage_value(value.clone(), rng))),
-            1 => steps.push(Step::Damaged(draw_change(rng), value.clone())),
+            1 => steps.push(Step::Damaged(Change::draw(rng), value.clone())),
             2 if !steps.is_empty() => steps.push(rng.choose(&steps).clone()),
             3 if rng.chance(30) => steps.push(Step::Rebuild),
             _ => (),
@@ -120,59 +121,6 @@ fn damage_value(mut value: Value, rng: &mut Rng) -> Value {
     value
 }
 
-fn draw_change(rng: &mut Rng) -> Change {
-    let far = 1 << 20;
-    // The header and the first rows as often as all the rest.
-    let mut at = || match rng.chance(50) {
-        true => rng.below(20),
-        false => rng.below(far),
-    };
-    let (at, other) = (at(), at());
-    match rng.below(7) {
-        0 => Change::Nothing,
-        1 => Change::Set {
-            at,
-            word: *rng.choose(&SET),
-        },
-        2 => Change::Add {
-            at,
-            number: *rng.choose(&ADD),
-        },
-        3 => Change::Copy {
-            from: at,
-            to: other,
-        },
-        4 => Change::Swap(at, other),
-        5 => Change::Cut(rng.below(9)),
-        _ => Change::Flip {
-            at,
-            bit: rng.below(32) as u32,
-        },
-    }
-}
-
-/// Words that mean something somewhere in an image.
-const SET: [u32; 16] = [
-    0,
-    1,
-    2,
-    3,
-    4,
-    5,
-    64,
-    65,
-    4096,
-    4097,
-    0x7FFF_FFFF,
-    0x8000_0000,
-    0xFFFF_FFFF,
-    0x2000_8000,
-    0x2000_8001,
-    0x3000_0000,
-];
-
-const ADD: [u32; 4] = [1, u32::MAX, 0x1_0000, 0x1000_0000];
-
 /// Variables, capacity and buffer length, at and past their limits.
 pub fn openings() -> impl Iterator<Item = (u32, u32, usize)> {
     let variables = [0, 1, 2, 63, 64, 65, u32::MAX];
@@ -215,23 +163,4 @@ pub fn small_runs() -> impl Iterator<Item = (Run, [Value; 3])> {
             (run, [value(0), value(-1), bad])
         })
     })
-}
-
-/// Every word of so many changed in turn: each bit, words that mean something,
-/// and each other word; and every shorter length.
-pub fn changes(words: usize) -> impl Iterator<Item = Change> {
-    let cuts = (1..=4 * words).map(Change::Cut);
-    let of_word = move |at| {
-        let flips = (0..32).map(move |bit| Change::Flip { at, bit });
-        let sets = SET.into_iter().map(move |word| Change::Set { at, word });
-        let adds = ADD.into_iter();
-        let adds = adds.map(move |number| Change::Add { at, number });
-        let copies = (0..words).map(move |from| Change::Copy { from, to: at });
-        let swaps = (0..at).map(move |other| Change::Swap(at, other));
-        flips.chain(sets).chain(adds).chain(copies).chain(swaps)
-    };
-    [Change::Nothing]
-        .into_iter()
-        .chain(cuts)
-        .chain((0..words).flat_map(of_word))
 }

@@ -12,7 +12,8 @@ use divisor_index::doors;
 
 use super::{
     bytes,
-    label_samples::{changes, openings, small_runs},
+    change::{changes, Change},
+    label_samples::{openings, small_runs},
     memory::Memory,
 };
 use crate::{
@@ -44,31 +45,6 @@ pub enum Step {
 pub struct Value {
     pub index: u32,
     pub ratio: Vec<u8>,
-}
-
-/// A change of an image. Places are words, taken round.
-#[derive(Debug, Clone, Copy)]
-pub enum Change {
-    Nothing,
-    Flip {
-        at: usize,
-        bit: u32,
-    },
-    Set {
-        at: usize,
-        word: u32,
-    },
-    Add {
-        at: usize,
-        number: u32,
-    },
-    Copy {
-        from: usize,
-        to: usize,
-    },
-    Swap(usize, usize),
-    /// So many bytes are not lent.
-    Cut(usize),
 }
 
 /// One call of a door.
@@ -286,45 +262,6 @@ pub fn compare_damaged(
         *tally.damaged.entry(refused).or_default() += 1;
     }
     Ok(())
-}
-
-impl Change {
-    /// The image with this change; its length is that of the map, without the
-    /// spare bytes.
-    fn applied(self, image: &[u8], length: usize) -> Vec<u8> {
-        let mut image = image.to_vec();
-        let place = |at: usize| 4 * (at % (length / 4));
-        let get = |image: &[u8], at| {
-            let word = image[place(at)..].first_chunk().expect("a word");
-            u32::from_le_bytes(*word)
-        };
-        let set = |image: &mut Vec<u8>, at, word: u32| {
-            image[place(at)..][..4].copy_from_slice(&word.to_le_bytes());
-        };
-        match self {
-            Change::Nothing => (),
-            Change::Flip { at, bit } => {
-                let word = get(&image, at) ^ 1 << bit;
-                set(&mut image, at, word);
-            }
-            Change::Set { at, word } => set(&mut image, at, word),
-            Change::Add { at, number } => {
-                let word = get(&image, at).wrapping_add(number);
-                set(&mut image, at, word);
-            }
-            Change::Copy { from, to } => {
-                let word = get(&image, from);
-                set(&mut image, to, word);
-            }
-            Change::Swap(a, b) => {
-                let (of_a, of_b) = (get(&image, a), get(&image, b));
-                set(&mut image, a, of_b);
-                set(&mut image, b, of_a);
-            }
-            Change::Cut(bytes) => image.truncate(length.saturating_sub(bytes)),
-        }
-        image
-    }
 }
 
 /// The image after a call of the port, which must return each of these numbers

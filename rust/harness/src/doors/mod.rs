@@ -6,9 +6,10 @@
 //! and model say of the same words. [`labels`] does so with runs of the label
 //! map.
 
+pub mod change;
 pub mod label_samples;
 pub mod labels;
-mod memory;
+pub mod memory;
 pub mod samples;
 
 use std::fmt;

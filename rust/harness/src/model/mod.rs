@@ -1,13 +1,19 @@
 //! Document 01's index, written plainly: dense monomials, no stored masks or
 //! labels, everything compared by value.
 
+#[macro_use]
+mod named;
+
 pub mod calls;
 pub mod divmask;
+pub mod image;
 pub mod label_map;
 pub mod labels;
 pub mod mutation;
 pub mod powers;
 pub mod query;
+pub mod soundness;
+pub mod state;
 pub mod store;
 pub mod tree;
 
@@ -68,6 +74,8 @@ pub struct Index {
     store: Store,
     capacity: usize,
     maxima: Vec<i32>,
+    /// What the map of masks was made from.
+    map_maxima: Vec<i32>,
     tree: Node,
     rebuilds: usize,
 }
@@ -88,6 +96,7 @@ impl Index {
             store,
             capacity: opening.capacity,
             maxima: opening.maxima.clone(),
+            map_maxima: opening.maxima.clone(),
             rebuilds: 0,
         }
     }
@@ -200,6 +209,11 @@ impl Index {
         let mut found = Found::default();
         self.tree.search(&self.store, 0, &query, &mut found);
         (query.payload(&found), found.panic)
+    }
+
+    /// Splits every leaf, as a search does that leaves out nothing.
+    pub fn split(&mut self) {
+        self.tree.split(&self.store, 0);
     }
 
     /// The payload that a search would have if it looked at every entry in the

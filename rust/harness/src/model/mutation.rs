@@ -1,29 +1,11 @@
 //! Wrong rules that can be put into the model, one at a time, to see whether
 //! the jobs notice.
 
-macro_rules! mutations {
-    ($($name:ident: $text:literal,)*) => {
-        /// A wrong rule. Each is consulted at the one place where the model
-        /// follows the right one.
-        #[derive(Debug, Clone, Copy, PartialEq, Eq)]
-        pub enum Mutation {
-            $(#[doc = $text] $name,)*
-        }
+named! {
+    /// A wrong rule. Each is consulted at the one place where the model follows
+    /// the right one.
+    Mutation
 
-        impl Mutation {
-            pub const ALL: &'static [Mutation] = &[$(Self::$name,)*];
-
-            /// The wrong rule in words.
-            pub fn describe(self) -> &'static str {
-                match self {
-                    $(Self::$name => $text,)*
-                }
-            }
-        }
-    };
-}
-
-mutations! {
     // Document 01's three wrong turns.
     LabelCopiedIntoKey: "a ratio key keeps the label that its entry had at the split",
     LessSidePrunedBelowKey: "the less side is pruned when a variable's power is below the key",

@@ -5,7 +5,7 @@ use std::cmp::Ordering;
 use super::mutation::{Mutation, Rules};
 
 /// The power of each variable, by id. A ratio's powers may be negative.
-#[derive(Debug, Clone, PartialEq, Eq)]
+#[derive(Debug, Clone, PartialEq, Eq, Hash)]
 pub struct Powers(pub Vec<i32>);
 
 impl Powers {
@@ -87,7 +87,7 @@ impl Powers {
 }
 
 /// A signature index with signature monomial / lm.
-#[derive(Debug, Clone, PartialEq, Eq)]
+#[derive(Debug, Clone, PartialEq, Eq, Hash)]
 pub struct Ratio {
     pub index: u32,
     pub monomial: Powers,

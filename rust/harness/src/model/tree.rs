@@ -4,6 +4,7 @@ use super::{
     mutation::{Mutation, Rules},
     powers::Powers,
     query::{Found, Key, Panic, Path, Query},
+    state::Tree,
     store::Store,
 };
 
@@ -90,6 +91,22 @@ impl Node {
         }
     }
 
+    /// Splits every leaf, as a search does that leaves out nothing.
+    pub fn split(&mut self, store: &Store, next_dim: usize) {
+        if let Below::Leaf(entries) = &self.below {
+            if entries.len() > max_leaf_size(store.rules) {
+                if let Some(branch) = bifurcate(store, entries, next_dim) {
+                    self.below = Below::Branch(Box::new(branch));
+                }
+            }
+        }
+        if let Below::Branch(branch) = &mut self.below {
+            let next_dim = store.dimension(&branch.key) + 1;
+            branch.less.split(store, next_dim);
+            branch.other.split(store, next_dim);
+        }
+    }
+
     /// Writes the entries in the order of the tree.
     pub fn list(&self, into: &mut Vec<usize>) {
         match &self.below {
@@ -98,6 +115,22 @@ impl Node {
                 branch.less.list(into);
                 branch.other.list(into);
             }
+        }
+    }
+
+    /// The tree as an image holds it.
+    pub fn shape(&self, store: &Store) -> Tree {
+        match &self.below {
+            Below::Leaf(entries) => Tree::Leaf(entries.clone()),
+            Below::Branch(branch) => Tree::branch(
+                store.dimension(&branch.key),
+                match branch.key {
+                    Key::Power { power, .. } => power as u32,
+                    Key::Ratio { number, .. } => number as u32,
+                },
+                branch.less.shape(store),
+                branch.other.shape(store),
+            ),
         }
     }
 

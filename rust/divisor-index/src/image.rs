@@ -1,0 +1,9 @@
+//! Images of indexes.
+
+use crate::{doors, Refusal};
+
+/// Whether the bytes begin with the image of a valid index, else
+/// [`Refusal::Unsound`]. Bytes past its length are not judged.
+pub fn check(image: &[u8]) -> Result<(), Refusal> {
+    Refusal::check(doors::index_image_check(image))
+}

@@ -1,0 +1,76 @@
+//! How much stack the port needs for the deepest trees.
+
+use std::{
+    io,
+    path::Path,
+    process::{Command, Stdio},
+    thread,
+};
+
+use divisor_index::doors;
+
+use super::{
+    chains::{full, Form},
+    samples::bytes,
+};
+use crate::{
+    model::{image::encode, Kind},
+    words::MAX_CAPACITY,
+};
+
+/// Stacks are tried in steps of a page.
+const PAGE: usize = 4096;
+
+/// No thread of Linux has less.
+const LEAST: usize = 4 * PAGE;
+
+/// More than the port may need.
+const MOST: usize = 8 << 20;
+
+/// The image of a full index of one variable.
+fn deepest(kind: Kind, form: Form) -> Vec<u8> {
+    bytes(&encode(&full(kind, 1, MAX_CAPACITY, form)))
+}
+
+/// What the port returns for an image in a thread with so many bytes of stack.
+/// If they are too few, the process ends.
+fn check_in_thread(image: Vec<u8>, stack: usize) -> u32 {
+    let thread = thread::Builder::new().stack_size(stack);
+    let thread = thread.spawn(move || doors::index_image_check(&image));
+    thread.expect("a thread").join().expect("a number")
+}
+
+/// The least stack that suffices for a form, found by halving.
+pub fn least(images: &Path, kind: Kind, form: Form) -> io::Result<usize> {
+    let (mut low, mut high) = (LEAST - PAGE, MOST);
+    while high - low > PAGE {
+        let middle = low.midpoint(high) / PAGE * PAGE;
+        match suffices(images, kind, form, middle)? {
+            true => high = middle,
+            false => low = middle,
+        }
+    }
+    Ok(high)
+}
+
+/// Whether a stack suffices, tried in a process of its own: the program `images`
+/// with `stack`, the names of kind and form, and the bytes.
+pub fn suffices(images: &Path, kind: Kind, form: Form, stack: usize) -> io::Result<bool> {
+    let mut program = Command::new(images);
+    program.args(["stack", &format!("{kind:?}"), &format!("{form:?}")]);
+    program.arg(stack.to_string());
+    program.stdout(Stdio::null()).stderr(Stdio::null());
+    Ok(program.status()?.success())
+}
+
+/// One such try, from the words after `stack`.
+pub fn try_out(words: &[String]) -> Option<bool> {
+    let [kind_name, form_name, stack] = words else {
+        return None;
+    };
+    let mut kinds = [Kind::Monomial, Kind::Ratio].into_iter();
+    let kind = kinds.find(|kind| format!("{kind:?}") == *kind_name)?;
+    let mut forms = Form::ALL.into_iter();
+    let form = forms.find(|form| format!("{form:?}") == *form_name)?;
+    Some(check_in_thread(deepest(kind, form), stack.parse().ok()?) == 0)
+}
