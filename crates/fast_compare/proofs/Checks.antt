@@ -12,20 +12,6 @@ use lib.ListN.{getD}
 use Rattle.words.proofs.Tables.{never, row-fits}
 use Rattle.fast_compare.specs.Layout.{rowAt, RowOk, Rises}
 
--- an answer of false, where what is asked does not hold
-pub refuse : {M : Type 0} → (M → ⊥) → (false ≡ true) ↔ M
-refuse h = (λ (z : false ≡ true). never z, λ m. absurd (h m))
-
-pub accept : {M : Type 0} → M → (true ≡ true) ↔ M
-accept m = (λ (z : true ≡ true). m, λ h. refl)
-
--- a callee that answered no, and one that answered yes
-pub failed : {C : Type 0} (t : Bool) → (t ≡ true) ↔ C → not t ≡ true → C → ⊥
-failed t e n c = never (sym (not-true t n) ∙ e .1 c)
-
-pub passed : {C : Type 0} (t : Bool) → (t ≡ true) ↔ C → not t ≡ false → C
-passed t e n = e .0 (not-false t n)
-
 -- the rows of a map take few words
 pub rows-small : (m c : ℕ) → m ≤ 64 → c ≤ 4096 → c * (m + 3) ≤ 274432
 rows-small m c h k = mul-le-mul {n₁ = c} {m₁ = m + 3} {n₂ = 4096} {m₂ = 67} k (omega arith)

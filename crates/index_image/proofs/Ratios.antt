@@ -8,6 +8,7 @@ use native.Mathlib.Omega.{arith}
 use lib.ListN.{length, getD, take, drop}
 use lib.Seq.{getD-drop, drop-drop}
 use native.Mathlib.Nat.{add-assoc}
+use Rattle.words.proofs.Answers.{refuse}
 use Rattle.words.specs.Kinds.{kind, payload}
 use Rattle.words.specs.Words.{words}
 use Rattle.words.specs.Tables.{part}
@@ -23,7 +24,7 @@ use Rattle.index_image.specs.Shape as at
 use Rattle.index_image.specs.Walk.{lmIn, rowIn}
 use Rattle.index_image.specs.Door.{slotLength, slotIn, indexIn, signIn, labelsIn, rowValue, RatioReady}
 use Rattle.index_image.specs.declared.Shape.{Shape}
-use Rattle.index_image.proofs.Slots.{part-words, slot-canonical, refuse}
+use Rattle.index_image.proofs.Slots.{part-words, slot-canonical}
 
 -- the words of what the finder hands back
 found-words : (k m : ℕ) (bs : List ℕ) (i : ℕ) → words (found k m bs i) ≡ part (words bs) i (front k m 0 (drop i (words bs)))

@@ -9,6 +9,7 @@ use lib.Dec.{leb, ltb}
 use lib.ListN.{length, getD, take, drop, length-take, length-drop}
 use lib.Seq.{take-at}
 use borrow.Author.Tests.{le-leb, leb-true, lt-ltb, ltb-true}
+use Rattle.words.proofs.Answers.{refuse, accept, failed, passed}
 use Rattle.words.specs.Words.{words, bytes, putW, pasteW}
 use Rattle.words.specs.Tables.{part, zeros}
 use Rattle.words.proofs.Laws.{Bytes, Words, length-words, length-bytes, words-take, words-part, words-bytes, pasteW-front, putW-paste}
@@ -21,7 +22,6 @@ use Rattle.monomial.proofs.Powers.{canonical-length}
 use Rattle.monomial.proofs.Divisions.{equal-iff}
 use Rattle.monomial.proofs.Laws.{canonical-more, canonical-result, result-small, length-result, gcd-divided}
 use Rattle.divmask.specs.Mask.{mask}
-use Rattle.fast_compare.proofs.Checks.{refuse, accept, failed, passed}
 use Rattle.index_image.specs.declared.Shape.{Shape}
 use Rattle.index_image.specs.Shape as at
 use Rattle.index_image.specs.Layout.{slot}

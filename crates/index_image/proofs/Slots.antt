@@ -8,6 +8,7 @@ use native.Mathlib.Omega.{arith}
 use lib.Dec.{eqb}
 use lib.ListN.{length, getD, take, drop, length-append, length-take, length-drop}
 use lib.Seq.{take-at, length-take-le}
+use Rattle.words.proofs.Answers.{test}
 use Rattle.words.specs.Words.{words, bytes, pasteW}
 use Rattle.words.specs.Tables.{part, zeros}
 use borrow.Author.Tests.{eqb-true, eq-eqb}
@@ -36,13 +37,6 @@ module _ (W : List ℕ) (m i : ℕ) (few : m ≤ 4096) (some : slotLength W m i 
 
   pub slot-short : slotLength W m i ≤ m + 1
   slot-short = omega (arith, slot-length, canonical-length 1 m (slotIn W m i) (omega arith) few slot-canonical)
-
--- ---- answers of checks
-pub refuse : {M : Type 0} → (M → ⊥) → (false ≡ true) ↔ M
-refuse h = (λ (e : false ≡ true). never e, λ m. absurd (h m))
-
-pub test : {M : Type 0} (x y : ℕ) → (x ≡ y → M) → (M → x ≡ y) → (eqb x y ≡ true) ↔ M
-test {M} x y f g = (λ (e : eqb x y ≡ true). f (eqb-true x y e), λ (m : M). eq-eqb x y (g m))
 
 -- the words of a part that is handed on
 pub part-words : (bs : List ℕ) (a n k : ℕ) → k ≡ 4 * n → words (take k (drop (4 * a) bs)) ≡ part (words bs) a n

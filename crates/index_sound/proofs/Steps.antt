@@ -9,6 +9,7 @@ use native.Mathlib.Decide.{ℕ-discrete}
 use lib.Dec.{eqb}
 use lib.ListN.{length, getD, take, drop, length-take, length-drop}
 use lib.Seq.{getD-set-same, getD-set-other}
+use Rattle.words.proofs.Answers.{refuse, test, failed}
 use Rattle.words.specs.Words.{words, putW}
 use Rattle.words.specs.Tables.{part, zeros}
 use Rattle.words.proofs.Laws.{Bytes, length-words, words-putW, words-small}
@@ -16,7 +17,6 @@ use Rattle.words.proofs.Tables.{never, split-rows}
 use Rattle.divmask.specs.Tracker.{Maxima, maximaLent}
 use Rattle.divmask.proofs.Growth.{lent-maxima}
 use Rattle.fast_compare.specs.Layout as labels
-use Rattle.fast_compare.proofs.Checks.{failed}
 use Rattle.kd_theory.specs.Tree.{Tree, inorder, nodes, count}
 use Rattle.index_image.specs.Shape as at
 use Rattle.index_image.specs.Layout.{Sound}
@@ -31,23 +31,14 @@ use Rattle.index_image.specs.declared.head.Head.the-variants.{Image}
 use Rattle.index_image.proofs.Bounds.{width-small, size-small, nodes-small, ratio-width, entry-inside}
 use Rattle.index_image.proofs.Gcds.{power-small}
 use Rattle.index_image.proofs.Places.{node-fits}
-use Rattle.index_image.proofs.Slots.{refuse, test, range-words}
+use Rattle.index_image.proofs.Slots.{range-words}
 use Rattle.index_image.proofs.Trees.{tree-head}
 use Rattle.index_sound.specs.Checks.{MaximaOk, LabelsOk, RowsNamed, PermutationOk, NodesOk, Root, Rooted, Judged}
 use Rattle.index_sound.proofs.Labels.{map-of, rows-count, row-at}
 
--- ---- chains of checks
--- a check that answered no: what all of them ask for does not hold
-pub stop : {A M : Type 0} (t : Bool) → (t ≡ true) ↔ A → not t ≡ true → (M → A) → (false ≡ true) ↔ M
-stop t e n f = refuse (λ m. failed t e n (f m))
-
--- the last check, where the others answered yes
-pub last : {A M : Type 0} (t : Bool) → (t ≡ true) ↔ A → (A → M) → (M → A) → (t ≡ true) ↔ M
-last t e f g = (λ (z : t ≡ true). f (e .0 z), λ m. e .1 (g m))
-
 -- what is asked of a ratio index holds in a monomial index
-pub no-ratio : {P : Type 0} (s : Shape) → s .kind ≡ 0 → (true ≡ true) ↔ (s .kind ≡ 1 → P)
-no-ratio s z = (λ (h : true ≡ true) k. absurd (omega arith), λ f. refl)
+pub monomial-holds : {P : Type 0} (s : Shape) → s .kind ≡ 0 → (true ≡ true) ↔ (s .kind ≡ 1 → P)
+monomial-holds s z = (λ (h : true ≡ true) k. absurd (omega arith), λ f. refl)
 
 pub is-ratio : (s : Shape) → at.InRange s → (s .kind ≡ 0 → ⊥) → s .kind ≡ 1
 is-ratio s R h = omega (arith, R .kind-to)

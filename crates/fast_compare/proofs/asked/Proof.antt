@@ -1,6 +1,6 @@
 use native.Mathlib.Omega.{arith}
 use borrow.Author.Tests.{leb-true, le-leb}
-use Rattle.fast_compare.proofs.Checks.{refuse}
+use Rattle.words.proofs.Answers.{refuse}
 use Rattle.fast_compare.proofs.asked.Statement.{statement}
 use Rattle.fast_compare.proofs.asked.Tie as tie
 use Rattle.fast_compare.proofs.asked.Reads as reads

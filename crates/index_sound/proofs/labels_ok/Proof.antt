@@ -1,4 +1,4 @@
-use Rattle.index_sound.proofs.Steps.{no-ratio, is-ratio, labels-is}
+use Rattle.index_sound.proofs.Steps.{monomial-holds, is-ratio, labels-is}
 use borrow.Author.Needs.{needs}
 use Rattle.index_sound.proofs.labels_ok.Statement.{statement}
 use Rattle.index_sound.proofs.labels_ok.Tie as tie
@@ -10,7 +10,7 @@ use Rattle.index_image.proofs.Shape.labels_size.Reads as labels-size-reads
 
 -- src/lib.rt:50:9
 returns : tie.Need-returns
-returns c = no-ratio (c .before .before .before .args .s) (c .if1 .taken)
+returns c = monomial-holds (c .before .before .before .args .s) (c .if1 .taken)
 
 -- src/lib.rt:52:17
 labels-at-requires : tie.Need-labels-at-requires

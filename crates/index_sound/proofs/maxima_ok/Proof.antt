@@ -1,6 +1,5 @@
-use Rattle.fast_compare.proofs.Checks.{passed}
-use Rattle.index_sound.proofs.Steps.{stop, last}
 use borrow.Author.Needs.{needs}
+use Rattle.words.proofs.Answers.{passed, stop, last}
 use Rattle.index_sound.proofs.maxima_ok.Statement.{statement}
 use Rattle.index_sound.proofs.maxima_ok.Tie as tie
 use Rattle.index_sound.proofs.maxima_ok.Reads as reads

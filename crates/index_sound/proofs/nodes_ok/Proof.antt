@@ -1,8 +1,8 @@
 use native.Mathlib.Omega.{arith}
 use mathlib.Core.Path.{_∙_}
+use Rattle.words.proofs.Answers.{passed, stop}
 use Rattle.words.specs.Words.{words}
-use Rattle.fast_compare.proofs.Checks.{passed}
-use Rattle.index_sound.proofs.Steps.{stop, no-tree, tree-is, nodes-rest}
+use Rattle.index_sound.proofs.Steps.{no-tree, tree-is, nodes-rest}
 use borrow.Author.Needs.{needs}
 use Rattle.index_sound.proofs.nodes_ok.Statement.{statement}
 use Rattle.index_sound.proofs.nodes_ok.Tie as tie

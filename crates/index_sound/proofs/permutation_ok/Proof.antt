@@ -1,5 +1,5 @@
-use Rattle.fast_compare.proofs.Checks.{passed}
-use Rattle.index_sound.proofs.Steps.{stop, last, places-can}
+use Rattle.words.proofs.Answers.{passed, stop, last}
+use Rattle.index_sound.proofs.Steps.{places-can}
 use borrow.Author.Needs.{needs}
 use Rattle.index_sound.proofs.permutation_ok.Statement.{statement}
 use Rattle.index_sound.proofs.permutation_ok.Tie as tie

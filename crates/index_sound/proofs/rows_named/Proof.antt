@@ -1,6 +1,6 @@
 use mathlib.Core.Path.{_∙_}
 use Rattle.words.specs.Words.{words}
-use Rattle.index_sound.proofs.Steps.{no-ratio, is-ratio, rows-can, rows-is}
+use Rattle.index_sound.proofs.Steps.{monomial-holds, is-ratio, rows-can, rows-is}
 use borrow.Author.Needs.{needs}
 use Rattle.index_sound.proofs.rows_named.Statement.{statement}
 use Rattle.index_sound.proofs.rows_named.Tie as tie
@@ -14,7 +14,7 @@ use Rattle.words.proofs.get.Reads as get-reads
 
 -- src/lib.rt:83:9
 returns : tie.Need-returns
-returns c = no-ratio (c .before .before .before .args .s) (c .if1 .taken)
+returns c = monomial-holds (c .before .before .before .args .s) (c .if1 .taken)
 
 -- src/lib.rt:85:13
 entry-at-requires : tie.Need-entry-at-requires

@@ -1,8 +1,8 @@
-use Rattle.index_image.proofs.Slots.{refuse}
+use Rattle.words.proofs.Answers.{refuse, last}
 use Rattle.index_sound.proofs.Exact.{tables-sound, no-image}
 use Rattle.words.specs.Words.{words}
 use lib.ListN.{length}
-use Rattle.index_sound.proofs.Steps.{head-is, last}
+use Rattle.index_sound.proofs.Steps.{head-is}
 use borrow.Author.Needs.{needs}
 use Rattle.index_sound.proofs.sound.Statement.{statement}
 use Rattle.index_sound.proofs.sound.Tie as tie

@@ -1,5 +1,5 @@
-use Rattle.fast_compare.proofs.Checks.{passed}
-use Rattle.index_sound.proofs.Steps.{stop, last, tables-of, ready-of}
+use Rattle.words.proofs.Answers.{passed, stop, last}
+use Rattle.index_sound.proofs.Steps.{tables-of, ready-of}
 use borrow.Author.Needs.{needs}
 use Rattle.index_sound.proofs.tables_ok.Statement.{statement}
 use Rattle.index_sound.proofs.tables_ok.Tie as tie

@@ -2,8 +2,8 @@ use native.Mathlib.Omega.{arith}
 use mathlib.Core.Path.{sym, _∙_}
 use lib.ListN.{getD}
 use borrow.Author.Tests.{not-true, not-false}
+use Rattle.words.proofs.Answers.{failed, passed}
 use Rattle.words.specs.Words.{words}
-use Rattle.fast_compare.proofs.Checks.{failed, passed}
 use Rattle.fast_compare.proofs.Reading.{head, vars-of}
 use Rattle.fast_compare.proofs.Replies.{lent-good, large-index, bad-ratio, asking-unsound, asking-bad, asking-given}
 use borrow.Author.Needs.{needs}

@@ -1,5 +1,5 @@
 use mathlib.Core.Path.{_∙_}
-use Rattle.fast_compare.proofs.Checks.{failed, passed}
+use Rattle.words.proofs.Answers.{failed, passed}
 use Rattle.fast_compare.proofs.Replies.{length-refused, length-served}
 use borrow.Author.Needs.{needs}
 use Rattle.fast_compare.proofs.doors.fast_compare_length.Statement.{statement}

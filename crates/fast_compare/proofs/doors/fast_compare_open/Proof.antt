@@ -1,5 +1,5 @@
 use native.Mathlib.Omega.{arith}
-use Rattle.fast_compare.proofs.Checks.{failed, passed}
+use Rattle.words.proofs.Answers.{failed, passed}
 use Rattle.fast_compare.proofs.Replies.{open-unasked, open-short, open-served}
 use borrow.Author.Needs.{needs}
 use Rattle.fast_compare.proofs.doors.fast_compare_open.Statement.{statement}

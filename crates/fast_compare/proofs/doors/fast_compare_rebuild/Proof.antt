@@ -1,4 +1,4 @@
-use Rattle.fast_compare.proofs.Checks.{failed, passed}
+use Rattle.words.proofs.Answers.{failed, passed}
 use Rattle.fast_compare.proofs.Replies.{rebuilt-unsound, rebuilt-served}
 use borrow.Author.Needs.{needs}
 use Rattle.fast_compare.proofs.doors.fast_compare_rebuild.Statement.{statement}

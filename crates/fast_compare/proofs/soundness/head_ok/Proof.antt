@@ -1,8 +1,8 @@
 use native.Mathlib.Omega.{arith}
 use mathlib.Core.Path.{sym, _∙_}
 use borrow.Author.Tests.{leb-true, le-leb}
-use Rattle.fast_compare.proofs.Checks.{refuse, failed, passed}
 use borrow.Author.Needs.{needs}
+use Rattle.words.proofs.Answers.{refuse, failed, passed}
 use Rattle.fast_compare.proofs.soundness.head_ok.Statement.{statement}
 use Rattle.fast_compare.proofs.soundness.head_ok.Tie as tie
 use Rattle.fast_compare.proofs.soundness.head_ok.Reads as reads

@@ -4,8 +4,8 @@ use mathlib.Core.Path.{_≡_}
 use Prim.Native.Nat.{ℕ, _+_, _-_, _≤_, _<_}
 use lib.ListN.{getD}
 use borrow.Author.Count.{below-more}
+use Rattle.words.proofs.Answers.{refuse, accept}
 use Rattle.words.specs.Words.{words}
-use Rattle.fast_compare.proofs.Checks.{refuse, accept}
 use Rattle.fast_compare.proofs.soundness.numbers_ok.Statement.{statement}
 use Rattle.fast_compare.proofs.soundness.numbers_ok.Tie as tie
 use Rattle.fast_compare.proofs.soundness.numbers_ok.Reads as reads

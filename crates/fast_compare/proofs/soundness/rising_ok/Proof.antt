@@ -3,9 +3,10 @@ use borrow.Author.Needs.{needs}
 use mathlib.Core.Path.{_≡_}
 use Prim.Native.Nat.{ℕ, suc, _+_, _-_, _≤_, _<_}
 use lib.ListN.{length, getD}
+use Rattle.words.proofs.Answers.{refuse, accept, failed, passed}
 use Rattle.words.specs.Words.{words}
 use Rattle.fast_compare.specs.Layout.{rowAt, Rises}
-use Rattle.fast_compare.proofs.Checks.{refuse, accept, failed, passed, pairs-none, pairs-more, Up, row-in}
+use Rattle.fast_compare.proofs.Checks.{pairs-none, pairs-more, Up, row-in}
 use Rattle.fast_compare.proofs.soundness.rising_ok.Statement.{statement}
 use Rattle.fast_compare.proofs.soundness.rising_ok.Tie as tie
 use Rattle.fast_compare.proofs.soundness.rising_ok.Reads as reads

@@ -1,9 +1,9 @@
 use native.Mathlib.Omega.{arith}
 use mathlib.Core.Path.{sym, ap, _∙_}
 use Prim.Native.Nat.{ℕ, _+_, _-_, _/_}
+use Rattle.words.proofs.Answers.{refuse}
 use Rattle.words.specs.Words.{words}
 use Rattle.fast_compare.proofs.Images.{ratio-within}
-use Rattle.fast_compare.proofs.Checks.{refuse}
 use borrow.Author.Needs.{needs}
 use Rattle.fast_compare.proofs.soundness.row_ok.Statement.{statement}
 use Rattle.fast_compare.proofs.soundness.row_ok.Tie as tie

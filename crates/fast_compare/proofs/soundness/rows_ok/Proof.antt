@@ -3,10 +3,11 @@ use borrow.Author.Needs.{needs}
 use mathlib.Core.Path.{_≡_}
 use Prim.Native.Nat.{ℕ, _+_, _-_, _≤_, _<_}
 use borrow.Author.Count.{below-more}
+use Rattle.words.proofs.Answers.{refuse, accept, failed, passed}
 use Rattle.words.specs.Words.{words}
 use Rattle.words.proofs.Tables.{row-fits}
 use Rattle.fast_compare.specs.Layout.{rowAt, RowOk}
-use Rattle.fast_compare.proofs.Checks.{refuse, accept, failed, passed, rows-small}
+use Rattle.fast_compare.proofs.Checks.{rows-small}
 use Rattle.fast_compare.proofs.soundness.rows_ok.Statement.{statement}
 use Rattle.fast_compare.proofs.soundness.rows_ok.Tie as tie
 use Rattle.fast_compare.proofs.soundness.rows_ok.Reads as reads

@@ -1,6 +1,6 @@
 use native.Mathlib.Omega.{arith}
 use mathlib.Core.Path.{sym}
-use Rattle.fast_compare.proofs.Checks.{refuse}
+use Rattle.words.proofs.Answers.{refuse}
 use Rattle.fast_compare.proofs.Exact.{head-of, sound-long}
 use borrow.Author.Needs.{needs}
 use Rattle.fast_compare.proofs.soundness.sound.Statement.{statement}

@@ -1,6 +1,6 @@
 use native.Mathlib.Omega.{arith}
+use Rattle.words.proofs.Answers.{refuse, failed, passed}
 use Rattle.words.proofs.Laws.{words-small}
-use Rattle.fast_compare.proofs.Checks.{refuse, failed, passed}
 use Rattle.fast_compare.proofs.Exact.{sound-for-iff}
 use borrow.Author.Needs.{needs}
 use Rattle.fast_compare.proofs.soundness.sound_for.Statement.{statement}

@@ -1,7 +1,8 @@
 use native.Mathlib.Omega.{arith}
 use Prim.Native.Nat.{_+_, _-_}
+use Rattle.words.proofs.Answers.{refuse, failed, passed}
 use Rattle.words.proofs.Tables.{split-rows}
-use Rattle.fast_compare.proofs.Checks.{refuse, failed, passed, rows-small}
+use Rattle.fast_compare.proofs.Checks.{rows-small}
 use borrow.Author.Needs.{needs}
 use Rattle.fast_compare.proofs.soundness.tables_ok.Statement.{statement}
 use Rattle.fast_compare.proofs.soundness.tables_ok.Tie as tie

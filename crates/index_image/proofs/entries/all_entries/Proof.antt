@@ -4,10 +4,10 @@ use mathlib.Core.Path.{_≡_, refl, sym, _∙_}
 use Prim.Native.Nat.{ℕ, _-_, _<_, _≤_}
 use borrow.Author.Tests.{not-true, not-false}
 use borrow.Author.Count.{below-more}
+use Rattle.words.proofs.Answers.{refuse}
 use Rattle.words.specs.Words.{words}
 use Rattle.words.proofs.Tables.{never}
 use Rattle.index_image.specs.Door.{EntryOk}
-use Rattle.index_image.proofs.Slots.{refuse}
 use Rattle.index_image.proofs.entries.all_entries.Statement.{statement}
 use Rattle.index_image.proofs.entries.all_entries.Tie as tie
 use Rattle.index_image.proofs.entries.all_entries.Reads as reads

@@ -1,6 +1,6 @@
 use native.Mathlib.Omega.{arith}
-use Rattle.index_image.proofs.Slots.{refuse}
 use borrow.Author.Needs.{needs}
+use Rattle.words.proofs.Answers.{refuse}
 use Rattle.index_image.proofs.head.in_range.Statement.{statement}
 use Rattle.index_image.proofs.head.in_range.Tie as tie
 use Rattle.index_image.proofs.head.in_range.Reads as reads

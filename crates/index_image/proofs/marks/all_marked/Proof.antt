@@ -4,7 +4,7 @@ use mathlib.Core.Path.{_≡_, refl, sym, _∙_}
 use Prim.Native.Nat.{ℕ, _-_, _<_, _≤_}
 use borrow.Author.Count.{below-more}
 use lib.ListN.{getD}
-use Rattle.index_image.proofs.Slots.{refuse}
+use Rattle.words.proofs.Answers.{refuse}
 use Rattle.index_image.proofs.marks.all_marked.Statement.{statement}
 use Rattle.index_image.proofs.marks.all_marked.Tie as tie
 use Rattle.index_image.proofs.marks.all_marked.Reads as reads

@@ -4,8 +4,8 @@ use mathlib.Core.Path.{_≡_, refl, sym, _∙_}
 use Prim.Native.Nat.{ℕ, _+_, _-_, _<_, _≤_}
 use borrow.Author.Count.{below-more}
 use lib.ListN.{getD}
+use Rattle.words.proofs.Answers.{refuse}
 use Rattle.words.specs.Words.{words}
-use Rattle.index_image.proofs.Slots.{refuse}
 use Rattle.index_image.proofs.marks.in_range.Statement.{statement}
 use Rattle.index_image.proofs.marks.in_range.Tie as tie
 use Rattle.index_image.proofs.marks.in_range.Reads as reads

@@ -1,11 +1,11 @@
 use native.Mathlib.Omega.{arith}
 use borrow.Author.Needs.{needs}
+use Rattle.words.proofs.Answers.{failed, passed}
 use Rattle.index_image.proofs.Walks.{no-row, too-many, no-leaf, a-leaf, no-key, no-first, one-is, no-less, no-second, no-branch, two-is, a-branch}
 use mathlib.Core.Path.{refl, sym, ap, _∙_}
 use lib.ListN.{length}
 use Rattle.words.specs.Words.{words}
 use Rattle.words.proofs.Tables.{never}
-use Rattle.fast_compare.proofs.Checks.{failed, passed}
 use Rattle.index_image.proofs.Places.{node-room}
 use Rattle.index_image.proofs.Uppers.{words-put, uppers-put, put-back}
 use Prim.Native.Nat.{ℕ, _<_, _-_, _+_}

@@ -1,7 +1,7 @@
 use native.Mathlib.Omega.{arith}
 use mathlib.Core.Path.{sym, _∙_}
-use Rattle.fast_compare.proofs.Checks.{refuse, failed, passed}
 use borrow.Author.Needs.{needs}
+use Rattle.words.proofs.Answers.{refuse, failed, passed}
 use Rattle.index_image.proofs.walk.branch_ok.Statement.{statement}
 use Rattle.index_image.proofs.walk.branch_ok.Tie as tie
 use Rattle.index_image.proofs.walk.branch_ok.Reads as reads

@@ -3,8 +3,8 @@ use mathlib.Core.Path.{_≡_}
 use Prim.Native.Nat.{ℕ, _+_, _-_, _<_, _≤_}
 use lib.ListN.{getD}
 use borrow.Author.Count.{below-more}
+use Rattle.words.proofs.Answers.{refuse, accept, failed, passed}
 use Rattle.words.specs.Words.{words}
-use Rattle.fast_compare.proofs.Checks.{refuse, accept, failed, passed}
 use Rattle.index_image.specs.Rows.{Inside}
 use Rattle.index_image.specs.Shape as at
 use Rattle.index_image.proofs.Places.{place-room, place-fits}

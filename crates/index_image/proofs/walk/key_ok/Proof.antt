@@ -1,8 +1,8 @@
 use native.Mathlib.Omega.{arith}
 use mathlib.Core.Path.{sym, _∙_}
 use borrow.Author.Tests.{lt-ltb, ltb-true, le-leb, leb-true}
-use Rattle.fast_compare.proofs.Checks.{refuse}
 use borrow.Author.Needs.{needs}
+use Rattle.words.proofs.Answers.{refuse}
 use Rattle.index_image.proofs.walk.key_ok.Statement.{statement}
 use Rattle.index_image.proofs.walk.key_ok.Tie as tie
 use Rattle.index_image.proofs.walk.key_ok.Reads as reads

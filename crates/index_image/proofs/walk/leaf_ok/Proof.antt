@@ -1,6 +1,6 @@
 use mathlib.Core.Path.{sym, _∙_}
-use Rattle.fast_compare.proofs.Checks.{refuse, failed, passed}
 use borrow.Author.Needs.{needs}
+use Rattle.words.proofs.Answers.{refuse, failed, passed}
 use Rattle.index_image.proofs.walk.leaf_ok.Statement.{statement}
 use Rattle.index_image.proofs.walk.leaf_ok.Tie as tie
 use Rattle.index_image.proofs.walk.leaf_ok.Reads as reads

@@ -1,10 +1,10 @@
 use native.Mathlib.Omega.{arith}
 use Prim.Native.Nat.{_-_, _/_, _%_}
 use lib.ListN.{length}
+use Rattle.words.proofs.Answers.{refuse, accept}
 use Rattle.words.specs.Words.{words}
 use Rattle.words.proofs.Laws.{length-words}
 use Rattle.monomial.proofs.Walks.{within}
-use Rattle.fast_compare.proofs.Checks.{refuse, accept}
 use Rattle.index_image.proofs.Bounding.{Passing, passing, all-passed, at-variable}
 use Rattle.index_image.proofs.walk.powers_below.Statement.{statement}
 use Rattle.index_image.proofs.walk.powers_below.Tie as tie
