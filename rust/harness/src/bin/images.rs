@@ -8,11 +8,20 @@
 //!
 //! `images stack` prints the least stack on which the port judges the deepest
 //! trees.
+//!
+//! `images words` writes the small images that `crates/image_cases` reads, and
+//! `images answers` what it has to write, by the model alone.
 
-use std::{env, io, process::ExitCode, time::Instant};
+use std::{
+    env,
+    io::{self, Write},
+    process::ExitCode,
+    time::Instant,
+};
 
 use harness::{
     images::{
+        cases,
         chains::Form,
         compare,
         samples::{headers, random_images, small_images},
@@ -25,6 +34,8 @@ fn main() -> ExitCode {
     let args: Vec<String> = env::args().skip(1).collect();
     match &args[..] {
         [first] if first == "stack" => return ended(print_stacks().is_ok()),
+        [first] if first == "words" => return written(&cases::words()),
+        [first] if first == "answers" => return written(cases::answers().as_bytes()),
         [first, rest @ ..] if first == "stack" => {
             return ended(stack::try_out(rest) == Some(true));
         }
@@ -32,7 +43,7 @@ fn main() -> ExitCode {
     }
     let mut args = args.iter().map(|arg| arg.parse::<u64>().ok());
     let (Some(Some(count)), Some(seed)) = (args.next(), args.next().unwrap_or(Some(0))) else {
-        eprintln!("usage: images COUNT [SEED] | images stack");
+        eprintln!("usage: images COUNT [SEED] | images stack | images words | images answers");
         return ExitCode::FAILURE;
     };
     match compare_all(count, seed) {
@@ -66,6 +77,10 @@ fn compare_all(count: u64, seed: u64) -> Result<Tally, String> {
         start.elapsed().as_secs_f32()
     );
     Ok(tally)
+}
+
+fn written(bytes: &[u8]) -> ExitCode {
+    ended(io::stdout().write_all(bytes).is_ok())
 }
 
 fn ended(well: bool) -> ExitCode {

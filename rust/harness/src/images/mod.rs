@@ -5,6 +5,7 @@
 //! rule how many images are refused for it alone: one of the two that did without
 //! the rule would be noticed there.
 
+pub mod cases;
 pub mod chains;
 pub mod edits;
 pub mod samples;
