@@ -1,5 +1,5 @@
 -- The bench cases of document 01 on masks and `update`. Assumes nothing.
-use mathlib.Core.Path.{_≡_, refl, sym, _∙_}
+use mathlib.Core.Path.{_≡_, sym, _∙_}
 use mathlib.Core.List.{List, [], _∷_}
 use Prim.Native.Nat.{ℕ, _-_, _*_, _^_, _≤_, _<_}
 use native.Mathlib.Omega.{arith}
@@ -7,9 +7,9 @@ use native.Mathlib.Nat.{zero-mul}
 use lib.ListN.{getD}
 use Rattle.words.specs.Kinds.{varWord, endWord}
 use Rattle.words.proofs.Fields.{kind-var, ident-var, power-var}
-use Rattle.monomial.specs.Monomial.{find, powerOf, pow}
+use Rattle.monomial.specs.Monomial.{pow}
 use Rattle.monomial.proofs.Powers.{pow-here, pow-past, pow-other, pow-nil}
-use Rattle.divmask.specs.Mask.{bits, firstBit, cutoff, parts, field, fields, mask}
+use Rattle.divmask.specs.Mask.{bits, firstBit, parts, field, mask}
 use Rattle.divmask.proofs.Parts.{parts-full}
 use Rattle.divmask.proofs.Masks.{mask-single}
 use Rattle.divmask.proofs.Places.{no-bit}

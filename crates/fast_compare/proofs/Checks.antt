@@ -1,15 +1,11 @@
 -- What the answers of the checks come to. Assumes nothing.
-use mathlib.Core.Path.{_≡_, refl, sym, _∙_}
-use mathlib.Core.Bool.{Bool, true, false, not}
 use mathlib.Core.List.{List}
-use mathlib.Core.Logic.{_↔_}
 use Prim.Native.Nat.{ℕ, suc, _+_, _-_, _*_, _≤_, _<_}
 use native.Mathlib.Nat.{mul-le-mul}
 use native.Mathlib.Omega.{arith}
 use native.Mathlib.Decide.{ℕ-discrete}
-use borrow.Author.Tests.{not-true, not-false}
 use lib.ListN.{getD}
-use Rattle.words.proofs.Tables.{never, row-fits}
+use Rattle.words.proofs.Tables.{row-fits}
 use Rattle.fast_compare.specs.Layout.{rowAt, RowOk, Rises}
 
 -- the rows of a map take few words

@@ -13,7 +13,7 @@ use Rattle.words.proofs.Laws.{Words}
 use Rattle.words.proofs.Tables.{length-part, part-get, part-nil, part-cons, part-one, part-append, length-zeros, length-table, table-iff, row-fits, split-rows}
 use Rattle.words.proofs.Joined.{joined, Stand, renamed, named-back}
 use Rattle.words.proofs.Joined.{apart as pieces-apart, together as pieces-together}
-use Rattle.monomial.specs.Monomial.{front, Canonical}
+use Rattle.monomial.specs.Monomial.{front}
 use Rattle.monomial.specs.declared.monomial_ordering.CmpOrd.the-variants.{Less}
 use Rattle.monomial.proofs.Canon.{Canon, IsVar, IsEnd, front-short}
 use Rattle.monomial.proofs.Powers.{canonical-length}

@@ -1,24 +1,21 @@
 -- The lengths of an image's tables, and the image as its tables. Assumes nothing.
-use mathlib.Core.Path.{_≡_, refl, sym, ap, _∙_}
+use mathlib.Core.Path.{_≡_, refl, ap, _∙_}
 use mathlib.Core.List.{List, [], _∷_, _++_}
-use mathlib.Core.Logic.{_↔_}
-use Prim.Native.Nat.{ℕ, zero, suc, _+_, _-_, _*_, _≤_, _<_}
+use Prim.Native.Nat.{ℕ, suc, _+_, _-_, _*_, _≤_, _<_}
 use native.Mathlib.Omega.{arith}
 use native.Mathlib.Nat.{add-mul}
 use lib.ListN.{length, getD, set, length-append}
 use Rattle.words.specs.Tables.{part, zeros, table, over}
 use Rattle.words.proofs.Tables.{length-zeros, length-table, split-rows}
 use Rattle.words.proofs.Joined.{joined, Stand, apart, together, renamed, named-back, before, over-joined}
-use Rattle.monomial.specs.Monomial.{Canonical, monomialOf, pow}
+use Rattle.monomial.specs.Monomial.{monomialOf, pow}
 use Rattle.monomial.proofs.Powers.{monomial-length, canonical-length}
 use Rattle.divmask.specs.Mask.{mask}
 use Rattle.fast_compare.specs.Map as map
-use Rattle.fast_compare.specs.Layout as labels
-use Rattle.fast_compare.proofs.Images as images
 use Rattle.kd_theory.specs.Bifurcate.{least, leastOf}
 use Rattle.kd_theory.specs.Tree.{Tree, leaf, branch, inorder, nodes, count}
 use Rattle.index_theory.specs.Entries.{Entry, entryAt}
-use Rattle.index_theory.specs.State.{Kind, monomials, ratioed, State, Valid, GoodEntry, powerIn}
+use Rattle.index_theory.specs.State.{Kind, monomials, ratioed, State, GoodEntry, powerIn}
 use Rattle.index_image.specs.Layout.{entryWidth, nodeWidth, labelsSize, mapAt, entriesAt, permutationAt, labelsAt, nodesAt, size, slot, header, signWords, entryWords, gcdPowers, nodeWords, treeWords, labelWords, encode}
 
 -- ---- lengths

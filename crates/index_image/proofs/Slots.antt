@@ -1,25 +1,23 @@
 -- Slots of canonical monomials in the words of an image. Assumes nothing.
-use mathlib.Core.Path.{_≡_, refl, sym, ap, _∙_}
-use mathlib.Core.Bool.{Bool, true, false}
-use mathlib.Core.List.{List, [], _∷_, _++_}
+use mathlib.Core.Path.{_≡_, sym, ap, _∙_}
+use mathlib.Core.Bool.{true}
+use mathlib.Core.List.{List}
 use mathlib.Core.Logic.{_↔_}
-use Prim.Native.Nat.{ℕ, suc, _+_, _-_, _*_, _≤_, _<_}
+use Prim.Native.Nat.{ℕ, _+_, _-_, _*_, _≤_}
 use native.Mathlib.Omega.{arith}
 use lib.Dec.{eqb}
-use lib.ListN.{length, getD, take, drop, length-append, length-take, length-drop}
+use lib.ListN.{length, getD, take, drop, length-take, length-drop}
 use lib.Seq.{take-at, length-take-le}
 use Rattle.words.proofs.Answers.{test}
 use Rattle.words.specs.Words.{words, bytes, pasteW}
 use Rattle.words.specs.Tables.{part, zeros}
-use borrow.Author.Tests.{eqb-true, eq-eqb}
 use Rattle.words.proofs.Laws.{words-part, length-words, length-pasteW, pasteW-front, length-bytes, words-bytes}
-use Rattle.words.proofs.Tables.{never}
-use Rattle.monomial.specs.Monomial.{front, Canonical, pow, varsOf}
-use Rattle.monomial.proofs.Canon.{Canon, canon-of, front-short}
+use Rattle.monomial.specs.Monomial.{front, Canonical, pow}
+use Rattle.monomial.proofs.Canon.{front-short}
 use Rattle.monomial.proofs.Powers.{canonical-length}
 use Rattle.monomial.specs.Operations.{result}
 use Rattle.monomial.specs.declared.ordered_ops.Op.{Op}
-use Rattle.monomial.proofs.Laws.{front-canonical, canonical-more, length-result, result-small}
+use Rattle.monomial.proofs.Laws.{front-canonical, length-result, result-small}
 use Rattle.divmask.specs.Mask.{mask}
 use Rattle.index_image.specs.Door.{slotLength, slotIn, MaskedSlot}
 

@@ -1,8 +1,8 @@
 -- What the door's checks decide, table by table, by the words of the image. Assumes nothing.
 use mathlib.Core.Path.{_≡_}
 use mathlib.Core.List.{List}
-use Prim.Native.Nat.{ℕ, suc, _+_, _-_, _*_, _≤_, _<_}
-use lib.ListN.{length, getD, drop}
+use Prim.Native.Nat.{ℕ, _+_, _-_, _*_, _≤_, _<_}
+use lib.ListN.{getD, drop}
 use Rattle.words.specs.Kinds.{kind, payload}
 use Rattle.words.specs.Tables.{part, zeros}
 use Rattle.monomial.specs.Monomial.{front, pow}

@@ -1,28 +1,26 @@
 -- The image of a valid state passes the checks. Assumes nothing.
 use mathlib.Core.Path.{_≡_, refl, sym, ap, _∙_}
-use mathlib.Core.List.{List, [], _∷_, _++_}
-use Prim.Native.Nat.{ℕ, zero, suc, _+_, _-_, _*_, _≤_, _<_}
+use mathlib.Core.List.{List, _∷_}
+use Prim.Native.Nat.{ℕ, _+_, _*_, _≤_, _<_}
 use native.Mathlib.Omega.{arith}
 use native.Mathlib.Nat.{zero-mul}
 use lib.ListN.{length, getD}
 use Rattle.words.specs.Words.{words}
-use Rattle.words.specs.Tables.{part, zeros, table}
+use Rattle.words.specs.Tables.{part, zeros}
 use Rattle.words.proofs.Laws.{length-words}
 use Rattle.words.proofs.Tables.{part-get, table-iff, row-fits, split-rows}
-use Rattle.monomial.specs.Monomial.{pow}
 use Rattle.fast_compare.specs.Map as map
 use Rattle.fast_compare.specs.Layout as labels
-use Rattle.kd_theory.specs.Bag.{_∈_}
-use Rattle.kd_theory.specs.Tree.{inorder, nodes, count}
-use Rattle.index_theory.specs.Entries.{Entry, entryAt, ratioOf, quotientOf}
-use Rattle.index_theory.specs.State.{Kind, monomials, ratioed, State, Valid, LabelsOf, powerIn, labelOf}
+use Rattle.kd_theory.specs.Tree.{inorder, nodes}
+use Rattle.index_theory.specs.Entries.{Entry, entryAt, ratioOf}
+use Rattle.index_theory.specs.State.{Kind, ratioed, State, Valid, LabelsOf, powerIn, labelOf}
 use Rattle.index_theory.proofs.Orders.{labels-agree}
 use Rattle.index_image.specs.Layout as layout
 use Rattle.index_image.specs.Layout.{code, header, entryWords, labelWords, Is}
 use Rattle.index_image.specs.Shape as at
 use Rattle.index_image.specs.Head.{HeadOk}
-use Rattle.index_image.specs.Walk.{lmIn, rowIn, mapMaxima, power, label}
-use Rattle.index_image.specs.Door.{rowsIn, rowValue, indexIn, signIn, RatioOk, EntryOk}
+use Rattle.index_image.specs.Walk.{rowIn, mapMaxima, power, label}
+use Rattle.index_image.specs.Door.{rowsIn, RatioOk}
 use Rattle.index_image.specs.Marks.{Named}
 use Rattle.index_image.specs.declared.Shape.{Shape}
 use Rattle.index_image.proofs.Encoding.{Pieces, Fits, entry-length, pieces-of}

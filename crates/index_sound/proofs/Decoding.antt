@@ -1,16 +1,15 @@
 -- What passes the checks is the image of a valid state. Assumes nothing.
 use mathlib.Core.Path.{_≡_, refl, sym, ap, _∙_}
-use mathlib.Core.List.{List, [], _∷_, _++_}
-use Prim.Native.Nat.{ℕ, zero, suc, _+_, _-_, _*_, _≤_, _<_}
+use mathlib.Core.List.{List, []}
+use Prim.Native.Nat.{ℕ, _+_, _*_, _≤_, _<_}
 use native.Mathlib.Omega.{arith}
-use native.Mathlib.Nat.{zero-mul, add-zero}
+use native.Mathlib.Nat.{zero-mul}
 use lib.ListN.{length, getD}
 use Rattle.words.specs.Words.{words}
-use Rattle.words.specs.Tables.{part, zeros, table}
+use Rattle.words.specs.Tables.{part, table}
 use Rattle.words.proofs.Lists.{listed, length-listed, getD-listed}
 use Rattle.words.proofs.Laws.{length-words}
-use Rattle.words.proofs.Tables.{length-part, part-get, part-nil, part-cons, table-iff, row-fits, split-rows}
-use Rattle.monomial.specs.Monomial.{pow}
+use Rattle.words.proofs.Tables.{part-get, part-nil, table-iff, row-fits, split-rows}
 use Rattle.fast_compare.specs.Map as map
 use Rattle.kd_theory.specs.Bag.{_∈_, Same}
 use Rattle.kd_theory.specs.Tree.{Tree, inorder, nodes, count, Ordered}
@@ -18,19 +17,17 @@ use Rattle.index_theory.specs.Entries.{Entry, entryAt, one, ratioOf}
 use Rattle.index_theory.specs.State.{Kind, monomials, ratioed, State, Valid, GoodEntry, OfKind, LabelsOf, upTo, powerIn, labelOf, keysOf}
 use Rattle.index_theory.proofs.Orders.{labels-agree}
 use Rattle.index_image.specs.Layout as layout
-use Rattle.index_image.specs.Layout.{code, header, entryWords, labelWords, treeWords, Is, Sound}
+use Rattle.index_image.specs.Layout.{code, header, entryWords, labelWords, Sound}
 use Rattle.index_image.specs.Shape as at
 use Rattle.index_image.specs.Head.{HeadOk}
-use Rattle.index_image.specs.Walk as walk
 use Rattle.index_image.specs.Walk.{lmIn, rowIn, mapMaxima, power, label}
-use Rattle.index_image.specs.Door.{RatioOk, EntryOk}
 use Rattle.index_image.specs.declared.Shape.{Shape}
 use Rattle.index_image.proofs.Encoding.{Pieces, entry-length, of-pieces}
 use Rattle.index_image.proofs.Lengths.{valid-fits}
 use Rattle.index_sound.specs.Checks.{LabelsOk, TablesOk}
-use Rattle.index_sound.proofs.Once.{get-in, in-get, places-once, once-below}
+use Rattle.index_sound.proofs.Once.{get-in, places-once, once-below}
 use Rattle.index_sound.proofs.Keys.{tree-words-ext, by-keys}
-use Rattle.index_sound.proofs.EntryWords.{readEntry, RatioIs, EntryIs, no-ratio, of-entry}
+use Rattle.index_sound.proofs.EntryWords.{readEntry, EntryIs, no-ratio, of-entry}
 use Rattle.index_sound.proofs.Labels.{MapIs, map-of, rows-count, row-at, label-at}
 use Rattle.index_sound.proofs.Rows.{row-of, label-of}
 use Rattle.index_image.proofs.Shapes as shapes

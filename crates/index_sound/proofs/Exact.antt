@@ -3,7 +3,7 @@ use mathlib.Core.Path.{_≡_, sym, _∙_}
 use mathlib.Core.List.{List}
 use mathlib.Core.Logic.{_↔_}
 use Prim.Native.Nat.{ℕ}
-use lib.ListN.{length, getD}
+use lib.ListN.{length}
 use Rattle.words.specs.Words.{words}
 use Rattle.index_image.specs.Layout.{Sound}
 use Rattle.index_image.specs.Head.{HeadOk, HeadIs}

@@ -1,11 +1,8 @@
 -- The label map of the image and the entries' ratios. Assumes nothing.
-use mathlib.Core.Path.{_≡_, refl, sym, ap, _∙_}
+use mathlib.Core.Path.{_≡_, refl, ap, _∙_}
 use mathlib.Core.Option.{Option, none, some}
-use mathlib.Core.List.{List}
-use Prim.Native.Nat.{ℕ, zero, suc, _+_, _*_, _≤_, _<_}
-use native.Mathlib.Omega.{arith}
-use lib.ListN.{length, getD}
-use Rattle.words.specs.Words.{words}
+use Prim.Native.Nat.{ℕ, _<_}
+use lib.ListN.{length}
 use Rattle.monomial.specs.declared.monomial_ordering.CmpOrd.the-variants.{Equal}
 use Rattle.fast_compare.specs.Labels.{known}
 use Rattle.fast_compare.specs.Map as map

@@ -9,7 +9,7 @@ use native.Mathlib.Decide.{ℕ-discrete}
 use lib.Dec.{eqb}
 use lib.ListN.{length, getD, take, drop, length-take, length-drop}
 use lib.Seq.{getD-set-same, getD-set-other}
-use Rattle.words.proofs.Answers.{refuse, test, failed}
+use Rattle.words.proofs.Answers.{refuse, test, last}
 use Rattle.words.specs.Words.{words, putW}
 use Rattle.words.specs.Tables.{part, zeros}
 use Rattle.words.proofs.Laws.{Bytes, length-words, words-putW, words-small}

@@ -1,10 +1,9 @@
 -- Call lists: the words of calls, the questions of each call in order, what a call answers, and what it leaves. Assumes nothing.
-use mathlib.Core.Path.{_≡_}
-use mathlib.Core.Bool.{Bool, true, false, cond, not, _&&_}
+use mathlib.Core.Bool.{Bool, true, false, cond}
 use mathlib.Core.Option.{Option, none, some}
 use mathlib.Core.List.{List, [], _∷_, _++_}
-use Prim.Native.Nat.{ℕ, _+_, _-_}
-use lib.Dec.{eqb, leb, ltb}
+use Prim.Native.Nat.{ℕ, _+_}
+use lib.Dec.{eqb, ltb}
 use lib.ListN.{length, take, drop}
 use Rattle.words.specs.Kinds.{kind, payload, answerWord, refusalWord}
 use Rattle.monomial.specs.Monomial.{front}
@@ -13,7 +12,7 @@ use Rattle.fast_compare.specs.Map as map
 use Rattle.fast_compare.specs.declared.Comparer.{Comparer}
 use Rattle.fast_compare.specs.declared.Comparer.the-variants.{Known, New, Full, NoLabel}
 use Rattle.kd_theory.specs.Tree.{Tree, Out, insert}
-use Rattle.index_theory.specs.Entries.{Entry, entryAt, one, ratioOf, above}
+use Rattle.index_theory.specs.Entries.{Entry, entryAt, one, ratioOf}
 use Rattle.index_theory.specs.State.{Kind, monomials, ratioed, State, keysOf}
 use Rattle.index_theory.specs.Searches.{contained, findReducer, findHigh, findLow, testSingular, isRegular}
 

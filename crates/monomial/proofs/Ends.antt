@@ -1,10 +1,10 @@
 -- The end of a canonical monomial or ratio, looked for by its end word alone. Assumes nothing.
-use mathlib.Core.Path.{_≡_, refl, sym, ap, _∙_}
+use mathlib.Core.Path.{_≡_, sym, _∙_}
 use mathlib.Core.List.{List, [], _∷_}
 use mathlib.Core.Logic.{_⊎_, inl, inr}
 use Prim.Native.Nat.{ℕ, _+_, _-_, _*_, _≤_}
 use native.Mathlib.Omega.{arith}
-use lib.ListN.{length, take, drop}
+use lib.ListN.{take, drop}
 use Rattle.words.specs.Kinds.{kind, payload, ident}
 use Rattle.words.specs.Words.{words}
 use Rattle.monomial.specs.Monomial.{front, found, LengthAt, PartAt}

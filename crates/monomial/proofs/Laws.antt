@@ -1,9 +1,9 @@
 -- What the operations mean, by the textbook: the laws that the rest of the product cites. Assumes nothing.
 use mathlib.Core.Path.{_≡_, refl, sym, ap, _∙_}
-use mathlib.Core.Bool.{Bool, true, false, _&&_}
+use mathlib.Core.Bool.{true, _&&_}
 use mathlib.Core.List.{List, [], _∷_, _++_}
 use mathlib.Core.Logic.{_⊎_, inl, inr, _↔_}
-use Prim.Native.Nat.{ℕ, zero, suc, min, _+_, _-_, _*_, _/_, _%_, _≤_, _<_}
+use Prim.Native.Nat.{ℕ, zero, suc, _+_, _-_, _*_, _%_, _≤_, _<_}
 use native.Mathlib.Omega.{arith}
 use native.Mathlib.Decide.{ℕ-discrete, decLe}
 use lib.Dec.{eqb, ltb}
@@ -13,18 +13,18 @@ use borrow.Author.Tests.{eqb-true, ltb-true, lt-ltb, eq-eqb}
 use Rattle.words.specs.Kinds.{kind, payload, ident}
 use Rattle.words.specs.Words.{words}
 use Rattle.words.proofs.Laws.{length-words, Words}
-use Rattle.monomial.specs.Monomial.{bias, front, Canonical, lent, pow, monomialOf}
+use Rattle.monomial.specs.Monomial.{bias, front, Canonical, lent, pow}
 use Rattle.monomial.specs.Operations.{met, kindOf, powers, result, Divides, divides}
 use Rattle.monomial.specs.Order.{compare, andThen, total, revlex, grevlex, order}
 use Rattle.monomial.specs.declared.ordered_ops.Op.{Op}
 use Rattle.monomial.specs.declared.ordered_ops.Op.the-variants.{Gcd, Product, Quotient, Ratio}
 use Rattle.monomial.specs.declared.monomial_ordering.CmpOrd.{CmpOrd}
 use Rattle.monomial.specs.declared.monomial_ordering.CmpOrd.the-variants.{Less, Equal, Greater}
-use Rattle.monomial.proofs.Canon.{IsVar, IsEnd, Canon, both-true, front-none, front-cases, front-end, front-var, var-is, front-of-canon, canon-of, canonical-of, raise}
+use Rattle.monomial.proofs.Canon.{IsVar, Canon, both-true, front-none, front-cases, front-end, front-var, var-is, front-of-canon, canon-of, canonical-of, raise}
 use Rattle.monomial.proofs.Powers.{InRange, pow-ids, powers-in-range, absent-above, pow-monomial, canonical-monomial, monomial-length, monomial-small, canonical-unique}
 use Rattle.monomial.proofs.Divisions.{divides-by, at-most, divides-iff}
 use Rattle.monomial.proofs.Sums.{met-zero, met-small, kind-small}
-use Rattle.monomial.proofs.Orders.{Trichotomy, less, equal, greater, trichotomy, compare-equal, revlex-suc}
+use Rattle.monomial.proofs.Orders.{Trichotomy, less, equal, greater, trichotomy, revlex-suc}
 use Rattle.monomial.proofs.Lawful.{Lawful, flip, by-lawful, grevlex-lawful}
 
 -- ---- canonical words

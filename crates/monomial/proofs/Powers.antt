@@ -2,19 +2,19 @@
 use mathlib.Core.Path.{_≡_, refl, sym, ap, _∙_}
 use mathlib.Core.Bool.{Bool, true, false, cond, _&&_}
 use mathlib.Core.List.{List, [], _∷_, _++_}
-use mathlib.Core.Logic.{_⊎_, inl, inr}
-use Prim.Native.Nat.{ℕ, zero, suc, _+_, _-_, _*_, _/_, _%_, _^_, _≤_, _<_}
+use mathlib.Core.Logic.{inl, inr}
+use Prim.Native.Nat.{ℕ, zero, suc, _+_, _^_, _≤_, _<_}
 use native.Mathlib.Omega.{arith}
 use native.Mathlib.Decide.{ℕ-discrete, decLe}
 use lib.Dec.{eqb}
 use native.Mathlib.Nat.{zero-add}
 use lib.ListN.{length, length-append}
 use borrow.Author.Tests.{eq-eqb, ne-eqb}
-use Rattle.words.specs.Kinds.{kind, payload, ident, power, varWord, endWord}
+use Rattle.words.specs.Kinds.{kind, ident, power, varWord}
 use Rattle.words.proofs.Fields.{kind-var, ident-var, power-var, var-fits}
 use Rattle.words.proofs.Laws.{Words}
 use Rattle.monomial.specs.Monomial.{bias, Canonical, find, powerOf, pow, varsOf, monomialOf}
-use Rattle.monomial.specs.declared.Power.the-variants.{Found, Absent}
+use Rattle.monomial.specs.declared.Power.the-variants.{Found}
 use Rattle.monomial.proofs.Canon.{IsVar, IsEnd, Canon, canon-of, canonical-of, raise, lower}
 
 -- ---- the powers of a list

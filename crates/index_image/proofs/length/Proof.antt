@@ -1,7 +1,6 @@
 use native.Mathlib.Omega.{arith}
 use Rattle.index_image.proofs.Bounds.{size-small}
 use Rattle.index_image.proofs.Shapes.{empty-range, is-length}
-use borrow.Author.Needs.{needs}
 use Rattle.index_image.proofs.length.Statement.{statement}
 use Rattle.index_image.proofs.length.Tie as tie
 use Rattle.index_image.proofs.length.Reads as reads

@@ -1,7 +1,7 @@
-use Prim.Native.Nat.{_+_, _-_, _≤_}
+use Prim.Native.Nat.{_-_, _≤_}
 use mathlib.Core.Path.{refl}
 use native.Mathlib.Omega.{arith}
-use lib.ListN.{length, drop, drop-of-length-le}
+use lib.ListN.{drop-of-length-le}
 use Rattle.words.specs.Words.{words}
 use Rattle.words.proofs.Laws.{length-words, word-and-rest}
 use Rattle.monomial.proofs.Ends.{Ahead, ahead-start, ahead-more, ahead-end, ahead-none}

@@ -1,6 +1,6 @@
 use native.Mathlib.Omega.{arith}
 use mathlib.Core.Path.{sym, ap, _∙_}
-use Prim.Native.Nat.{ℕ, _+_, _-_, _/_}
+use Prim.Native.Nat.{ℕ, _+_, _/_}
 use Rattle.words.proofs.Answers.{refuse}
 use Rattle.words.specs.Words.{words}
 use Rattle.fast_compare.proofs.Images.{ratio-within}

@@ -1,5 +1,5 @@
 use native.Mathlib.Omega.{arith}
-use Prim.Native.Nat.{_+_, _-_}
+use Prim.Native.Nat.{_+_}
 use Rattle.words.proofs.Answers.{refuse, failed, passed}
 use Rattle.words.proofs.Tables.{split-rows}
 use Rattle.fast_compare.proofs.Checks.{rows-small}

@@ -1,9 +1,9 @@
 use native.Mathlib.Omega.{arith}
-use mathlib.Core.Path.{_≡_, refl, sym, _∙_}
+use mathlib.Core.Path.{sym, _∙_}
 use borrow.Author.Tests.{not-true, not-false}
 use Rattle.words.proofs.Answers.{refuse}
 use Rattle.words.proofs.Tables.{never}
-use Rattle.index_image.proofs.Bounds.{Rest, rest}
+use Rattle.index_image.proofs.Bounds.{rest}
 use borrow.Author.Needs.{needs}
 use Rattle.index_image.proofs.entries.entries_ok.Statement.{statement}
 use Rattle.index_image.proofs.entries.entries_ok.Tie as tie

@@ -1,9 +1,9 @@
 use native.Mathlib.Omega.{arith}
-use mathlib.Core.Path.{_≡_, refl, sym, ap, _∙_}
+use mathlib.Core.Path.{refl, sym, _∙_}
 use borrow.Author.Tests.{not-true, not-false}
 use Rattle.words.proofs.Answers.{refuse}
 use Rattle.words.proofs.Tables.{never}
-use Rattle.index_image.proofs.Bounds.{Inside, inside}
+use Rattle.index_image.proofs.Bounds.{inside}
 use borrow.Author.Needs.{needs}
 use Rattle.index_image.proofs.entries.entry_ok.Statement.{statement}
 use Rattle.index_image.proofs.entries.entry_ok.Tie as tie

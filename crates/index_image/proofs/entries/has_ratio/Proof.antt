@@ -1,10 +1,9 @@
 use native.Mathlib.Omega.{arith}
-use mathlib.Core.Path.{_≡_, refl, sym, ap, _∙_}
 use Prim.Native.Nat.{_+_, _*_}
 use Rattle.words.proofs.Answers.{refuse}
 use Rattle.words.specs.Words.{words}
 use Rattle.index_image.specs.Walk.{rowIn}
-use Rattle.index_image.proofs.Bounds.{Spots, spots}
+use Rattle.index_image.proofs.Bounds.{spots}
 use Rattle.index_image.proofs.Ratios.{lm-part, sign-part, ratio-part, other-index, same-ratio, parts-canonical}
 use borrow.Author.Needs.{needs}
 use Rattle.index_image.proofs.entries.has_ratio.Statement.{statement}

@@ -1,12 +1,11 @@
 use native.Mathlib.Omega.{arith}
-use mathlib.Core.Path.{_≡_, sym, _∙_}
-use Prim.Native.Nat.{_+_, _-_, _*_}
+use mathlib.Core.Path.{sym, _∙_}
 use borrow.Author.Tests.{not-true, not-false}
 use Rattle.words.proofs.Answers.{refuse}
 use Rattle.words.specs.Words.{words}
 use Rattle.words.specs.Tables.{part}
 use Rattle.words.proofs.Tables.{never}
-use Rattle.index_image.proofs.Slots.{part-words, FoundSlot, found-slot, masked-iff, range-words}
+use Rattle.index_image.proofs.Slots.{found-slot, masked-iff, range-words}
 use borrow.Author.Needs.{needs}
 use Rattle.index_image.proofs.entries.masked_slot.Statement.{statement}
 use Rattle.index_image.proofs.entries.masked_slot.Tie as tie

@@ -1,13 +1,13 @@
 use native.Mathlib.Omega.{arith}
-use mathlib.Core.Path.{_≡_, refl, sym, ap, _∙_}
-use Prim.Native.Nat.{ℕ, _+_, _*_, _/_, _<_}
+use mathlib.Core.Path.{sym, ap, _∙_}
+use Prim.Native.Nat.{ℕ, _/_, _<_}
 use borrow.Author.Tests.{not-true, not-false}
 use Rattle.words.proofs.Answers.{refuse}
 use Rattle.words.specs.Words.{words}
 use Rattle.words.proofs.Tables.{never}
 use Rattle.index_image.specs.Walk.{rowIn}
 use Rattle.index_image.specs.Door as door
-use Rattle.index_image.proofs.Bounds.{Spots, spots}
+use Rattle.index_image.proofs.Bounds.{spots}
 use borrow.Author.Needs.{needs}
 use Rattle.index_image.proofs.entries.ratio_ok.Statement.{statement}
 use Rattle.index_image.proofs.entries.ratio_ok.Tie as tie

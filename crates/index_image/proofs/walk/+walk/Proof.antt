@@ -8,7 +8,7 @@ use Rattle.words.specs.Words.{words}
 use Rattle.words.proofs.Tables.{never}
 use Rattle.index_image.proofs.Places.{node-room}
 use Rattle.index_image.proofs.Uppers.{words-put, uppers-put, put-back}
-use Prim.Native.Nat.{ℕ, _<_, _-_, _+_}
+use Prim.Native.Nat.{ℕ, _<_}
 use borrow.Fn.Kinds.{In}
 use borrow.Fn.PlainCycle.{Measures, is, falls, and}
 use Rattle.index_image.proofs.walk.walk.Reads as walk

@@ -1,5 +1,5 @@
 use native.Mathlib.Omega.{arith}
-use mathlib.Core.Path.{_≡_, sym, _∙_}
+use mathlib.Core.Path.{sym, _∙_}
 use Rattle.words.specs.Words.{words}
 use Rattle.words.proofs.Tables.{never}
 use Rattle.index_image.proofs.Places.{node-room}

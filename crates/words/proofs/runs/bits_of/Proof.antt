@@ -1,7 +1,7 @@
 use native.Mathlib.Omega.{arith}
 use mathlib.Core.Logic.{_↔_}
 use mathlib.Core.Path.{_≡_}
-use Prim.Native.Nat.{_+_, _-_, _≤_}
+use Prim.Native.Nat.{_-_, _≤_}
 use Rattle.words.specs.Words.{words}
 use Rattle.words.specs.Tables.{part, zeros}
 use Rattle.words.proofs.Laws.{length-words}
