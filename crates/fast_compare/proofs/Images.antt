@@ -11,7 +11,7 @@ use Rattle.words.specs.Tables.{part, zeros, table}
 use Rattle.words.proofs.Lists.{listed, getD-listed}
 use Rattle.words.proofs.Laws.{Words}
 use Rattle.words.proofs.Tables.{length-part, part-get, part-nil, part-cons, part-one, part-append, length-zeros, length-table, table-iff, row-fits, split-rows}
-use Rattle.words.proofs.Joined.{joined, Stand, renamed, named-back}
+use Rattle.words.proofs.Joined.{joined, Stand, moved, moved-back}
 use Rattle.words.proofs.Joined.{apart as pieces-apart, together as pieces-together}
 use Rattle.monomial.specs.Monomial.{front}
 use Rattle.monomial.specs.declared.monomial_ordering.CmpOrd.the-variants.{Less}
@@ -151,16 +151,16 @@ module _ (W : List ℕ) (m c n : ℕ) (head rows order : List ℕ) (few : n ≤ 
   apart e =
       let s = pieces-apart W 0 five (omega (arith, five-long)) (rw (five-long, whole) e) in
       record {
-        head-is = renamed W (s .0) refl lh;
-        rows-are = renamed W (s .1 .0) at1 lr;
-        rows-rest = renamed W (s .1 .1 .0) at2 (length-zeros ((c - n) * (m + 3)));
-        order-is = renamed W (s .1 .1 .1 .0) at3 lo;
-        order-rest = renamed W (s .1 .1 .1 .1) at4 (length-zeros (c - n));
+        head-is = moved W (s .0) refl lh;
+        rows-are = moved W (s .1 .0) at1 lr;
+        rows-rest = moved W (s .1 .1 .0) at2 (length-zeros ((c - n) * (m + 3)));
+        order-is = moved W (s .1 .1 .1 .0) at3 lo;
+        order-rest = moved W (s .1 .1 .1 .1) at4 (length-zeros (c - n));
       }
 
   pub together : Pieces W m c n head rows order → part W 0 (size m c) ≡ head ++ (rows ++ (zeros ((c - n) * (m + 3)) ++ (order ++ zeros (c - n))))
   together p =
-      let s : Stand W 0 five = (named-back W (p .head-is) refl lh, (named-back W (p .rows-are) at1 lr, (named-back W (p .rows-rest) at2 (length-zeros ((c - n) * (m + 3))), (named-back W (p .order-is) at3 lo, named-back W (p .order-rest) at4 (length-zeros (c - n)))))) in
+      let s : Stand W 0 five = (moved-back W (p .head-is) refl lh, (moved-back W (p .rows-are) at1 lr, (moved-back W (p .rows-rest) at2 (length-zeros ((c - n) * (m + 3))), (moved-back W (p .order-is) at3 lo, moved-back W (p .order-rest) at4 (length-zeros (c - n)))))) in
       rw (five-long, whole) at (pieces-together W 0 five (omega arith) (omega (arith, five-long)) s)
 
 pub four : (W : List ℕ) → 4 ≤ length W → part W 0 4 ≡ getD W 0 0 ∷ getD W 1 0 ∷ getD W 2 0 ∷ getD W 3 0 ∷ []

@@ -7,7 +7,7 @@ use native.Mathlib.Nat.{add-mul}
 use lib.ListN.{length, getD, set, length-append}
 use Rattle.words.specs.Tables.{part, zeros, table, over}
 use Rattle.words.proofs.Tables.{length-zeros, length-table, split-rows}
-use Rattle.words.proofs.Joined.{joined, Stand, apart, together, renamed, named-back, before, over-joined}
+use Rattle.words.proofs.Joined.{joined, Stand, apart, together, moved, moved-back, before, over-joined}
 use Rattle.monomial.specs.Monomial.{monomialOf, pow}
 use Rattle.monomial.proofs.Powers.{monomial-length, canonical-length}
 use Rattle.divmask.specs.Mask.{mask}
@@ -259,19 +259,19 @@ module _ (W : List ℕ) (st : State) (f : Fits st) (room : size (st .kind) (st .
   pieces-of is =
       let s = apart W 0 (tables st) fits (rw (whole st, image-length) is) in
       record {
-        head = renamed W (s .0) refl (header-length st);
-        maxima = renamed W (s .1 .0) at1 (f .maxima);
-        map = renamed W (s .1 .1 .0) at2 (f .map);
-        entries = renamed W (s .1 .1 .1 .0) at3 entries-long;
-        entries-rest = renamed W (s .1 .1 .1 .1 .0) at4 free;
-        permutation = renamed W (s .1 .1 .1 .1 .1 .0) at5 (f .all);
-        permutation-rest = renamed W (s .1 .1 .1 .1 .1 .1 .0) at6 free-places;
-        labels = renamed W (s .1 .1 .1 .1 .1 .1 .1 .0) at7 (f .label-words);
-        nodes-are = renamed W (s .1 .1 .1 .1 .1 .1 .1 .1 .0) at8 nodes-long;
-        nodes-rest = renamed W (s .1 .1 .1 .1 .1 .1 .1 .1 .1) at9 free-nodes;
+        head = moved W (s .0) refl (header-length st);
+        maxima = moved W (s .1 .0) at1 (f .maxima);
+        map = moved W (s .1 .1 .0) at2 (f .map);
+        entries = moved W (s .1 .1 .1 .0) at3 entries-long;
+        entries-rest = moved W (s .1 .1 .1 .1 .0) at4 free;
+        permutation = moved W (s .1 .1 .1 .1 .1 .0) at5 (f .all);
+        permutation-rest = moved W (s .1 .1 .1 .1 .1 .1 .0) at6 free-places;
+        labels = moved W (s .1 .1 .1 .1 .1 .1 .1 .0) at7 (f .label-words);
+        nodes-are = moved W (s .1 .1 .1 .1 .1 .1 .1 .1 .0) at8 nodes-long;
+        nodes-rest = moved W (s .1 .1 .1 .1 .1 .1 .1 .1 .1) at9 free-nodes;
       }
 
   pub of-pieces : Pieces W st → part W 0 (size k m c) ≡ encode st
   of-pieces p =
-      let s : Stand W 0 (tables st) = (named-back W (p .head) refl (header-length st), (named-back W (p .maxima) at1 (f .maxima), (named-back W (p .map) at2 (f .map), (named-back W (p .entries) at3 entries-long, (named-back W (p .entries-rest) at4 free, (named-back W (p .permutation) at5 (f .all), (named-back W (p .permutation-rest) at6 free-places, (named-back W (p .labels) at7 (f .label-words), (named-back W (p .nodes-are) at8 nodes-long, named-back W (p .nodes-rest) at9 free-nodes))))))))) in
+      let s : Stand W 0 (tables st) = (moved-back W (p .head) refl (header-length st), (moved-back W (p .maxima) at1 (f .maxima), (moved-back W (p .map) at2 (f .map), (moved-back W (p .entries) at3 entries-long, (moved-back W (p .entries-rest) at4 free, (moved-back W (p .permutation) at5 (f .all), (moved-back W (p .permutation-rest) at6 free-places, (moved-back W (p .labels) at7 (f .label-words), (moved-back W (p .nodes-are) at8 nodes-long, moved-back W (p .nodes-rest) at9 free-nodes))))))))) in
       rw (whole st, image-length) at (together W 0 (tables st) (omega arith) fits s)

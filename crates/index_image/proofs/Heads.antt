@@ -1,10 +1,11 @@
 -- The header of an image gives one shape. Assumes nothing.
 use mathlib.Core.Path.{_≡_, sym, _∙_}
-use mathlib.Core.List.{List}
+use mathlib.Core.List.{List, _∷_}
 use Prim.Native.Nat.{ℕ, _*_, _≤_, _<_}
 use native.Mathlib.Omega.{arith}
 use lib.ListN.{length, getD}
 use Rattle.words.specs.Tables.{part, zeros}
+use Rattle.words.proofs.Tables.{part-cons}
 use Rattle.index_image.specs.Shape as at
 use Rattle.index_image.specs.Head.{HeadOk, HeadIs}
 use Rattle.index_image.specs.declared.Shape.{Shape}
@@ -53,3 +54,15 @@ module _ (W : List ℕ) (len k v c e n : ℕ) (ek : k ≡ getD W 1 0) (ev : v �
     range = r;
     room = m;
   }
+
+-- the first words one by one
+pub words-of-head : (W : List ℕ) → 16 ≤ length W → part W 0 16 ≡ getD W 0 0 ∷ getD W 1 0 ∷ getD W 2 0 ∷ getD W 3 0 ∷ getD W 4 0 ∷ getD W 5 0 ∷ part W 6 10
+words-of-head W h =
+    rw (
+      part-cons W 0 15 (omega arith),
+      part-cons W 1 14 (omega arith),
+      part-cons W 2 13 (omega arith),
+      part-cons W 3 12 (omega arith),
+      part-cons W 4 11 (omega arith),
+      part-cons W 5 10 (omega arith),
+    )

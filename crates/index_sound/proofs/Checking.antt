@@ -34,7 +34,8 @@ use Rattle.index_sound.proofs.Labels.{MapIs, of-map, rows-count, row-at
 use Rattle.index_sound.proofs.Rows.{row-of, label-of}
 use Rattle.index_image.proofs.Shapes as shapes
 use Rattle.index_image.proofs.Shapes.{shapeOf, code-small, ratio-code, code-ratio}
-use Rattle.index_sound.proofs.Moves.{moved, moved-zeros, words-of-head}
+use Rattle.words.proofs.Joined.{moved, moved-zeros}
+use Rattle.index_image.proofs.Heads.{words-of-head}
 use Rattle.index_sound.proofs.Decoding.{labels-of-ratios}
 
 -- the words of a ratio index's label map

@@ -31,7 +31,8 @@ use Rattle.index_sound.proofs.EntryWords.{readEntry, EntryIs, no-ratio,
 use Rattle.index_sound.proofs.Labels.{MapIs, map-of, rows-count, row-at, label-at}
 use Rattle.index_sound.proofs.Rows.{row-of, label-of}
 use Rattle.index_image.proofs.Shapes as shapes
-use Rattle.index_sound.proofs.Moves.{moved, moved-zeros, words-of-head}
+use Rattle.words.proofs.Joined.{moved, moved-zeros}
+use Rattle.index_image.proofs.Heads.{words-of-head}
 
 at-listed : (n : ℕ) (f : ℕ → Entry) (i : ℕ) → i < n → entryAt (listed n f) i ≡ f i
 unfolding entryAt

@@ -7,8 +7,8 @@ pub mod EntryWords
 pub mod Labels
 pub mod Rows
 -- The whole:
--- `Shapes`: where its tables begin.
-pub mod Moves
+-- `Decoding`: what passes the checks is the image of a valid state. `Checking`: such an image passes. `Exact`: both together.
+-- `Unique`: one image, one state.
 pub mod Decoding
 pub mod Checking
 pub mod Exact

@@ -38,12 +38,15 @@ together W at (u ∷ v ∷ us) s h e =
     let p = together W (at + length u) (v ∷ us) (omega arith) (omega (arith, l)) (e .1) in
     ap (part W at) l ∙ part-append W at (length u) (length (joined (v ∷ us))) u (joined (v ∷ us)) (omega (arith, l)) refl .1 (e .0, p)
 
--- a piece by other names of its place and its length
-pub renamed : (W : List ℕ) {u : List ℕ} {a b n : ℕ} → part W a (length u) ≡ u → a ≡ b → length u ≡ n → part W b n ≡ u
-renamed W p e l = rw (← e, ← l) p
+-- a part by other names of its place and its length, and back
+pub moved : (W : List ℕ) {a b x y : ℕ} {u : List ℕ} → part W a x ≡ u → a ≡ b → x ≡ y → part W b y ≡ u
+moved W p e l = rw (← e, ← l) p
 
-pub named-back : (W : List ℕ) {u : List ℕ} {a b n : ℕ} → part W b n ≡ u → a ≡ b → length u ≡ n → part W a (length u) ≡ u
-named-back W p e l = rw (e, l) p
+pub moved-back : (W : List ℕ) {a b x y : ℕ} {u : List ℕ} → part W b y ≡ u → a ≡ b → x ≡ y → part W a x ≡ u
+moved-back W p e l = rw (e, l) p
+
+pub moved-zeros : (W : List ℕ) {a b x y : ℕ} → part W a x ≡ zeros x → a ≡ b → x ≡ y → part W b y ≡ zeros y
+moved-zeros W p e l = rw (← e, ← l) p
 
 -- ---- a write to one piece leaves the others
 -- where piece k begins
