@@ -66,11 +66,6 @@ count-two n p q i j hi hj d h pi pj qi qj =
     either k l false true e g t = rw (eqb-true k i g) qi
     either k l false false e g t = never t
 
--- where some number passes, the count is not 0
-pub count-some : (n : ℕ) (p : ℕ → Bool) (i : ℕ) → i < n → p i ≡ true → 0 < count n p
-count-some n p i h e =
-    omega (arith, count-lt n (λ k. false) p i h (λ k l z. never z) refl e)
-
 -- what is picked
 pub Picked : ℕ → (ℕ → Bool) → Option ℕ → Type 0
 Picked n p none = (i : ℕ) → i < n → p i ≡ false

@@ -6,8 +6,8 @@ use native.Mathlib.Omega.{arith}
 use lib.ListN.{length}
 use Rattle.words.specs.Words.{putW, pasteW}
 use Rattle.words.specs.Tables.{zeros, table}
-use Rattle.words.proofs.Laws.{pasteW-snoc}
-use Rattle.words.proofs.Tables.{zeros-nil, zeros-suc, zeros-add, putW-paste, pasteW-append}
+use Rattle.words.proofs.Laws.{pasteW-snoc, putW-paste}
+use Rattle.words.proofs.Tables.{zeros-nil, zeros-suc, zeros-add, pasteW-append}
 use Rattle.fast_compare.specs.Labels.{sorted}
 use Rattle.fast_compare.specs.Map.{Asked, Valid, empty}
 use Rattle.fast_compare.specs.Layout.{encode, size, Is}

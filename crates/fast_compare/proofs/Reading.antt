@@ -108,9 +108,6 @@ seek-start st q n e = record {
 }
 
 -- half way between lo and hi
-pub mid-low : (lo hi : ℕ) → lo < hi → lo ≤ lo + (hi - lo) / 2
-mid-low lo hi h = omega arith
-
 pub mid-high : (lo hi : ℕ) → lo < hi → lo + (hi - lo) / 2 < hi
 mid-high lo hi h = omega arith
 

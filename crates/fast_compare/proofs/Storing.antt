@@ -9,8 +9,8 @@ use lib.Seq.{length-take-le}
 use Rattle.words.specs.Kinds.{indexWord}
 use Rattle.words.specs.Words.{words, putW, pasteW}
 use Rattle.words.specs.Tables.{part, zeros, table, over}
-use Rattle.words.proofs.Laws.{Bytes, length-pasteW}
-use Rattle.words.proofs.Tables.{part-append, length-zeros, zeros-nil, zeros-suc, zeros-add, table-agree, table-suc, split-rows, row-fits, length-over, over-mid, over-inside, putW-paste, paste-own, paste-over}
+use Rattle.words.proofs.Laws.{Bytes, length-pasteW, putW-paste}
+use Rattle.words.proofs.Tables.{part-append, length-zeros, zeros-nil, zeros-suc, zeros-add, table-agree, table-suc, split-rows, row-fits, length-over, over-mid, over-inside, paste-own, paste-over}
 use Rattle.fast_compare.specs.Labels.{insertAt, below, sorted}
 use Rattle.fast_compare.specs.Map.{Value, cmp, Good, Row, State, row, value, label, Valid, stored}
 use Rattle.fast_compare.specs.declared.Comparer.the-variants.{New}

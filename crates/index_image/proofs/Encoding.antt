@@ -12,8 +12,8 @@ use Rattle.monomial.specs.Monomial.{monomialOf, pow}
 use Rattle.monomial.proofs.Powers.{monomial-length, canonical-length}
 use Rattle.divmask.specs.Mask.{mask}
 use Rattle.fast_compare.specs.Map as map
-use Rattle.kd_theory.specs.Bifurcate.{least, leastOf}
 use Rattle.kd_theory.specs.Tree.{Tree, leaf, branch, inorder, nodes, count}
+use Rattle.kd_theory.proofs.BifurcateLaws.{least-most}
 use Rattle.index_theory.specs.Entries.{Entry, entryAt}
 use Rattle.index_theory.specs.State.{Kind, monomials, ratioed, State, GoodEntry, powerIn}
 use Rattle.index_image.specs.Layout.{entryWidth, nodeWidth, labelsSize, mapAt, entriesAt, permutationAt, labelsAt, nodesAt, size, slot, header, signWords, entryWords, gcdPowers, nodeWords, treeWords, labelWords, encode}
@@ -41,22 +41,11 @@ entry-length k m xs l e h g = go k
     go monomials = length-append (slot m (e .lm)) _ ∙ omega (arith, lm)
     go ratioed = length-append (slot m (e .lm)) _ ∙ simp length-append (omega (arith, lm, sign))
 
--- the gcd of places has no variable that none of them has
-least-of-none : (f : ℕ → ℕ) → ((e : ℕ) → f e ≡ 0) → (x : ℕ) (xs : List ℕ) → leastOf f x xs ≡ 0
-unfolding leastOf
-least-of-none f h x [] = h x
-least-of-none f h x (y ∷ ys) = omega (arith, h x)
-
-least-none : (f : ℕ → ℕ) → ((e : ℕ) → f e ≡ 0) → (places : List ℕ) → least f places ≡ 0
-unfolding least
-least-none f h [] = refl
-least-none f h (x ∷ xs) = least-of-none f h x xs
-
 module _ (m : ℕ) (xs : List ℕ) (pw : ℕ → ℕ → ℕ) (few : m ≤ 64) (above : (v e : ℕ) → m ≤ v → pw v e ≡ 0) where
   pub node-length : (tag key skip : ℕ) (places : List ℕ) → length (nodeWords m xs pw tag key skip places) ≡ nodeWidth m
   unfolding nodeWords gcdPowers
   node-length tag key skip places =
-      let short = monomial-length 1 m (gcdPowers pw places) (omega arith) (λ v h. least-none (pw v) (λ e. above v e h) places) in
+      let short = monomial-length 1 m (gcdPowers pw places) (omega arith) (λ v h. omega (arith, least-most (pw v) 0 places (λ e. omega (arith, above v e h)))) in
       omega (arith, slot-length m (monomialOf 1 (gcdPowers pw places)) short)
 
   pub tree-length : (t : Tree) → length (treeWords m xs pw t) ≡ nodes t * nodeWidth m

@@ -1,7 +1,7 @@
 -- The powers of entries, their least ones, and the gcds that nodes have. Assumes nothing.
 use mathlib.Core.Path.{_≡_, refl, sym, _∙_}
 use mathlib.Core.List.{List, [], _∷_, _++_}
-use Prim.Native.Nat.{ℕ, min, _+_, _≤_, _<_}
+use Prim.Native.Nat.{ℕ, min, _≤_, _<_}
 use native.Mathlib.Omega.{arith}
 use native.Mathlib.Decide.{ℕ-discrete, decLe}
 use lib.ListN.{length, drop}
@@ -11,7 +11,7 @@ use Rattle.words.proofs.Tables.{part-nil}
 use Rattle.monomial.specs.Monomial.{front, pow, Canonical, monomialOf}
 use Rattle.monomial.specs.Operations.{powers, result}
 use Rattle.monomial.specs.declared.ordered_ops.Op.the-variants.{Gcd}
-use Rattle.monomial.proofs.Powers.{pow-nil, pow-ids, vars-skip, vars-nil, pow-monomial, canonical-monomial, monomial-length, monomial-ext, monomial-small, canonical-powers, absent-above, powers-in-range}
+use Rattle.monomial.proofs.Powers.{pow-nil, pow-ids, vars-skip, vars-nil, pow-monomial, canonical-monomial, monomial-ext, monomial-small, canonical-powers, absent-above, powers-in-range}
 use Rattle.monomial.proofs.Laws.{front-canonical}
 use Rattle.kd_theory.specs.Bifurcate.{leastOf, least}
 use Rattle.kd_theory.proofs.BifurcateLaws.{least-append, least-most}
@@ -69,9 +69,6 @@ module _ (W : List ℕ) (s : Shape) where
     gcd-canonical es =
         canonical-monomial 1 (s .variables) (gcdPowers (power W s) es) (omega arith) (omega arith) (omega arith)
         (λ v. record { low = omega arith; high = omega (arith, powers-small es v) }) (powers-absent es)
-
-    pub gcd-long : (es : List ℕ) → length (gcdOf W s es) ≤ s .variables + 1
-    gcd-long es = monomial-length 1 (s .variables) (gcdPowers (power W s) es) (omega arith) (powers-absent es)
 
     pub gcd-words : (es : List ℕ) → Words (gcdOf W s es)
     gcd-words es = monomial-small 1 (gcdPowers (power W s) es) (omega arith) (λ v. omega (arith, powers-small es v))

@@ -12,6 +12,16 @@ use Rattle.index_image.specs.declared.Shape.{Shape}
 use Rattle.index_image.specs.declared.head.Head.the-variants.{Image, Bad}
 use Rattle.index_image.proofs.Bounds.{inside}
 
+-- a header has one shape
+pub same-shape : (W : List ℕ) (len : ℕ) (s t : Shape) → HeadOk W len s → HeadOk W len t → s ≡ t
+same-shape W len s t h k = λ i. record {
+  kind = (sym (h .kind) ∙ k .kind) i;
+  variables = (sym (h .variables) ∙ k .variables) i;
+  capacity = (sym (h .capacity) ∙ k .capacity) i;
+  entries = (sym (h .entries) ∙ k .entries) i;
+  nodes = (sym (h .nodes) ∙ k .nodes) i;
+}
+
 -- an image has at least 64 bytes
 pub long-enough : (W : List ℕ) (len : ℕ) (s : Shape) → HeadOk W len s → 64 ≤ len
 long-enough W len s h = omega (arith, h .room, inside s (h .range) 0 (h .range .cap-from) .entry)

@@ -3,7 +3,7 @@ use mathlib.Core.Path.{_≡_, _∙_}
 use mathlib.Core.List.{List}
 use Prim.Native.Nat.{ℕ, _+_, _-_, _*_, _≤_, _<_}
 use native.Mathlib.Omega.{arith}
-use native.Mathlib.Nat.{mul-le-mul, one-mul, add-mul}
+use native.Mathlib.Nat.{one-mul, add-mul}
 use lib.ListN.{length, getD}
 use Rattle.words.specs.Words.{words}
 use Rattle.words.proofs.Laws.{length-words}
@@ -16,14 +16,6 @@ use Rattle.index_image.specs.Walk.{Ready}
 module _ (W : List ℕ) (s : Shape) (R : Ready W s) where
   abbrev r : at.InRange s
   r = R .range
-
-  -- an entry has at least a slot and a mask
-  pub width-from : s .variables + 2 ≤ at.entryWidth s
-  width-from =
-      omega (arith, mul-le-mul {n₁ = 1} {m₁ = s .variables + 2} {n₂ = s .kind + 1} {m₂ = s .variables + 2} (omega arith) (omega arith), one-mul (s .variables + 2))
-
-  pub width-ratio : s .kind ≡ 1 → at.entryWidth s ≡ 2 * s .variables + 6
-  width-ratio k = rw k (omega arith)
 
   pub entry-fits : (e : ℕ) → e < s .entries → at.entryAt s e + at.entryWidth s ≤ length W
   entry-fits e h = omega (arith, R .room, r .few, row-fits e (s .capacity) (at.entryWidth s) (omega (arith, r .few)))

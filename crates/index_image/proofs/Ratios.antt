@@ -10,10 +10,11 @@ use lib.Seq.{getD-drop, drop-drop}
 use Rattle.words.specs.Kinds.{kind, payload}
 use Rattle.words.specs.Words.{words}
 use Rattle.words.specs.Tables.{part}
-use Rattle.monomial.specs.Monomial.{front, found, PartAt, Canonical}
+use Rattle.monomial.specs.Monomial.{front, found, ended, Canonical}
 use Rattle.monomial.specs.Operations.{result, equal}
 use Rattle.monomial.specs.declared.ordered_ops.Op.{Op}
 use Rattle.monomial.proofs.Divisions.{equal-iff}
+use Rattle.monomial.proofs.Ends.{ended-found}
 use Rattle.monomial.proofs.Laws.{canonical-more}
 use Rattle.fast_compare.specs.Map as map
 use Rattle.fast_compare.specs.Layout as labels
@@ -29,25 +30,25 @@ found-words : (k m : ℕ) (bs : List ℕ) (i : ℕ) → words (found k m bs i) �
 unfolding found
 found-words k m bs i = part-words bs i (front k m 0 (drop i (words bs))) (4 * front k m 0 (drop i (words bs))) refl
 
--- the words of a part that is known to be a monomial or ratio
-part-words-at : (k m : ℕ) (bs : List ℕ) (i j : ℕ) (r : List ℕ) → i ≡ j → PartAt bs i r → (front k m 0 (drop j (words bs)) ≡ 0 → ⊥) → words r ≡ part (words bs) j (front k m 0 (drop j (words bs)))
-part-words-at k m bs i j r e p f = ap words (p k m (λ z. f (rw (← e) z)) ∙ ap (found k m bs) e) ∙ found-words k m bs j
+-- the words up to the end word, where a monomial or ratio stands
+ended-words : (k m : ℕ) (bs : List ℕ) (i j : ℕ) (r : List ℕ) → i ≡ j → r ≡ ended bs i → (front k m 0 (drop j (words bs)) ≡ 0 → ⊥) → words r ≡ part (words bs) j (front k m 0 (drop j (words bs)))
+ended-words k m bs i j r e p f = ap words (p ∙ ap (ended bs) e ∙ ended-found k m bs j f) ∙ found-words k m bs j
 
 module _ (bs : List ℕ) (s : Shape) (i a : ℕ) (ea : a ≡ at.entryAt s i) (r : List ℕ) where
-  pub lm-part : PartAt bs a r → (slotLength (words bs) (s .variables) (at.entryAt s i) ≡ 0 → ⊥) → words r ≡ lmIn (words bs) s i
+  pub lm-part : r ≡ ended bs a → (slotLength (words bs) (s .variables) (at.entryAt s i) ≡ 0 → ⊥) → words r ≡ lmIn (words bs) s i
   unfolding lmIn
-  lm-part p f = part-words-at 1 (s .variables) bs a (at.entryAt s i) r ea p f
+  lm-part p f = ended-words 1 (s .variables) bs a (at.entryAt s i) r ea p f
 
-  pub sign-part : PartAt bs (a + (s .variables + 3)) r → (slotLength (words bs) (s .variables) (at.entryAt s i + (s .variables + 3)) ≡ 0 → ⊥) → words r ≡ signIn (words bs) s i
+  pub sign-part : r ≡ ended bs (a + (s .variables + 3)) → (slotLength (words bs) (s .variables) (at.entryAt s i + (s .variables + 3)) ≡ 0 → ⊥) → words r ≡ signIn (words bs) s i
   unfolding signIn slotIn
-  sign-part p f = part-words-at 1 (s .variables) bs (a + (s .variables + 3)) (at.entryAt s i + (s .variables + 3)) r (rw ea) p f
+  sign-part p f = ended-words 1 (s .variables) bs (a + (s .variables + 3)) (at.entryAt s i + (s .variables + 3)) r (rw ea) p f
 
 -- the ratio of the label map's row at word x
-pub ratio-part : (bs : List ℕ) (s : Shape) (j x : ℕ) (r : List ℕ) → x ≡ at.labelsAt s + labels.rowAt (s .variables) j → PartAt bs (x + 1) r
+pub ratio-part : (bs : List ℕ) (s : Shape) (j x : ℕ) (r : List ℕ) → x ≡ at.labelsAt s + labels.rowAt (s .variables) j → r ≡ ended bs (x + 1)
     → labels.RowOk (labelsIn (words bs) s) (s .variables) (labels.rowAt (s .variables) j) → words r ≡ part (words bs) (x + 1) (front 2 (s .variables) 0 (drop (x + 1) (words bs)))
 ratio-part bs s j x r e p o =
     let q : at.labelsAt s + (labels.rowAt (s .variables) j + 1) ≡ x + 1 = omega arith in
-    part-words-at 2 (s .variables) bs (x + 1) (x + 1) r refl p
+    ended-words 2 (s .variables) bs (x + 1) (x + 1) r refl p
     (rw (drop-drop (labels.rowAt (s .variables) j + 1) (at.labelsAt s) (words bs), q) at (o .some))
 
 -- the value of a row, by the words of the whole image

@@ -8,7 +8,7 @@ use native.Mathlib.Omega.{arith}
 use lib.ListN.{length, getD, drop, length-append, take-append-drop}
 use lib.Seq.{take-at}
 use Rattle.words.specs.Tables.{part, zeros}
-use Rattle.words.proofs.Tables.{length-zeros, part-cons, part-append}
+use Rattle.words.proofs.Tables.{part-cons, part-append}
 use Rattle.monomial.specs.Monomial.{front, pow}
 use Rattle.monomial.proofs.Laws.{canonical-front}
 use Rattle.divmask.specs.Mask.{mask}
@@ -19,7 +19,8 @@ use Rattle.index_image.specs.Shape as at
 use Rattle.index_image.specs.Layout.{slot, gcdPowers, nodeWords, treeWords}
 use Rattle.index_image.specs.Walk.{power, label, mapMaxima, Ready, Sides, Ordered, TreeAt}
 use Rattle.index_image.specs.Rows.{monomialIn, NodeOk, gcdOf}
-use Rattle.index_image.proofs.Gcds.{gcd-canonical, gcd-long, gcd-pow}
+use Rattle.index_image.proofs.Encoding.{node-length, tree-length}
+use Rattle.index_image.proofs.Gcds.{power-absent, gcd-canonical, gcd-pow}
 use Rattle.index_image.proofs.Places.{node-fits}
 
 pub some-node : (t : Tree) → 1 ≤ nodes t
@@ -76,16 +77,10 @@ module _ (W : List ℕ) (s : Shape) (few : s .variables ≤ 64) where
   mask-of es = mask-ext (s .variables) (mapMaxima W s) (gcdPowers (power W s) es) (pow 1 (gcdOf W s es)) (λ v h. sym (gcd-pow W s few es v))
 
   length-row : (tag key skip : ℕ) (es : List ℕ) → length (rowOf tag key skip es) ≡ s .variables + 6
-  unfolding nodeWords slot
-  length-row tag key skip es =
-      let g = gcdOf W s es in
-      omega (arith, length-append g (zeros (s .variables + 1 - length g)), length-zeros (s .variables + 1 - length g), gcd-long W s few es)
+  length-row tag key skip es = node-length (s .variables) (mapMaxima W s) (power W s) few (power-absent W s) tag key skip es
 
   length-tree : (t : Tree) → length (treeOf t) ≡ nodes t * (s .variables + 6)
-  unfolding treeWords nodes
-  length-tree (leaf es) = length-row 0 0 0 es ∙ omega arith
-  length-tree (branch d k l r) =
-      simp length-append (omega (arith, length-row (suc d) k (nodes l) (inorder l ++ inorder r), length-tree l, length-tree r, suc-mul (nodes l + nodes r) (s .variables + 6), add-mul (nodes l) (nodes r) (s .variables + 6)))
+  length-tree t = tree-length (s .variables) (mapMaxima W s) (power W s) few (power-absent W s) t
 
   row-iff : (at tag key skip : ℕ) (es : List ℕ) → at + (s .variables + 6) ≤ length W
       → (part W at (s .variables + 6) ≡ rowOf tag key skip es) ↔ RowIs W s at tag key skip es

@@ -364,7 +364,7 @@ fn count_at(image: &[u8], s: Shape, k: usize) -> usize
     words::get(image, s.node_at(k) + 2) as usize
 }
 
-// The number of entries that the row behind row k has, which is at word `at`.
+// The number of entries of the row behind row k, which is found from row k's own word `at`.
 fn count_behind(image: &[u8], s: Shape, k: usize, at: usize) -> usize
     requires { ⌜ Ready (words (now image)) s ⌝ }
     requires { ⌜ (k + 1 < s .nodes) × (at ≡ shape.nodeAt s k) ⌝ }

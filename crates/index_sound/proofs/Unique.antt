@@ -20,7 +20,7 @@ use Rattle.index_image.specs.declared.Shape.{Shape}
 use Rattle.index_image.proofs.Encoding.{Fits, node-length, tree-length}
 use Rattle.index_sound.proofs.Labels.{MapIs, is-map}
 use Rattle.index_image.proofs.Shapes.{shapeOf, ratio-code}
-use Rattle.index_sound.proofs.Exact.{same-shape}
+use Rattle.index_image.proofs.Heads.{same-shape}
 use Rattle.index_sound.proofs.Checking as of
 
 -- ---- the rows of a tree and its entries in order give the tree

@@ -177,14 +177,6 @@ unfoldable pub answers : State → List Call → List ℕ
 answers st [] = []
 answers st (c ∷ cs) = step st c .answer ∷ answers (step st c .state) cs
 
--- what a list of calls gives, from its words: the answer words, and the state that it leaves
-pub record Ran : Type 0 where
-  pub answers : List ℕ
-  pub state : State
-
-abbrev pub run : State → List ℕ → Ran
-run st ws = record { answers = answers st (calls ws); state = after st (calls ws) }
-
 -- ---- held: what was held at the start, and the entry of each insert to which no question says no
 unfoldable pub accepted : ℕ → List Entry → Asked → List Entry
 accepted c H (refused n) = H

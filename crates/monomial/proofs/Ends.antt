@@ -1,54 +1,55 @@
 -- The end of a canonical monomial or ratio, looked for by its end word alone. Assumes nothing.
-use mathlib.Core.Path.{_≡_, sym, _∙_}
+use mathlib.Core.Path.{_≡_, refl, sym, _∙_}
 use mathlib.Core.List.{List, [], _∷_}
 use mathlib.Core.Logic.{_⊎_, inl, inr}
-use Prim.Native.Nat.{ℕ, _+_, _-_, _*_, _≤_}
+use Prim.Native.Nat.{ℕ, _+_, _≤_}
 use native.Mathlib.Omega.{arith}
-use lib.ListN.{take, drop}
+use native.Mathlib.Decide.{ℕ-discrete}
+use lib.ListN.{length, drop, length-drop}
+use borrow.Author.Tests.{eq-eqb, ne-eqb}
 use Rattle.words.specs.Kinds.{kind, payload, ident}
 use Rattle.words.specs.Words.{words}
-use Rattle.monomial.specs.Monomial.{front, found, LengthAt, PartAt}
+use Rattle.monomial.specs.Monomial.{front, found, toEnd, ended}
 use Rattle.monomial.proofs.Canon.{IsVar, var-is, front-none, front-end, front-var, front-cases}
 
--- the words from `at` up to i are variables of what stands at word `at`: the rest of its words stands at word i
-pub record Ahead (W : List ℕ) (at i : ℕ) : Type 0 where
-  pub rest : (k m : ℕ) → (front k m 0 (drop at W) ≡ 0 → ⊥) → (b : ℕ) × (front k b (i - at) (drop i W) ≡ front k m 0 (drop at W))
+-- ---- by the first word
+pub end-none : (n : ℕ) → toEnd n [] ≡ 0
+unfolding toEnd
+end-none n = refl
 
-pub ahead-start : (W : List ℕ) (at : ℕ) → Ahead W at at
-ahead-start W at = record { rest = λ k m h. (m, let z : at - at ≡ 0 = omega arith in rw z) }
+pub end-here : (n w : ℕ) (ws : List ℕ) → kind w ≡ 0 → toEnd n (w ∷ ws) ≡ n + 1
+unfolding toEnd
+end-here n w ws h = simp (eq-eqb _ _ h)
 
-module _ (W : List ℕ) (at i w : ℕ) (h : at ≤ i) (e : drop i W ≡ w ∷ drop (i + 1) W) (a : Ahead W at i) where
-  pub ahead-more : (kind w ≡ 0 → ⊥) → Ahead W at (i + 1)
-  ahead-more n = record { rest = λ k m s. more k m s (a .rest k m s) }
-    where
-      more : (k m : ℕ) → (front k m 0 (drop at W) ≡ 0 → ⊥) → (b : ℕ) × (front k b (i - at) (drop i W) ≡ front k m 0 (drop at W))
-          → (b : ℕ) × (front k b (i + 1 - at) (drop (i + 1) W) ≡ front k m 0 (drop at W))
-      more k m s (b, q) = go (front-cases k b (i - at) w (drop (i + 1) W) (λ z. s (sym q ∙ rw e z)))
-        where
-          go : ((kind w ≡ 0) × (payload w ≡ i - at)) ⊎ ((kind w ≡ 0 → ⊥) × IsVar k b w) → (b : ℕ) × (front k b (i + 1 - at) (drop (i + 1) W) ≡ front k m 0 (drop at W))
-          go (inl z) = absurd (n (z .0))
-          go (inr z) =
-              let c : i + 1 - at ≡ i - at + 1 = omega arith in
-              (ident w, rw c (sym (front-var k b (i - at) w (drop (i + 1) W) (z .0) (var-is k b w (z .1))) ∙ rw (← e) q))
+pub end-past : (n w : ℕ) (ws : List ℕ) → (kind w ≡ 0 → ⊥) → toEnd n (w ∷ ws) ≡ toEnd (n + 1) ws
+unfolding toEnd
+end-past n w ws h = simp (ne-eqb _ _ h)
 
-  pub ahead-end : kind w ≡ 0 → LengthAt W at (i - at + 1)
-  ahead-end z k m s = end (a .rest k m s)
-    where
-      end : (b : ℕ) × (front k b (i - at) (drop i W) ≡ front k m 0 (drop at W)) → i - at + 1 ≡ front k m 0 (drop at W)
-      end (b, q) = go (front-cases k b (i - at) w (drop (i + 1) W) (λ y. s (sym q ∙ rw e y)))
-        where
-          go : ((kind w ≡ 0) × (payload w ≡ i - at)) ⊎ ((kind w ≡ 0 → ⊥) × IsVar k b w) → i - at + 1 ≡ front k m 0 (drop at W)
-          go (inl y) = sym (front-end k b (i - at) w (drop (i + 1) W) (y .0) (y .1)) ∙ rw (← e) q
-          go (inr y) = absurd (y .0 z)
+-- ---- it lies within the list
+end-short : (n : ℕ) (ws : List ℕ) → toEnd n ws ≤ n + length ws
+end-short n [] = rw (end-none n) (omega arith)
+end-short n (w ∷ ws) =
+    elim (ℕ-discrete (kind w) 0) [
+      | yes z ↦ rw (end-here n w ws z) (omega arith)
+      | no z ↦ rw (end-past n w ws z) (omega (arith, end-short (n + 1) ws))
+    ]
 
--- no end word, so nothing stands there
-pub ahead-none : (W : List ℕ) (at i : ℕ) → drop i W ≡ [] → Ahead W at i → LengthAt W at 0
-ahead-none W at i e a k m s = let q = a .rest k m s in absurd (s (sym (q .1) ∙ rw e (front-none k (q .0) (i - at))))
+pub end-within : (at n : ℕ) (W : List ℕ) → n ≡ toEnd 0 (drop at W) → (n ≡ 0 → ⊥) → at + n ≤ length W
+end-within at n W e some = omega (arith, end-short 0 (drop at W), length-drop at W)
 
--- the bytes of that many words, or that nothing stands there
-pub part-at : (s : List ℕ) (at n : ℕ) → LengthAt (words s) at n → PartAt s at (take (4 * at + 4 * n - 4 * at) (drop (4 * at) s))
-unfolding found
-part-at s at n h k m f = let e : 4 * at + 4 * n - 4 * at ≡ 4 * n = omega arith in rw (e, h k m f)
+-- ---- what is canonical ends there
+front-ends : (k b n : ℕ) (ws : List ℕ) → (front k b n ws ≡ 0 → ⊥) → front k b n ws ≡ toEnd n ws
+front-ends k b n [] h = absurd (h (front-none k b n))
+front-ends k b n (w ∷ ws) h = go (front-ends k (ident w) (n + 1) ws) (front-cases k b n w ws h)
+  where
+    go : ((front k (ident w) (n + 1) ws ≡ 0 → ⊥) → front k (ident w) (n + 1) ws ≡ toEnd (n + 1) ws)
+        → ((kind w ≡ 0) × (payload w ≡ n)) ⊎ ((kind w ≡ 0 → ⊥) × IsVar k b w) → front k b n (w ∷ ws) ≡ toEnd n (w ∷ ws)
+    go rec (inl (z, e)) = front-end k b n w ws z e ∙ sym (end-here n w ws z)
+    go rec (inr (z, v)) =
+        let e = front-var k b n w ws z (var-is k b w v) in
+        e ∙ rec (λ q. h (e ∙ q)) ∙ sym (end-past n w ws z)
 
-pub no-part : (s : List ℕ) (at n : ℕ) → n ≡ 0 → LengthAt (words s) at n → PartAt s at []
-no-part s at n z h k m f = absurd (f (sym (h k m f) ∙ z))
+-- so the bytes up to there are the canonical monomial or ratio that starts at word `at`, if one does
+pub ended-found : (k m : ℕ) (s : List ℕ) (at : ℕ) → (front k m 0 (drop at (words s)) ≡ 0 → ⊥) → ended s at ≡ found k m s at
+unfolding ended found
+ended-found k m s at h = rw (front-ends k m 0 (drop at (words s)) h)

@@ -39,12 +39,14 @@ lent k m s = ltb 0 (length s) && eqb (4 * front k m 0 (words s)) (length s)
 unfoldable pub found : ℕ → ℕ → List ℕ → ℕ → List ℕ
 found k m s at = take (4 * front k m 0 (drop at (words s))) (drop (4 * at) s)
 
--- the same where one is known to stand there, whatever its kind and number of variables: how many words it has, and its bytes
-abbrev pub LengthAt : List ℕ → ℕ → ℕ → Type 0
-LengthAt W at r = (k m : ℕ) → (front k m 0 (drop at W) ≡ 0 → ⊥) → r ≡ front k m 0 (drop at W)
+-- how many words there are up to the first end word, with it, where n went by; 0 where there is none
+unfoldable pub toEnd : ℕ → List ℕ → ℕ
+toEnd n [] = 0
+toEnd n (w ∷ ws) = cond (eqb (kind w) 0) (n + 1) (toEnd (n + 1) ws)
 
-abbrev pub PartAt : List ℕ → ℕ → List ℕ → Type 0
-PartAt s at r = (k m : ℕ) → (front k m 0 (drop at (words s)) ≡ 0 → ⊥) → r ≡ found k m s at
+-- the bytes from word `at` up to the first end word, with it: where a canonical monomial or ratio starts there, its bytes
+unfoldable pub ended : List ℕ → ℕ → List ℕ
+ended s at = take (4 * toEnd 0 (drop at (words s))) (drop (4 * at) s)
 
 -- what a list of words says of variable v: the bits of its power, or that it is absent
 unfoldable pub find : ℕ → List ℕ → ℕ → Power

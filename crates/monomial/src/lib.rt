@@ -9,7 +9,7 @@ ghost use mathlib.Core.Bool.{cond};
 ghost use Prim.Native.Nat.{_+_, _*_, _<_, _≤_};
 ghost use lib.ListN.{length, drop};
 ghost use Rattle.words.specs.Words.{words, pasteW};
-ghost use Rattle.monomial.specs.Monomial.{Canonical, isVar, front, lent, found, LengthAt, PartAt, find, pow};
+ghost use Rattle.monomial.specs.Monomial.{Canonical, isVar, front, lent, found, toEnd, ended, find, pow};
 ghost use Rattle.monomial.specs.Operations as ops;
 
 // What a monomial says of a variable.
@@ -113,10 +113,9 @@ pub fn ratio_at(s: &[u8], at: usize, variables: u32) -> &[u8]
     canonical_at(s, at, 2, variables)
 }
 
-// How many words the canonical monomial or ratio at word `at` has, where one is known to stand: its end word alone is looked for.
-fn known_words(s: &[u8], at: usize) -> usize
-    ensures { λ r. ⌜ LengthAt (words (now (s .entry))) at r ⌝ }
-    ensures { λ r. ⌜ ((r ≡ 0 → ⊥) → 4 * (at + r) ≤ length (now (s .entry))) ⌝ }
+// How many words there are from word `at` up to the first end word, with it; 0 where there is none.
+fn words_to_end(s: &[u8], at: usize) -> usize
+    ensures { λ r. ⌜ r ≡ toEnd 0 (drop at (words (now (s .entry)))) ⌝ }
 {
     let end = s.len() / 4;
     let mut i = at;
@@ -129,11 +128,11 @@ fn known_words(s: &[u8], at: usize) -> usize
     0
 }
 
-// The part of s that is the canonical monomial or ratio at word `at`, where one is known to stand.
+// The part of s from word `at` up to the first end word: the monomial or ratio there, where it is known to be canonical.
 pub fn known_at(s: &[u8], at: usize) -> &[u8]
-    ensures { λ r. ⌜ PartAt (now (s .entry)) at (now r) ⌝ }
+    ensures { λ r. ⌜ now r ≡ ended (now (s .entry)) at ⌝ }
 {
-    let n = known_words(s, at);
+    let n = words_to_end(s, at);
     if n == 0 {
         return &s[0..0];
     }

@@ -130,10 +130,6 @@ pub table-suc : (n : ℕ) (f : ℕ → List ℕ) → table (suc n) f ≡ table n
 unfolding table
 table-suc n f = refl
 
-pub table-none : (f : ℕ → List ℕ) → table 0 f ≡ []
-unfolding table
-table-none f = refl
-
 -- row i of n rows of w words ends within them
 pub row-fits : (i n w : ℕ) → i < n → i * w + w ≤ n * w
 row-fits i n w h = omega (arith, mul-le-mul-right {m = suc i} {n = n} w h, suc-mul i w)
@@ -204,10 +200,6 @@ pasteW-cons bs i ws w h =
     let el : 4 * i + 4 * length (w ∷ ws) ≡ 4 * (i + 1) + 4 * length ws = omega arith in
     let wb : bytes (w ∷ ws) ≡ bytes (w ∷ []) ++ bytes ws = bytes-append (w ∷ []) ws in
     putW-split (p ++ r) i w full ∙ rw (tk, dr, el, wb) (simp append-assoc)
-
--- one word stored
-pub putW-paste : (bs : List ℕ) (i w : ℕ) → 4 * i + 4 ≤ length bs → putW bs i w ≡ pasteW bs i (w ∷ [])
-putW-paste bs i w h = ap (λ (l : List ℕ). putW l i w) (sym (pasteW-nil bs (i + 1))) ∙ pasteW-cons bs i [] w (omega arith)
 
 -- ---- bytes and words
 -- bytes with room hold their own first n words

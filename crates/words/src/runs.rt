@@ -1,4 +1,4 @@
-// Runs of words in byte slices: tested for zeros, cleared, copied in, moved up by one.
+// Runs of words in byte slices: tested for zeros, cleared, copied in, moved up.
 ghost use mathlib.Core.Path.{_≡_};
 ghost use mathlib.Core.Bool.{true};
 ghost use mathlib.Core.List.{_∷_};

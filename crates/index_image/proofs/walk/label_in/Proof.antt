@@ -1,6 +1,7 @@
 use native.Mathlib.Omega.{arith}
 use Rattle.words.specs.Words.{words}
-use Rattle.index_image.proofs.Places.{width-ratio, entry-room, label-room}
+use Rattle.index_image.proofs.Bounds.{ratio-width}
+use Rattle.index_image.proofs.Places.{entry-room, label-room}
 use Rattle.index_image.proofs.Reading.{label-at}
 use borrow.Author.Needs.{needs}
 use Rattle.index_image.proofs.walk.label_in.Statement.{statement}
@@ -25,11 +26,11 @@ add-get c = search needs
 
 -- src/walk.rt:64:31
 add-get-2 : tie.Need-add-get-2
-add-get-2 c = omega (arith, entry-room (c .before .before .args .image .now) (c .before .before .args .s) (c .before .before .pre .0) (c .before .before .args .e) (c .before .before .pre .1 .1), width-ratio (words (c .before .before .args .image .now)) (c .before .before .args .s) (c .before .before .pre .0) (c .before .before .pre .1 .0), c .entry-at .ensures)
+add-get-2 c = omega (arith, entry-room (c .before .before .args .image .now) (c .before .before .args .s) (c .before .before .pre .0) (c .before .before .args .e) (c .before .before .pre .1 .1), ratio-width (c .before .before .args .s) (c .before .before .pre .0 .range) (c .before .before .pre .1 .0), c .entry-at .ensures)
 
 -- src/walk.rt:64:13
 get-requires : tie.Need-get-requires
-get-requires c κs = omega (arith, entry-room (c .before .before .args .image .now) (c .before .before .args .s) (c .before .before .pre .0) (c .before .before .args .e) (c .before .before .pre .1 .1), width-ratio (words (c .before .before .args .image .now)) (c .before .before .args .s) (c .before .before .pre .0) (c .before .before .pre .1 .0), c .entry-at .ensures)
+get-requires c κs = omega (arith, entry-room (c .before .before .args .image .now) (c .before .before .args .s) (c .before .before .pre .0) (c .before .before .args .e) (c .before .before .pre .1 .1), ratio-width (c .before .before .args .s) (c .before .before .pre .0 .range) (c .before .before .pre .1 .0), c .entry-at .ensures)
 
 -- src/walk.rt:64:13
 cast-r : tie.Need-cast-r

@@ -1,3 +1,5 @@
+use mathlib.Core.Path.{_∙_}
+use Rattle.monomial.proofs.Ends.{ended-found}
 use Rattle.index_image.proofs.Reading.{taken}
 use borrow.Author.Needs.{needs}
 use Rattle.index_image.proofs.walk.monomial_in.Statement.{statement}
@@ -12,7 +14,7 @@ known-at-requires c κs = search needs
 
 -- src/walk.rt:29:1
 returns : tie.Need-returns
-returns c = taken (c .before .before .args .image .now) (c .before .before .args .s .variables) (c .before .before .args .g) (c .known-at .result .now) ((c .known-at .ensures) 1 (c .before .before .args .s .variables) (c .before .before .pre))
+returns c = taken (c .before .before .args .image .now) (c .before .before .args .s .variables) (c .before .before .args .g) (c .known-at .result .now) (c .known-at .ensures ∙ ended-found 1 (c .before .before .args .s .variables) (c .before .before .args .image .now) (c .before .before .args .g) (c .before .before .pre))
 
 pub monomial-in-spec : {M : Type 1} → statement M
 monomial-in-spec = tie.close (tie.spec known-at-requires returns)
