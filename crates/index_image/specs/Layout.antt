@@ -1,6 +1,5 @@
 -- The image of an index: one valid state, one list of words. docs/LAYOUT.md has the tables. Assumes nothing.
 use mathlib.Core.Path.{_≡_}
-use mathlib.Core.Option.{Option, none, some}
 use mathlib.Core.List.{List, [], _∷_, _++_}
 use Prim.Native.Nat.{ℕ, suc, _+_, _-_, _*_, _≤_}
 use lib.ListN.{length}
@@ -9,13 +8,12 @@ use Rattle.words.specs.Words.{words}
 use Rattle.words.specs.Tables.{part, zeros, table}
 use Rattle.monomial.specs.Monomial.{pow, monomialOf}
 use Rattle.divmask.specs.Mask.{mask}
-use Rattle.fast_compare.specs.Labels.{known}
 use Rattle.fast_compare.specs.Map as map
 use Rattle.fast_compare.specs.Layout as labels
 use Rattle.kd_theory.specs.Bifurcate.{least}
 use Rattle.kd_theory.specs.Tree.{Tree, leaf, branch, inorder, nodes}
 use Rattle.index_theory.specs.Entries.{Entry, entryAt, ratioOf}
-use Rattle.index_theory.specs.State.{Kind, monomials, ratioed, State, Valid, powerIn}
+use Rattle.index_theory.specs.State.{Kind, monomials, ratioed, State, Valid, powerIn, rowOf}
 
 -- ---- the numbers of words. A monomial has a slot of m + 1 words: its words, then zeros.
 -- an entry: lm and its mask; in a ratio index also index, signature monomial, its mask, and the row of its ratio in the label map
@@ -66,14 +64,6 @@ slot m ws = ws ++ zeros (m + 1 - length ws)
 -- layout number, index kind, variables, capacity, entries, nodes; the rest is kept for later use
 unfoldable pub header : State → List ℕ
 header st = 1 ∷ code (st .kind) ∷ st .variables ∷ st .capacity ∷ length (st .entries) ∷ nodes (st .tree) ∷ zeros 10
-
-unfoldable pub rowOr : Option ℕ → ℕ
-rowOr none = 0
-rowOr (some i) = i
-
--- the row of a value in the label map
-unfoldable pub rowOf : map.State → map.Value → ℕ
-rowOf l v = rowOr (known map.cmp (map.value (l .rows)) (length (l .rows)) v)
 
 -- what a ratio index adds to an entry
 unfoldable pub signWords : Kind → ℕ → List ℕ → map.State → Entry → List ℕ

@@ -16,8 +16,8 @@ use Rattle.divmask.specs.Mask.{mask}
 use Rattle.fast_compare.specs.Map as map
 use Rattle.fast_compare.proofs.Images.{part-is}
 use Rattle.index_theory.specs.Entries.{Entry, one, ratioOf}
-use Rattle.index_theory.specs.State.{Kind, monomials, ratioed, GoodEntry}
-use Rattle.index_image.specs.Layout.{entryWidth, code, slot, rowOf, signWords, entryWords}
+use Rattle.index_theory.specs.State.{Kind, monomials, ratioed, GoodEntry, rowOf}
+use Rattle.index_image.specs.Layout.{entryWidth, code, slot, signWords, entryWords}
 use Rattle.index_image.specs.Shape as at
 use Rattle.index_image.specs.Walk.{lmIn, rowIn, mapMaxima}
 use Rattle.index_image.specs.Door.{slotLength, slotIn, MaskedSlot, indexIn, signIn}

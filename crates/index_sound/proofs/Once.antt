@@ -7,7 +7,7 @@ use native.Mathlib.Decide.{decLe}
 use lib.Dec.{eqb}
 use lib.ListN.{length, getD, length-append}
 use borrow.Author.Tests.{eq-eqb, ne-eqb}
-use Rattle.kd_theory.specs.Bag.{one, occurs, _∈_, Same}
+use Rattle.kd_theory.specs.Bag.{indicator, occurs, _∈_, Same}
 use Rattle.kd_theory.proofs.BagLaws.{occurs-nil, here, there, at-cons}
 use Rattle.index_theory.specs.State.{upTo}
 use Rattle.index_theory.proofs.Places.{upTo-in, in-upTo}
@@ -56,18 +56,18 @@ sum-ones (suc n) f h k j l =
     ]
 
 -- ---- how often the places below n occur, added up
-same-one : (j x : ℕ) → j ≡ x → one (eqb j x) ≡ 1
+same-one : (j x : ℕ) → j ≡ x → indicator (eqb j x) ≡ 1
 same-one j x h = rw (eq-eqb j x h)
 
-other-one : (j x : ℕ) → (j ≡ x → ⊥) → one (eqb j x) ≡ 0
+other-one : (j x : ℕ) → (j ≡ x → ⊥) → indicator (eqb j x) ≡ 0
 other-one j x h = rw (ne-eqb j x h)
 
-total-one : (n x : ℕ) → x < n → sumTo n (λ j. one (eqb j x)) ≡ 1
+total-one : (n x : ℕ) → x < n → sumTo n (λ j. indicator (eqb j x)) ≡ 1
 unfolding sumTo
 total-one zero x h = absurd (omega arith)
 total-one (suc n) x h =
     elim (decLe n x) [
-      | yes y ↦ omega (arith, sum-zero n (λ j. one (eqb j x)) (λ j l. other-one j x (λ z. omega arith)), same-one n x (omega arith))
+      | yes y ↦ omega (arith, sum-zero n (λ j. indicator (eqb j x)) (λ j l. other-one j x (λ z. omega arith)), same-one n x (omega arith))
       | no y ↦ omega (arith, total-one n x (omega arith), other-one n x (λ z. omega arith))
     ]
 
@@ -75,7 +75,7 @@ total : (n : ℕ) (p : List ℕ) → ((e : ℕ) → e ∈ p → e < n) → sumTo
 unfolding occurs
 total n [] h = sum-zero n (λ j. 0) (λ j l. refl)
 total n (x ∷ p) h =
-    sum-add n (λ j. one (eqb j x)) (λ j. occurs j p)
+    sum-add n (λ j. indicator (eqb j x)) (λ j. occurs j p)
     ∙ omega (arith, total-one n x (h x (here x p)), total n p (λ e m. h e (there e x p m)))
 
 -- n places below n, all of them, are each there once

@@ -9,8 +9,7 @@ use Rattle.fast_compare.specs.Map as map
 use Rattle.fast_compare.proofs.Ranks.{self}
 use Rattle.fast_compare.proofs.Neighbours.{none-known, some-known}
 use Rattle.fast_compare.proofs.Maps.{cmp-lawful}
-use Rattle.index_theory.specs.State.{labelIn, labelOf}
-use Rattle.index_image.specs.Layout.{rowOr, rowOf}
+use Rattle.index_theory.specs.State.{rowOr, rowOf, labelOf}
 
 -- a value that row j has is known as row j, and has its label
 module _ (l : map.State) (val : map.Valid l) (v : map.Value) (j : ℕ) (h : j < length (l .rows)) (e : map.value (l .rows) j ≡ v) where
@@ -35,5 +34,5 @@ module _ (l : map.State) (val : map.Valid l) (v : map.Value) (j : ℕ) (h : j < 
   row-of = rw known-row
 
   pub label-of : labelOf l v ≡ map.label (l .rows) j
-  unfolding labelOf labelIn
-  label-of = rw known-row
+  unfolding labelOf
+  label-of = rw row-of

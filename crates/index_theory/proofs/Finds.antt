@@ -1,105 +1,106 @@
--- What each search finds, among the entries of a valid state. Assumes nothing.
+-- What a query finds, among the entries of a valid state. Assumes nothing.
 use mathlib.Core.Path.{_≡_, refl, sym, ap, _∙_}
 use mathlib.Core.Bool.{Bool, true, false}
 use mathlib.Core.Option.{Option, none, some}
 use mathlib.Core.List.{List}
-use Prim.Native.Nat.{ℕ, _+_, _≤_, _<_}
+use mathlib.Core.Logic.{_⊎_, inl, inr}
+use Prim.Native.Nat.{ℕ, suc, _+_, _≤_, _<_}
 use native.Mathlib.Omega.{arith}
 use lib.ListN.{length}
 use Rattle.fast_compare.specs.Map as map
-use Rattle.kd_theory.specs.Bag.{_∈_, any, Step, foldUntil}
-use Rattle.kd_theory.specs.Tree.{Tree, inorder, Path, Keys, Ordered, Out, Split, Splits, Kept, Safe, start, search}
-use Rattle.kd_theory.specs.Queries.{hit, largest, reducer, IsLargest, IsReducer}
-use Rattle.kd_theory.proofs.QueryLaws.{hit-ignores, largest-ignores, reducer-ignores, search-keeps, search-folds, contained-is, largest-is, reducer-is}
+use Rattle.kd_theory.specs.Bag.{_∈_, Step, foldUntil}
+use Rattle.kd_theory.specs.Tree.{Tree, inorder, count, Path, Keys, All, Ordered, Out, Split, Splits, Kept, Safe, Ignores, start, outcome, search, searchAt, searchFor}
+use Rattle.kd_theory.specs.Bifurcate.{markNumber, ratioKey, ratioMark, bifurcate}
+use Rattle.kd_theory.specs.Queries.{hit, largest, reducer}
+use Rattle.kd_theory.specs.Fixed.{AverageKey, RatioKey, IsSplit, Differ, Grown, Run, Settled}
+use Rattle.kd_theory.proofs.QueryLaws.{hit-ignores, largest-ignores, reducer-ignores, search-keeps, search-folds}
+use Rattle.kd_theory.proofs.FixedLaws.{bifurcate-is, bifurcate-equal, number-keyed, ratio-keyed, grown-search, Picks, hit-picks, reducer-picks, largest-picks, settled-search, run-search}
 use Rattle.index_theory.specs.Entries.{Entry, entryAt, ratioOf, above}
-use Rattle.index_theory.specs.State.{Kind, monomials, ratioed, State, Valid, keys, keysOf}
-use Rattle.index_theory.specs.Searches.{split, contained, findReducer, findHigh, findLow, testSingular, isDivisor, isReducer, isRegular, isHigh, isLow, isSingular}
-use Rattle.index_theory.proofs.Orders.{above-order}
+use Rattle.index_theory.specs.State.{Kind, monomials, ratioed, State, Valid, Place, LabelsOf, powerIn, ratiosOf, dims, keys, keysOf, splitOf}
+use Rattle.index_theory.specs.Searches.{Query, containment, reducing, high, low, singular, kindFor, split, sought, path, process, find, isDivisor, isReducer, isRegular, isHigh, isLow, isSingular, ratioAt}
+use Rattle.index_theory.specs.Claims.{numberIn, SplitIs}
+use Rattle.index_theory.proofs.Orders.{labels-agree}
 use Rattle.index_theory.proofs.Prunes.{splits-kind, contained-safe, reducer-safe, high-safe, low-safe, singular-safe}
 
--- what a search answered and left: the same entries in order, and the processor folded over them
-pub record Searched (st : State) {A : Type 0} (proc : A → ℕ → Step A) (a : A) (o : Out A) : Type 0 where
-  pub kept : Kept (keys st) (st .tree) (o .tree)
-  pub folds : o .acc ≡ foldUntil proc (start a) (inorder (o .tree)) .acc
+-- ---- of a query, whatever it is
+-- no side that is left out has an entry that is looked for
+safe-kind : (st : State) (r : Query) → Safe (keysOf (kindFor r) (st .variables) (st .entries) (st .labels)) (path st r) (sought (st .entries) r)
+unfolding path sought
+safe-kind st (containment q) = contained-safe st (st .variables) q
+safe-kind st (reducing v q) = reducer-safe st (st .variables + 1) v q
+safe-kind st (high v q) = high-safe st (st .variables + 1) v q
+safe-kind st (low i s) = low-safe st (st .variables + 1) i s
+safe-kind st (singular i s l) = singular-safe st (st .variables + 1) i s l
 
--- safe for the keys of a state of that kind
 safe-for : (x y : Kind) (m : ℕ) (es : List Entry) (l : map.State) → x ≡ y → (disc : ℕ → ℕ → List ℕ → Path) (p : ℕ → Bool) → Safe (keysOf y m es l) disc p → Safe (keysOf x m es l) disc p
 safe-for x y m es l e disc p h = rw e h
+
+ignores : (es : List Entry) (r : Query) → Ignores (process es r) (sought es r)
+unfolding process sought
+ignores es (containment q) = hit-ignores _
+ignores es (reducing v q) = reducer-ignores _ _
+ignores es (high v q) = largest-ignores _ _ _
+ignores es (low i s) = largest-ignores _ _ _
+ignores es (singular i s l) = hit-ignores _
+
+picks : (es : List Entry) (r : Query) → Picks (process es r)
+unfolding process
+picks es (containment q) = hit-picks _
+picks es (reducing v q) = reducer-picks _ _
+picks es (high v q) = largest-picks _ _ _
+picks es (low i s) = largest-picks _ _ _
+picks es (singular i s l) = hit-picks _
 
 module _ (st : State) (val : Valid st) where
   splits : Splits (keys st) (split st)
   splits = splits-kind (st .kind) (st .variables) (st .entries) (st .labels) (val .maxima-good .some) (val .labels-valid) (val .labels-of)
 
-  -- any search keeps the entries
-  pub keeps : (disc : ℕ → ℕ → List ℕ → Path) {A : Type 0} (proc : A → ℕ → Step A) (a : A) → Kept (keys st) (st .tree) (search (split st) disc proc (st .tree) a .tree)
-  keeps disc proc a = search-keeps (keys st) (split st) splits disc (st .tree) (val .ordered) proc a
+  -- a split is as the Rust fixes it
+  split-is : (k : Kind) → LabelsOf k (st .entries) (st .labels) → (n : ℕ) (es : List ℕ) → All (keysOf k (st .variables) (st .entries) (st .labels) .good) es
+      → (s : Split) → splitOf k (st .variables) (st .entries) (st .labels) n es ≡ some s → SplitIs k st n es s
+  split-is monomials of n es g s w =
+      bifurcate-is (Place (st .entries)) (powerIn (st .entries)) AverageKey markNumber (number-keyed (Place (st .entries)) (powerIn (st .entries))) (st .variables) n es g s w
+  split-is ratioed of n es g s w =
+      let R = ratiosOf (st .entries) (st .labels) in
+      bifurcate-is (Place (st .entries)) (ratioKey R) (RatioKey R) (ratioMark R) (ratio-keyed R (labels-agree (st .entries) (st .labels) (val .labels-valid) of)) (st .variables + 1) n es g s w
 
-  module _ (k : st .kind ≡ monomials) where
-    safe : {disc : ℕ → ℕ → List ℕ → Path} {p : ℕ → Bool} → Safe (keysOf monomials (st .variables) (st .entries) (st .labels)) disc p → Safe (keys st) disc p
-    safe {disc} {p} h = safe-for (st .kind) monomials (st .variables) (st .entries) (st .labels) k disc p h
+  split-none : (k : Kind) (n : ℕ) (es : List ℕ) → splitOf k (st .variables) (st .entries) (st .labels) n es ≡ none
+      → (d : ℕ) → d < dims k (st .variables) → Differ (numberIn k st) d es → ⊥
+  split-none monomials n es w = bifurcate-equal (powerIn (st .entries)) markNumber (st .variables) n es w
+  split-none ratioed n es w = let R = ratiosOf (st .entries) (st .labels) in bifurcate-equal (ratioKey R) (ratioMark R) (st .variables + 1) n es w
 
-    pub contained-finds : (q : List ℕ) → contained st q .acc ≡ any (isDivisor (st .entries) q) (inorder (st .tree))
-    unfolding contained
-    contained-finds q =
-        contained-is (keys st) (split st) splits _ (isDivisor (st .entries) q) (safe (contained-safe st (st .variables) q)) (st .tree) (val .ordered)
+  module _ (r : Query) where
+    pub find-kept : Kept (keys st) (st .tree) (find st r .tree)
+    unfolding find
+    find-kept = search-keeps (keys st) (split st) splits (path st r) (st .tree) (val .ordered) (process (st .entries) r) none
 
-    pub contained-searched : (q : List ℕ) → Searched st (hit (isDivisor (st .entries) q)) false (contained st q)
-    unfolding contained
-    contained-searched q = record {
-      kept = keeps _ _ _;
-      folds = search-folds (keys st) (split st) splits _ (isDivisor (st .entries) q) (safe (contained-safe st (st .variables) q)) (st .tree) (val .ordered) _ (hit-ignores _) false;
-    }
+    -- what is found is the processor folded over all entries, in the order of the tree after the search
+    pub find-folds : st .kind ≡ kindFor r → find st r .acc ≡ foldUntil (process (st .entries) r) (start none) (inorder (find st r .tree)) .acc
+    unfolding find
+    find-folds k =
+        search-folds (keys st) (split st) splits (path st r) (sought (st .entries) r)
+        (safe-for (st .kind) (kindFor r) (st .variables) (st .entries) (st .labels) k (path st r) (sought (st .entries) r) (safe-kind st r))
+        (st .tree) (val .ordered) (process (st .entries) r) (ignores (st .entries) r) none
 
-  module _ (k : st .kind ≡ ratioed) where
-    safe′ : {disc : ℕ → ℕ → List ℕ → Path} {p : ℕ → Bool} → Safe (keysOf ratioed (st .variables) (st .entries) (st .labels)) disc p → Safe (keys st) disc p
-    safe′ {disc} {p} h = safe-for (st .kind) ratioed (st .variables) (st .entries) (st .labels) k disc p h
+    pub find-grown : Grown (SplitIs (st .kind) st) 0 (st .tree) (find st r .tree)
+    unfolding find search searchAt
+    find-grown =
+        grown-search (keys st) (split st) splits (SplitIs (st .kind) st) (split-is (st .kind) (val .labels-of)) (path st r) (process (st .entries) r)
+        (suc (count (st .tree))) 0 (st .tree) none (val .ordered)
 
-    module _ (v : map.Value) (q : List ℕ) where
-      pub reducer-finds : IsReducer (isReducer (st .entries) v q) (isRegular (st .entries) v) (inorder (st .tree)) (findReducer st v q .acc)
-      unfolding findReducer
-      reducer-finds =
-          reducer-is (keys st) (split st) splits _ (isReducer (st .entries) v q) (safe′ (reducer-safe st (st .variables + 1) v q)) (st .tree) (val .ordered) (isRegular (st .entries) v)
+    pub find-runs : Run (numberIn (st .kind) st) (dims (st .kind) (st .variables)) (SplitIs (st .kind) st) (path st r) (process (st .entries) r) true 0 (st .tree) (start none) (find st r .tree) (outcome (find st r))
+    unfolding find search searchAt
+    find-runs =
+        run-search (keys st) (numberIn (st .kind) st) (dims (st .kind) (st .variables)) (split st) splits (SplitIs (st .kind) st) (split-is (st .kind) (val .labels-of)) (split-none (st .kind)) (path st r) (process (st .entries) r)
+        (suc (count (st .tree))) 0 (st .tree) none (val .ordered) (omega arith)
 
-      pub reducer-searched : Searched st (reducer (isReducer (st .entries) v q) (isRegular (st .entries) v)) none (findReducer st v q)
-      unfolding findReducer
-      reducer-searched = record {
-        kept = keeps _ _ _;
-        folds = search-folds (keys st) (split st) splits _ (isReducer (st .entries) v q) (safe′ (reducer-safe st (st .variables + 1) v q)) (st .tree) (val .ordered) _ (reducer-ignores _ _) none;
-      }
-
-      pub high-finds : IsLargest (isHigh (st .entries) v q) above (λ e. ratioOf (entryAt (st .entries) e)) (inorder (st .tree)) (findHigh st v q .acc)
-      unfolding findHigh
-      high-finds =
-          largest-is (keys st) (split st) splits _ (isHigh (st .entries) v q) (safe′ (high-safe st (st .variables + 1) v q)) (st .tree) (val .ordered) above above-order (λ e. ratioOf (entryAt (st .entries) e))
-
-      pub high-searched : Searched st (largest (isHigh (st .entries) v q) above (λ e. ratioOf (entryAt (st .entries) e))) none (findHigh st v q)
-      unfolding findHigh
-      high-searched = record {
-        kept = keeps _ _ _;
-        folds = search-folds (keys st) (split st) splits _ (isHigh (st .entries) v q) (safe′ (high-safe st (st .variables + 1) v q)) (st .tree) (val .ordered) _ (largest-ignores _ _ _) none;
-      }
-
-    module _ (i : ℕ) (s : List ℕ) where
-      pub low-finds : IsLargest (isLow (st .entries) i s) above (λ e. ratioOf (entryAt (st .entries) e)) (inorder (st .tree)) (findLow st i s .acc)
-      unfolding findLow
-      low-finds =
-          largest-is (keys st) (split st) splits _ (isLow (st .entries) i s) (safe′ (low-safe st (st .variables + 1) i s)) (st .tree) (val .ordered) above above-order (λ e. ratioOf (entryAt (st .entries) e))
-
-      pub low-searched : Searched st (largest (isLow (st .entries) i s) above (λ e. ratioOf (entryAt (st .entries) e))) none (findLow st i s)
-      unfolding findLow
-      low-searched = record {
-        kept = keeps _ _ _;
-        folds = search-folds (keys st) (split st) splits _ (isLow (st .entries) i s) (safe′ (low-safe st (st .variables + 1) i s)) (st .tree) (val .ordered) _ (largest-ignores _ _ _) none;
-      }
-
-      pub singular-finds : (l : List ℕ) → testSingular st i s l .acc ≡ any (isSingular (st .entries) i s l) (inorder (st .tree))
-      unfolding testSingular
-      singular-finds l =
-          contained-is (keys st) (split st) splits _ (isSingular (st .entries) i s l) (safe′ (singular-safe st (st .variables + 1) i s l)) (st .tree) (val .ordered)
-
-      pub singular-searched : (l : List ℕ) → Searched st (hit (isSingular (st .entries) i s l)) false (testSingular st i s l)
-      unfolding testSingular
-      singular-searched l = record {
-        kept = keeps _ _ _;
-        folds = search-folds (keys st) (split st) splits _ (isSingular (st .entries) i s l) (safe′ (singular-safe st (st .variables + 1) i s l)) (st .tree) (val .ordered) _ (hit-ignores _) false;
-      }
+    pub find-settled : (b : ℕ) → find st r .acc ≡ some b → Settled (numberIn (st .kind) st) (dims (st .kind) (st .variables)) b (find st r .tree)
+    unfolding find search searchAt
+    find-settled b e =
+        go (settled-search (numberIn (st .kind) st) (dims (st .kind) (st .variables)) (split st) (split-none (st .kind)) (path st r) (process (st .entries) r) (picks (st .entries) r) b
+        (suc (count (st .tree))) 0 (st .tree) none e)
+      where
+        go : (none ≡ some b) ⊎ Settled (numberIn (st .kind) st) (dims (st .kind) (st .variables)) b (searchFor (split st) (path st r) (process (st .entries) r) (suc (count (st .tree))) 0 (st .tree) none .tree)
+            → Settled (numberIn (st .kind) st) (dims (st .kind) (st .variables)) b (searchFor (split st) (path st r) (process (st .entries) r) (suc (count (st .tree))) 0 (st .tree) none .tree)
+        go (inl w) = absurd (let z : _≡_ {A = ℕ} 0 1 = cc in omega arith)
+        go (inr w) = w

@@ -23,12 +23,12 @@ use Rattle.kd_theory.proofs.TreeLaws.{ordered-grows}
 use Rattle.kd_theory.proofs.InsertLaws.{insert-adds, insert-ordered}
 use Rattle.index_theory.specs.Entries.{Entry, entryAt, quotientOf, ratioOf, above}
 use Rattle.index_theory.specs.State.{Kind, monomials, ratioed, State, Valid, GoodEntry, OfKind, LabelsOf, Place, powerIn, ratiosOf, keys, keysOf, upTo, opened}
-use Rattle.index_theory.specs.Searches.{contained, findReducer, findHigh, findLow, testSingular}
-use Rattle.index_theory.specs.Calls.{Call, Request, insertion, containment, reducing, high, low, singular, Asked, refused, asks, ask, relabel, labelled, tracked, numbered, inserted, Done, withTree, serve, reply, step, after}
+use Rattle.index_theory.specs.Searches.{Query, find}
+use Rattle.index_theory.specs.Calls.{Call, Request, insertion, query, GoodRequest, Asked, refused, asks, ask, relabel, labelled, tracked, numbered, inserted, Done, withTree, serve, reply, step, after}
 use Rattle.index_theory.proofs.Places.{entry-old, entry-new, length-more, insert-count}
-use Rattle.index_theory.proofs.Asks.{Fits, fits}
+use Rattle.index_theory.proofs.Asks.{fits}
 use Rattle.index_theory.proofs.Labels.{rows-few, Settled, relabelled}
-use Rattle.index_theory.proofs.Finds.{keeps}
+use Rattle.index_theory.proofs.Finds.{find-kept}
 
 -- ---- a search changes the tree alone
 pub tree-valid : (st : State) → Valid st → (t : Tree) → Kept (keys st) (st .tree) t → Valid (withTree st t)
@@ -87,7 +87,7 @@ module _ (st : State) (val : Valid st) (e : Entry) (good : GoodEntry (st .variab
   x = numbered (length (st .entries)) e
 
   -- the ratio of a canonical entry is a canonical value
-  value-good : map.Good (st .variables) (ratioOf e)
+  pub value-good : map.Good (st .variables) (ratioOf e)
   unfolding quotientOf
   value-good = record {
     index-small = good .index-small;
@@ -185,19 +185,15 @@ module _ (st : State) (val : Valid st) (e : Entry) (good : GoodEntry (st .variab
       good-here ratioed h = h
 
 -- ---- calls
-pub serve-valid : (st : State) → Valid st → (r : Request) → Fits (st .kind) (st .variables) r → Valid (serve st r .state)
-unfolding serve contained findReducer findHigh findLow testSingular
+pub serve-valid : (st : State) → Valid st → (r : Request) → GoodRequest (st .kind) (st .variables) r → Valid (serve st r .state)
+unfolding serve
 serve-valid st val (insertion e) f = go (ltb (length (st .entries)) (st .capacity)) refl
   where
     go : (b : Bool) → ltb (length (st .entries)) (st .capacity) ≡ b
         → Valid (cond {A = Done} b (record { answer = 1073741824 + length (st .entries); state = inserted st e }) (record { answer = 1342177288; state = st }) .state)
     go true w = inserted-valid st val e (f .0) (ltb-true (length (st .entries)) (st .capacity) w) (f .1)
     go false w = val
-serve-valid st val (containment q) f = tree-valid st val _ (keeps st val _ _ _)
-serve-valid st val (reducing v q) f = tree-valid st val _ (keeps st val _ _ _)
-serve-valid st val (high v q) f = tree-valid st val _ (keeps st val _ _ _)
-serve-valid st val (low i s) f = tree-valid st val _ (keeps st val _ _ _)
-serve-valid st val (singular i s l) f = tree-valid st val _ (keeps st val _ _ _)
+serve-valid st val (query r) f = tree-valid st val _ (find-kept st val r)
 
 pub step-valid : (st : State) → Valid st → (c : Call) → Valid (step st c .state)
 unfolding step reply

@@ -1,20 +1,21 @@
 -- Call lists: the words of calls, the questions of each call in order, what a call answers, and what it leaves. Assumes nothing.
+use mathlib.Core.Path.{_≡_}
 use mathlib.Core.Bool.{Bool, true, false, cond}
 use mathlib.Core.Option.{Option, none, some}
 use mathlib.Core.List.{List, [], _∷_, _++_}
-use Prim.Native.Nat.{ℕ, _+_}
+use Prim.Native.Nat.{ℕ, _+_, _<_}
 use lib.Dec.{eqb, ltb}
 use lib.ListN.{length, take, drop}
-use Rattle.words.specs.Kinds.{kind, payload, answerWord, refusalWord}
-use Rattle.monomial.specs.Monomial.{front}
+use Rattle.words.specs.Kinds.{kind, payload, indexWord, callWord, answerWord, refusalWord}
+use Rattle.monomial.specs.Monomial.{front, Canonical}
 use Rattle.divmask.specs.Tracker.{updated}
 use Rattle.fast_compare.specs.Map as map
 use Rattle.fast_compare.specs.declared.Comparer.{Comparer}
 use Rattle.fast_compare.specs.declared.Comparer.the-variants.{Known, New, Full, NoLabel}
-use Rattle.kd_theory.specs.Tree.{Tree, Out, insert}
+use Rattle.kd_theory.specs.Tree.{Tree, insert}
 use Rattle.index_theory.specs.Entries.{Entry, entryAt, one, ratioOf}
-use Rattle.index_theory.specs.State.{Kind, monomials, ratioed, State, keysOf}
-use Rattle.index_theory.specs.Searches.{contained, findReducer, findHigh, findLow, testSingular, isRegular}
+use Rattle.index_theory.specs.State.{Kind, monomials, ratioed, State, GoodEntry, OfKind, keysOf}
+use Rattle.index_theory.specs.Searches.{Query, containment, reducing, high, low, singular, kindFor, isRegular, find}
 
 -- ---- the calls of a list: a kind 6 word and all words up to the next
 pub record Call : Type 0 where
@@ -29,13 +30,58 @@ unfoldable pub calls : List ℕ → List Call
 calls [] = []
 calls (w ∷ ws) = cond (eqb (kind w) 6) (record { number = payload w; body = bodyOf ws } ∷ calls ws) (calls ws)
 
+-- the calls of a list of words; nothing where it is not empty and does not start with kind 6
+unfoldable pub listed : List ℕ → Option (List Call)
+listed [] = some []
+listed (w ∷ ws) = cond (eqb (kind w) 6) (some (calls (w ∷ ws))) none
+
 -- ---- what is asked
 pub data Request : Type 0 where
   insertion : Entry → Request
-  containment : List ℕ → Request
-  reducing high : map.Value → List ℕ → Request
-  low : ℕ → List ℕ → Request
-  singular : ℕ → List ℕ → List ℕ → Request
+  query : Query → Request
+
+-- its call number, and the words of its body
+abbrev pub queryNumber : Query → ℕ
+queryNumber (containment q) = 1
+queryNumber (reducing v q) = 3
+queryNumber (high v q) = 4
+queryNumber (low i s) = 5
+queryNumber (singular i s l) = 6
+
+abbrev pub queryWords : Query → List ℕ
+queryWords (containment q) = q
+queryWords (reducing v q) = indexWord (v .index) ∷ v .ratio ++ q
+queryWords (high v q) = indexWord (v .index) ∷ v .ratio ++ q
+queryWords (low i s) = indexWord i ∷ s
+queryWords (singular i s l) = indexWord i ∷ s ++ l
+
+abbrev pub insertNumber : Kind → ℕ
+insertNumber monomials = 0
+insertNumber ratioed = 2
+
+abbrev pub insertWords : Kind → Entry → List ℕ
+insertWords monomials e = e .lm
+insertWords ratioed e = indexWord (e .index) ∷ e .sign ++ e .lm
+
+abbrev pub numberOf : Kind → Request → ℕ
+numberOf k (insertion e) = insertNumber k
+numberOf k (query r) = queryNumber r
+
+abbrev pub wordsOf : Kind → Request → List ℕ
+wordsOf k (insertion e) = insertWords k e
+wordsOf k (query r) = queryWords r
+
+-- its parts are canonical, and its kind is the index's. An entry has no number yet.
+abbrev pub GoodQuery : ℕ → Query → Type 0
+GoodQuery m (containment q) = Canonical 1 m q
+GoodQuery m (reducing v q) = map.Good m v × Canonical 1 m q
+GoodQuery m (high v q) = map.Good m v × Canonical 1 m q
+GoodQuery m (low i s) = (i < 268435456) × Canonical 1 m s
+GoodQuery m (singular i s l) = (i < 268435456) × Canonical 1 m s × Canonical 1 m l
+
+abbrev pub GoodRequest : Kind → ℕ → Request → Type 0
+GoodRequest k m (insertion e) = GoodEntry m e × OfKind k e × (e .number ≡ 0)
+GoodRequest k m (query r) = (k ≡ kindFor r) × GoodQuery m r
 
 pub data Asked : Type 0 where
   refused : ℕ → Asked
@@ -60,17 +106,17 @@ plain q = record { number = 0; index = 0; sign = one; lm = q }
 unfoldable pub askMonomials : ℕ → ℕ → List ℕ → Asked
 askMonomials m n body =
     cond (eqb n 0) (withPart 1 m body (λ q ws. atEnd ws (insertion (plain q))))
-    (cond (eqb n 1) (withPart 1 m body (λ q ws. atEnd ws (containment q)))
+    (cond (eqb n 1) (withPart 1 m body (λ q ws. atEnd ws (query (containment q))))
     (refused 6))
 
 -- the body of a call to a ratio index
 unfoldable pub askRatioed : ℕ → ℕ → List ℕ → Asked
 askRatioed m n body =
     cond (eqb n 2) (withIndex body (λ i ws. withPart 1 m ws (λ s ws. withPart 1 m ws (λ l ws. atEnd ws (insertion (record { number = 0; index = i; sign = s; lm = l }))))))
-    (cond (eqb n 3) (withIndex body (λ i ws. withPart 2 m ws (λ r ws. withPart 1 m ws (λ q ws. atEnd ws (reducing (record { index = i; ratio = r }) q)))))
-    (cond (eqb n 4) (withIndex body (λ i ws. withPart 2 m ws (λ r ws. withPart 1 m ws (λ q ws. atEnd ws (high (record { index = i; ratio = r }) q)))))
-    (cond (eqb n 5) (withIndex body (λ i ws. withPart 1 m ws (λ s ws. atEnd ws (low i s))))
-    (cond (eqb n 6) (withIndex body (λ i ws. withPart 1 m ws (λ s ws. withPart 1 m ws (λ l ws. atEnd ws (singular i s l)))))
+    (cond (eqb n 3) (withIndex body (λ i ws. withPart 2 m ws (λ r ws. withPart 1 m ws (λ q ws. atEnd ws (query (reducing (record { index = i; ratio = r }) q))))))
+    (cond (eqb n 4) (withIndex body (λ i ws. withPart 2 m ws (λ r ws. withPart 1 m ws (λ q ws. atEnd ws (query (high (record { index = i; ratio = r }) q))))))
+    (cond (eqb n 5) (withIndex body (λ i ws. withPart 1 m ws (λ s ws. atEnd ws (query (low i s)))))
+    (cond (eqb n 6) (withIndex body (λ i ws. withPart 1 m ws (λ s ws. withPart 1 m ws (λ l ws. atEnd ws (query (singular i s l))))))
     (refused 6)))))
 
 -- questions 6 and 7
@@ -120,21 +166,21 @@ pub record Done : Type 0 where
 
 -- a search changes the tree alone: it may split leaves
 abbrev pub withTree : State → Tree → State
-withTree st t = record {
-  kind = st .kind;
-  variables = st .variables;
-  capacity = st .capacity;
-  maxima = st .maxima;
-  mapMaxima = st .mapMaxima;
-  entries = st .entries;
+withTree u t = record {
+  kind = u .kind;
+  variables = u .variables;
+  capacity = u .capacity;
+  maxima = u .maxima;
+  mapMaxima = u .mapMaxima;
+  entries = u .entries;
   tree = t;
-  labels = st .labels;
+  labels = u .labels;
 }
 
 -- yes 1, no 0
-abbrev pub yes : Bool → ℕ
-yes true = answerWord 1
-yes false = answerWord 0
+unfoldable pub yes : Option ℕ → ℕ
+yes none = answerWord 0
+yes (some e) = answerWord 1
 
 -- none 0, else the entry's number + 1
 unfoldable pub found : List Entry → Option ℕ → ℕ
@@ -146,8 +192,13 @@ unfoldable pub foundReducer : List Entry → map.Value → Option ℕ → ℕ
 foundReducer es v none = answerWord 0
 foundReducer es v (some e) = answerWord (entryAt es e .number + 1 + cond (isRegular es v e) 0 134217728)
 
-abbrev pub answering : State → {A : Type 0} → (A → ℕ) → Out A → Done
-answering st f o = record { answer = f (o .acc); state = withTree st (o .tree) }
+-- the answer word of what a query finds
+abbrev pub told : List Entry → Query → Option ℕ → ℕ
+told es (containment q) a = yes a
+told es (reducing v q) a = foundReducer es v a
+told es (high v q) a = found es a
+told es (low i s) a = found es a
+told es (singular i s l) a = yes a
 
 -- question 8 is asked of an insert: entries below capacity
 unfoldable pub serve : State → Request → Done
@@ -155,11 +206,7 @@ serve st (insertion e) =
     cond (ltb (length (st .entries)) (st .capacity))
     (record { answer = answerWord (length (st .entries)); state = inserted st e })
     (record { answer = refusalWord 8; state = st })
-serve st (containment q) = answering st yes (contained st q)
-serve st (reducing v q) = answering st (foundReducer (st .entries) v) (findReducer st v q)
-serve st (high v q) = answering st (found (st .entries)) (findHigh st v q)
-serve st (low i s) = answering st (found (st .entries)) (findLow st i s)
-serve st (singular i s l) = answering st yes (testSingular st i s l)
+serve st (query r) = let o = find st r in record { answer = told (st .entries) r (o .acc); state = withTree st (o .tree) }
 
 unfoldable pub reply : State → Asked → Done
 reply st (refused n) = record { answer = refusalWord n; state = st }
@@ -181,11 +228,7 @@ answers st (c ∷ cs) = step st c .answer ∷ answers (step st c .state) cs
 unfoldable pub accepted : ℕ → List Entry → Asked → List Entry
 accepted c H (refused n) = H
 accepted c H (asks (insertion e)) = cond (ltb (length H) c) (H ++ (numbered (length H) e ∷ [])) H
-accepted c H (asks (containment q)) = H
-accepted c H (asks (reducing v q)) = H
-accepted c H (asks (high v q)) = H
-accepted c H (asks (low i s)) = H
-accepted c H (asks (singular i s l)) = H
+accepted c H (asks (query r)) = H
 
 unfoldable pub held : Kind → ℕ → ℕ → List Entry → List Call → List Entry
 held k m c H [] = H

@@ -4,13 +4,13 @@ use mathlib.Core.Path.{_≡_, refl, sym, _∙_, ap}
 use mathlib.Core.Bool.{Bool, true, false, not}
 use mathlib.Core.Option.{Option, none, some}
 use mathlib.Core.List.{List, [], _∷_, _++_}
-use Prim.Native.Nat.{ℕ, zero, suc, _+_, _*_, _<_, _≤_}
+use Prim.Native.Nat.{ℕ, zero, suc, _+_, _-_, _*_, _<_, _≤_}
 use native.Mathlib.Omega.{arith}
 use lib.Dec.{ltb}
 use lib.ListN.{length, length-append}
 use Rattle.kd_theory.specs.Bag.{occurs, _∈_, Same, Some, Step, foldUntil}
 use Rattle.kd_theory.specs.Tree.{Keys, All, Tree, leaf, branch, inorder, count, nodes, Path, goesLess, goesOther, Split, Out, insert, Sides, Ordered}
-use Rattle.kd_theory.specs.Tree.{opened-leaf, opened, side, then-other, visit, searchFor, searchAt, search, Splits, Safe, Ignores, Kept, start, outcome, Folds, Grows}
+use Rattle.kd_theory.specs.Tree.{limit, childFrom, splitLeaf, splitRoot, side, then-other, visit, searchFor, searchAt, search, Splits, Safe, Ignores, Kept, start, outcome, Folds, Grows}
 use Rattle.kd_theory.proofs.BagLaws.{occurs-append, in-left, in-right, in-both, fold-append, fold-stopped, fold-skip}
 
 pub some-length : (xs : List ℕ) → Some xs → 0 < length xs
@@ -73,6 +73,18 @@ module _ (K : Keys) where
       )
       )
 
+  -- the nodes that a search may still make add up over a branch
+  pub room-adds : (d k : ℕ) (l r : Tree) → Ordered K (branch d k l r) → 2 * count (branch d k l r) - 1 - nodes (branch d k l r) ≡ (2 * count l - 1 - nodes l) + (2 * count r - 1 - nodes r)
+  unfolding nodes
+  room-adds d k l r h =
+      simp length-append
+      (omega (
+        arith,
+        few-nodes l (h .1) (some-length (inorder l) (h .0 .some-less)),
+        few-nodes r (h .2) (some-length (inorder r) (h .0 .some-other)),
+      )
+      )
+
   -- each side of a branch has fewer entries than the whole
   pub fewer-less : (d k : ℕ) (l r : Tree) → Ordered K (branch d k l r) → count l < count (branch d k l r)
   fewer-less d k l r h = simp length-append (omega (arith, some-length (inorder r) (h .0 .some-other)))
@@ -81,12 +93,12 @@ module _ (K : Keys) where
   fewer-other d k l r h = simp length-append (omega (arith, some-length (inorder l) (h .0 .some-less)))
 
   module _ (split : ℕ → List ℕ → Option Split) (laws : Splits K split) where
-    pub kept-opened : (n : ℕ) (t : Tree) → Ordered K t → Kept K t (opened split n t)
-    unfolding opened opened-leaf
-    kept-opened n (branch d k l r) h = kept-refl _ h
-    kept-opened n (leaf es) h = go (ltb 64 (length es)) (split n es) refl
+    pub kept-split : (n : ℕ) (t : Tree) → Ordered K t → Kept K t (splitRoot split n t)
+    unfolding splitRoot splitLeaf
+    kept-split n (branch d k l r) h = kept-refl _ h
+    kept-split n (leaf es) h = go (ltb limit (length es)) (split n es) refl
       where
-        go : (b : Bool) (s : Option Split) → split n es ≡ s → Kept K (leaf es) (opened-leaf es b s)
+        go : (b : Bool) (s : Option Split) → split n es ≡ s → Kept K (leaf es) (splitLeaf es b s)
         go false s w = kept-refl _ h
         go true none w = kept-refl _ h
         go true (some s) w =
@@ -115,15 +127,15 @@ module _ (K : Keys) where
       kept-visit go ih (leaf es) a h = kept-refl _ h
       kept-visit go ih (branch d k l r) a h =
           kept-then _ d k _ l _ r _ h
-          (kept-side _ (go (suc d)) l a (h .1) (λ a′. ih (suc d) l a′ (h .1)))
-          (λ a′. kept-side _ (go (suc d)) r a′ (h .2) (λ a″. ih (suc d) r a″ (h .2)))
+          (kept-side _ (go (childFrom d)) l a (h .1) (λ a′. ih (childFrom d) l a′ (h .1)))
+          (λ a′. kept-side _ (go (childFrom d)) r a′ (h .2) (λ a″. ih (childFrom d) r a″ (h .2)))
 
       -- whatever the fuel
       pub kept-search : (f n : ℕ) (t : Tree) (a : A) → Ordered K t → Kept K t (searchFor split disc proc f n t a .tree)
       unfolding searchFor
       kept-search zero n t a h = kept-refl t h
       kept-search (suc f) n t a h =
-          let o = kept-opened n t h in
+          let o = kept-split n t h in
           kept-trans t _ _ o (kept-visit (searchFor split disc proc f) (kept-search f) _ a (o .ordered))
 
       -- with more fuel than entries the fuel does not matter
@@ -142,23 +154,23 @@ module _ (K : Keys) where
       unfolding visit
       same-visit go go′ (leaf es) a h ih = refl
       same-visit go go′ (branch d k l r) a h ih =
-          rw (same-side _ (go (suc d)) (go′ (suc d)) l a (λ a′. ih (suc d) l a′ (h .1) (fewer-less d k l r h)))
-          (same-then _ d k _ _ _ r _ (λ a′. same-side _ (go (suc d)) (go′ (suc d)) r a′ (λ a″. ih (suc d) r a″ (h .2) (fewer-other d k l r h))))
+          rw (same-side _ (go (childFrom d)) (go′ (childFrom d)) l a (λ a′. ih (childFrom d) l a′ (h .1) (fewer-less d k l r h)))
+          (same-then _ d k _ _ _ r _ (λ a′. same-side _ (go (childFrom d)) (go′ (childFrom d)) r a′ (λ a″. ih (childFrom d) r a″ (h .2) (fewer-other d k l r h))))
 
       pub same-fuel : (f g n : ℕ) (t : Tree) (a : A) → Ordered K t → count t < f → count t < g → searchFor split disc proc f n t a ≡ searchFor split disc proc g n t a
       unfolding searchFor
       same-fuel zero g n t a h m m′ = absurd (omega arith)
       same-fuel (suc f) zero n t a h m m′ = absurd (omega arith)
       same-fuel (suc f) (suc g) n t a h m m′ =
-          let o = kept-opened n t h in
+          let o = kept-split n t h in
           same-visit (searchFor split disc proc f) (searchFor split disc proc g) _ a (o .ordered)
           (λ n′ u a′ w q. same-fuel f g n′ u a′ w (omega (arith, o .size)) (omega (arith, o .size)))
 
       -- the recursion, with no fuel in sight: what a program over the tree does
-      pub search-step : (n : ℕ) (t : Tree) (a : A) → Ordered K t → searchAt split disc proc n t a ≡ visit disc proc (searchAt split disc proc) (opened split n t) a
+      pub search-step : (n : ℕ) (t : Tree) (a : A) → Ordered K t → searchAt split disc proc n t a ≡ visit disc proc (searchAt split disc proc) (splitRoot split n t) a
       unfolding searchAt searchFor
       search-step n t a h =
-          let o = kept-opened n t h in
+          let o = kept-split n t h in
           same-visit (searchFor split disc proc (count t)) (searchAt split disc proc) _ a (o .ordered)
           (λ n′ u a′ w q. same-fuel (count t) (suc (count u)) n′ u a′ w (omega (arith, o .size)) (omega arith))
 
@@ -181,12 +193,12 @@ module _ (K : Keys) where
         fold-visit go (leaf es) a h ih = refl
         fold-visit go (branch d k l r) a h ih =
             fold-then _ d k _ _ r a _
-            (fold-side _ (go (suc d)) l a (λ e m w. safe .less d k _ e (in-left e (inorder l) (inorder r) m) (h .0 .less e m) w) (ih (suc d) l a (h .1) (fewer-less d k l r h)))
-            (λ a′. fold-side _ (go (suc d)) r a′ (λ e m w. safe .other d k _ e (in-right e (inorder l) (inorder r) m) (h .0 .other e m) w) (ih (suc d) r a′ (h .2) (fewer-other d k l r h)))
+            (fold-side _ (go (childFrom d)) l a (λ e m w. safe .less d k _ e (in-left e (inorder l) (inorder r) m) (h .0 .less e m) w) (ih (childFrom d) l a (h .1) (fewer-less d k l r h)))
+            (λ a′. fold-side _ (go (childFrom d)) r a′ (λ e m w. safe .other d k _ e (in-right e (inorder l) (inorder r) m) (h .0 .other e m) w) (ih (childFrom d) r a′ (h .2) (fewer-other d k l r h)))
 
         pub fold-search : (f n : ℕ) (t : Tree) (a : A) → Ordered K t → count t < f → Folds proc a (searchFor split disc proc f n t a)
         unfolding searchFor
         fold-search zero n t a h m = absurd (omega arith)
         fold-search (suc f) n t a h m =
-            let o = kept-opened n t h in
+            let o = kept-split n t h in
             fold-visit (searchFor split disc proc f) _ a (o .ordered) (λ n′ u a′ w q. fold-search f n′ u a′ w (omega (arith, o .size)))

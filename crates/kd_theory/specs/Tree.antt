@@ -28,6 +28,10 @@ unfoldable pub nodes : Tree → ℕ
 nodes (leaf es) = 1
 nodes (branch d k l r) = suc (nodes l + nodes r)
 
+-- the sides of a branch of dimension d are tried from this one on
+unfoldable pub childFrom : ℕ → ℕ
+childFrom d = suc d
+
 -- which sides a search visits
 pub data Path : Type 0 where
   neither less other both : Path
@@ -80,15 +84,18 @@ abbrev pub Ordered : Keys → Tree → Type 0
 Ordered K (leaf es) = All (K .good) es
 Ordered K (branch d k l r) = Sides K d k (inorder l) (inorder r) × Ordered K l × Ordered K r
 
--- a leaf of more than 64 entries is split, if it can be
-unfoldable pub opened-leaf : List ℕ → Bool → Option Split → Tree
-opened-leaf es false s = leaf es
-opened-leaf es true none = leaf es
-opened-leaf es true (some s) = branch (s .dim) (s .key) (leaf (s .less)) (leaf (s .other))
+-- a leaf of more entries is split, if it can be
+unfoldable pub limit : ℕ
+limit = 64
 
-unfoldable pub opened : (ℕ → List ℕ → Option Split) → ℕ → Tree → Tree
-opened split n (branch d k l r) = branch d k l r
-opened split n (leaf es) = opened-leaf es (ltb 64 (length es)) (split n es)
+unfoldable pub splitLeaf : List ℕ → Bool → Option Split → Tree
+splitLeaf es false s = leaf es
+splitLeaf es true none = leaf es
+splitLeaf es true (some s) = branch (s .dim) (s .key) (leaf (s .less)) (leaf (s .other))
+
+unfoldable pub splitRoot : (ℕ → List ℕ → Option Split) → ℕ → Tree → Tree
+splitRoot split n (branch d k l r) = branch d k l r
+splitRoot split n (leaf es) = splitLeaf es (ltb limit (length es)) (split n es)
 
 module _ {A : Type 0} where
   abbrev pub start : A → Step A
@@ -113,14 +120,14 @@ module _ {A : Type 0} (disc : ℕ → ℕ → List ℕ → Path) (proc : A → �
   visit go (leaf es) a = let s = foldUntil proc (start a) es in record { tree = leaf es; acc = s .acc; on = s .on }
   visit go (branch d k l r) a =
       let p = disc d k (inorder l ++ inorder r) in
-      let o = side (goesLess p) (go (suc d)) l a in
-      then-other (o .on) d k (side (goesOther p) (go (suc d))) (o .tree) r (o .acc)
+      let o = side (goesLess p) (go (childFrom d)) l a in
+      then-other (o .on) d k (side (goesOther p) (go (childFrom d))) (o .tree) r (o .acc)
 
 module _ {A : Type 0} (split : ℕ → List ℕ → Option Split) (disc : ℕ → ℕ → List ℕ → Path) (proc : A → ℕ → Step A) where
   -- the fuel bounds the depth
   unfoldable pub searchFor : ℕ → ℕ → Tree → A → Out A
   searchFor zero n t a = record { tree = t; acc = a; on = true }
-  searchFor (suc f) n t a = visit disc proc (searchFor f) (opened split n t) a
+  searchFor (suc f) n t a = visit disc proc (searchFor f) (splitRoot split n t) a
 
   -- with fuel enough for every tree that is in order
   unfoldable pub searchAt : ℕ → Tree → A → Out A
