@@ -5,12 +5,12 @@
 --     split n es         how a leaf is split whose dimensions are tried from n on; none if it cannot be
 -- Assumes nothing.
 use mathlib.Core.Path.{_≡_}
-use mathlib.Core.Bool.{Bool, true, false}
+use mathlib.Core.Bool.{Bool, true, false, cond}
 use mathlib.Core.Option.{Option, none, some}
 use mathlib.Core.List.{List, [], _∷_, _++_}
 use Prim.Native.Nat.{ℕ, zero, suc, _+_, _<_}
 use lib.Dec.{ltb}
-use lib.ListN.{length}
+use lib.ListN.{length, take, drop}
 use Rattle.kd_theory.specs.Bag.{occurs, _∈_, Same, Some, Step, foldUntil}
 
 pub data Tree : Type 0 where
@@ -68,6 +68,15 @@ pub record Keys : Type 1 where
 unfoldable pub insert : Keys → ℕ → Tree → Tree
 insert K e (leaf es) = leaf (es ++ e ∷ [])
 insert K e (branch d k l r) = elim (K .below d k e) [ true ↦ branch d k (insert K e l) r | false ↦ branch d k l (insert K e r) ]
+
+-- where it puts the entry in the order of the tree: at the end of its leaf
+unfoldable pub placeOf : Keys → ℕ → Tree → ℕ
+placeOf K e (leaf es) = length es
+placeOf K e (branch d k l r) = cond (K .below d k e) (placeOf K e l) (count l + placeOf K e r)
+
+-- the list with e before place p
+unfoldable pub putAt : ℕ → ℕ → List ℕ → List ℕ
+putAt p e es = take p es ++ (e ∷ drop p es)
 
 -- both sides of a branch are non-empty, the less side below its key and the other not
 pub record Sides (K : Keys) (d k : ℕ) (l r : List ℕ) : Type 0 where
