@@ -1,6 +1,6 @@
 -- The bits of a number. Assumes nothing.
-use mathlib.Core.Path.{_≡_, sym, ap, _∙_}
-use mathlib.Core.Bool.{true}
+use mathlib.Core.Path.{_≡_, refl, sym, ap, _∙_}
+use mathlib.Core.Bool.{Bool, true, false, _&&_}
 use mathlib.Core.Logic.{_↔_}
 use Prim.Native.Nat.{ℕ, zero, suc, min, _+_, _-_, _*_, _/_, _%_, _^_, _≤_, _<_}
 use native.Mathlib.Omega.{arith}
@@ -8,9 +8,9 @@ use native.Mathlib.Nat.{add-comm, mul-assoc, pow-suc, add-mul-div-right, add-mul
 use native.Mathlib.Decide.{decLe}
 use lib.Arith.{digits-lt, lt-one}
 use lib.Bits.{bitAnd, and-step, and-shr, and-le-l, bitAnd}
-use lib.Dec.{leb}
+use lib.Dec.{leb, eqb}
 use lib.Pow.{pow-add, pow-pos, high, shr-shr, pow-mono}
-use borrow.Author.Tests.{le-leb, leb-true}
+use borrow.Author.Tests.{le-leb, leb-true, eq-eqb, ne-eqb}
 use Rattle.monomial.specs.Operations.{allBelow}
 use Rattle.monomial.proofs.Divisions.{all-true, all-each}
 use Rattle.divmask.specs.Mask.{bit, Within, within}
@@ -63,6 +63,9 @@ bits-equal (suc k) a b h l e =
     let y : a % 2 ≡ b % 2 = lowest a ∙ e 0 (omega arith) ∙ sym (lowest b) in
     omega arith
 
+true-not : (b : Bool) → b ≡ true → b ≡ false → ⊥
+true-not b p q = let z : _≡_ {A = ℕ} 0 1 = cc in omega arith
+
 -- ---- within
 pub bit-and : (a b i : ℕ) → bit (bitAnd a b) i ≡ min (bit a i) (bit b i)
 unfolding bit
@@ -99,6 +102,55 @@ within-iff a b h = (to, from)
 pub and-within : (a b : ℕ) → bitAnd a b ≡ a → Within a b
 and-within a b e = within-by a b (λ i. omega (arith, bit-and a b i, ap (λ (n : ℕ). bit n i) e))
 
-pub within-and : (a b : ℕ) → a < 2 ^ 32 → Within a b → bitAnd a b ≡ a
-within-and a b h w =
-    bits-equal 32 (bitAnd a b) a (omega (arith, and-le-l a b)) h (λ i l. bit-and a b i ∙ omega (arith, within-at a b w i))
+pub within-and : (k a b : ℕ) → a < 2 ^ k → Within a b → bitAnd a b ≡ a
+within-and k a b h w =
+    bits-equal k (bitAnd a b) a (omega (arith, and-le-l a b)) h (λ i l. bit-and a b i ∙ omega (arith, within-at a b w i))
+
+-- ---- two masks side by side, the first in the lower half
+halves : (a : ℕ) → a ≡ a % 4294967296 + a / 4294967296 * 2 ^ 32
+halves a = omega arith
+
+low-half : (a i : ℕ) → i < 32 → bit a i ≡ bit (a % 4294967296) i
+low-half a i h = ap (λ (n : ℕ). bit n i) (halves a) ∙ bit-low (a % 4294967296) (a / 4294967296) 32 i h
+
+high-half : (a i : ℕ) → bit a (32 + i) ≡ bit (a / 4294967296) i
+high-half a i = ap (λ (n : ℕ). bit n (32 + i)) (halves a) ∙ bit-high (a % 4294967296) (a / 4294967296) 32 i (omega arith)
+
+pub within-halves : (a b : ℕ) → Within a b ↔ (Within (a % 4294967296) (b % 4294967296) × Within (a / 4294967296) (b / 4294967296))
+within-halves a b = (to, from)
+  where
+    to : Within a b → Within (a % 4294967296) (b % 4294967296) × Within (a / 4294967296) (b / 4294967296)
+    to w = (
+      within-by _ _ (λ i.
+          elim (decLe 32 i) [
+            | yes l ↦ omega (arith, bit-none (a % 4294967296) i (lt-of-lt-of-le (let z : a % 4294967296 < 2 ^ 32 = omega arith in z) (pow-mono l)))
+            | no l ↦ omega (arith, low-half a i (omega arith), low-half b i (omega arith), within-at a b w i)
+          ]),
+      within-by _ _ (λ i. omega (arith, high-half a i, high-half b i, within-at a b w (32 + i))),
+    )
+
+    from : Within (a % 4294967296) (b % 4294967296) × Within (a / 4294967296) (b / 4294967296) → Within a b
+    from w =
+        within-by a b (λ i.
+        elim (decLe 32 i) [
+          | yes l ↦ let e : 32 + (i - 32) ≡ i = omega arith in rw e at (let z : bit a (32 + (i - 32)) ≤ bit b (32 + (i - 32)) = omega (arith, high-half a (i - 32), high-half b (i - 32), within-at _ _ (w .1) (i - 32)) in z)
+          | no l ↦ omega (arith, low-half a i (omega arith), low-half b i (omega arith), within-at _ _ (w .0) i)
+        ])
+
+-- as the code tests both at once
+pub both-within : (a b : ℕ) → a < 2 ^ 64 → eqb (bitAnd a b) a ≡ within (a % 4294967296) (b % 4294967296) && within (a / 4294967296) (b / 4294967296)
+both-within a b h = go (within (a % 4294967296) (b % 4294967296)) refl (within (a / 4294967296) (b / 4294967296)) refl
+  where
+    small : a % 4294967296 < 2 ^ 32
+    small = omega arith
+
+    small-high : a / 4294967296 < 2 ^ 32
+    small-high = omega arith
+
+    apart : (Within a b → ⊥) → eqb (bitAnd a b) a ≡ false
+    apart n = ne-eqb (bitAnd a b) a (λ e. n (and-within a b e))
+
+    go : (x : Bool) → within (a % 4294967296) (b % 4294967296) ≡ x → (y : Bool) → within (a / 4294967296) (b / 4294967296) ≡ y → eqb (bitAnd a b) a ≡ x && y
+    go true e true d = eq-eqb (bitAnd a b) a (within-and 64 a b h (within-halves a b .1 (within-iff _ _ small .0 e, within-iff _ _ small-high .0 d)))
+    go true e false d = apart (λ w. true-not _ (within-iff _ _ small-high .1 (within-halves a b .0 w .1)) d)
+    go false e y d = apart (λ w. true-not _ (within-iff _ _ small .1 (within-halves a b .0 w .0)) e)

@@ -173,7 +173,7 @@ unfolding tested
 tested-not-and a b h n = go (within a b) refl
   where
     go : (t : Bool) → within a b ≡ t → NotDivisible ≡ cond t Unsure NotDivisible
-    go true e = absurd (n (within-and a b h (within-iff a b h .0 e)))
+    go true e = absurd (n (within-and 32 a b h (within-iff a b h .0 e)))
     go false e = refl
 
 -- "not divisible" is never wrong

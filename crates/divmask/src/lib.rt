@@ -1,6 +1,7 @@
 // From divmask.rs: masks of monomials and the mask test.
 // Maxima are lent as one word a variable. Cutoffs are never stored: how many of a variable's bits its power sets is one division.
 pub mod doors;
+pub mod pairs;
 pub mod tracker;
 
 ghost use mathlib.Core.Path.{_≡_};

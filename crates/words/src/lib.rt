@@ -1,4 +1,5 @@
 // 32-bit words, low byte first, in byte slices: read and written at any place, taken apart and built.
+pub mod pairs;
 pub mod runs;
 
 ghost use mathlib.Core.Path.{_≡_};
