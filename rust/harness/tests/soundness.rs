@@ -103,13 +103,13 @@ fn example() -> State {
 }
 
 #[rustfmt::skip]
-const EXAMPLE: [u32; 115] = [
-    1, 1, 2, 3, 3, 3, 0, 0, 0, 0, 0, 0, 0, 0, 0, 0,
+const EXAMPLE: [u32; 129] = [
+    1, 1, 2, 3, 3, 3, 0, 0, 0, 0, 0, 0, 0, 0, 0, 0, 0, 0, 0, 0, 0, 0, 0, 0,
     2, 2,
     1, 1,
-    0x1001_0002, 0x1000_0001, 2, 0xFFFF_FFFF, 0x3000_0005, 0x1001_0002, 1, 0, 0xFFFF_0000, 0,
-    0x1001_0001, 1, 0, 0xFFFF_0000, 0x3000_0005, 0x1001_0001, 1, 0, 0xFFFF_0000, 1,
-    0x1000_0002, 1, 0, 0x0000_FFFF, 0x3000_0005, 0x1000_0001, 1, 0, 0x0000_FFFF, 0,
+    0x1001_0002, 0x1000_0001, 2, 0xFFFF_FFFF, 0x0003_0001, 0x3000_0005, 0x1001_0002, 1, 0, 0xFFFF_0000, 0x0003_0000, 0,
+    0x1001_0001, 1, 0, 0xFFFF_0000, 0x0001_0000, 0x3000_0005, 0x1001_0001, 1, 0, 0xFFFF_0000, 0x0001_0000, 1,
+    0x1000_0002, 1, 0, 0x0000_FFFF, 0x0000_0003, 0x3000_0005, 0x1000_0001, 1, 0, 0x0000_FFFF, 0x0000_0001, 0,
     0, 2, 1,
     1, 2, 3, 2,
     0x3000_0005, 0x2000_7FFF, 1, 0, 0x7FFF_FFFF,
@@ -131,7 +131,7 @@ fn worked_example() {
 
     // The key is entry 0's ratio, which is not above itself.
     let mut words = EXAMPLE;
-    words[76] = 0;
+    words[90] = 0;
     let reading = read(&bytes(&words));
     assert_eq!(reading.only(), Some(Rule::LessBelow));
 }

@@ -379,7 +379,7 @@ fn draw_slot(shape: Shape, state: &State, rng: &mut Rng) -> (usize, u32) {
     let node = |at| shape.nodes_at() + at * shape.node_width();
     match rng.below(4) {
         0 if entries > 0 => (entry(rng.below(entries)), VARIABLE),
-        1 if rows > 0 => (entry(rng.below(entries)) + shape.slot() + 2, VARIABLE),
+        1 if rows > 0 => (entry(rng.below(entries)) + shape.sign(), VARIABLE),
         2 if rows > 0 => (row(rng.below(rows)) + 1, RATIO_VARIABLE),
         _ => (node(rng.below(state.tree.nodes())) + 5, VARIABLE),
     }

@@ -17,18 +17,10 @@ pub struct Map {
 impl Map {
     pub fn new(maxima: &[i32], rules: Rules) -> Self {
         let variables = maxima.len();
-        let bits = |id: usize| {
-            let more = if rules.has(Mutation::ExtraBitsLast) {
-                id >= variables - BITS % variables
-            } else {
-                id < BITS % variables
-            };
-            BITS / variables + usize::from(more)
-        };
         let cutoffs = maxima
             .iter()
             .enumerate()
-            .map(|(id, maximum)| cutoffs(bits(id) as i32, *maximum, rules))
+            .map(|(id, maximum)| cutoffs(bits(variables, id, rules) as i32, *maximum, rules))
             .collect();
         Self { cutoffs, rules }
     }
@@ -45,6 +37,28 @@ impl Map {
         bits.enumerate()
             .fold(0, |mask, (at, bit)| mask | u32::from(bit) << at)
     }
+}
+
+/// How many bits a variable has.
+fn bits(variables: usize, id: usize, rules: Rules) -> usize {
+    let more = if rules.has(Mutation::ExtraBitsLast) {
+        id >= variables - BITS % variables
+    } else {
+        id < BITS % variables
+    };
+    BITS / variables + usize::from(more)
+}
+
+/// The short exponent vector: bit j of a variable is set where its power is above
+/// j. The bits are shared out as in a mask.
+pub fn vector(monomial: &Powers, rules: Rules) -> u32 {
+    let variables = monomial.0.len();
+    let powers = monomial.0.iter().enumerate();
+    let set = powers.flat_map(|(id, power)| {
+        (0..bits(variables, id, rules)).map(move |bit| *power > bit as i32)
+    });
+    set.enumerate()
+        .fold(0, |vector, (at, set)| vector | u32::from(set) << at)
 }
 
 /// part × maximum / (bits + 1), rounded down, part 1 to bits.

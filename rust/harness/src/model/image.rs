@@ -4,7 +4,7 @@
 use std::{cmp::Reverse, collections::HashMap, iter::repeat_n};
 
 use super::{
-    divmask::Map,
+    divmask::{vector, Map},
     mutation::Rules,
     powers::{Powers, Ratio},
     soundness::Rule,
@@ -17,7 +17,7 @@ use crate::words::{monomial_words, ratio_words, word, INDEX};
 const LAYOUT: u32 = 1;
 
 /// Words before the maxima.
-pub const HEADER: usize = 16;
+pub const HEADER: usize = 24;
 
 /// Words before the rows of the label map.
 pub const LABELS_HEADER: usize = 4;
@@ -44,12 +44,22 @@ impl Shape {
         self.variables + 1
     }
 
-    /// The lm and its mask; in a ratio index also the index, the signature
-    /// monomial, its mask, and the row of the ratio.
+    /// A monomial in its slot, its mask and its short exponent vector.
+    pub fn masked(&self) -> usize {
+        self.slot() + 2
+    }
+
+    /// Where the signature monomial stands in an entry, behind the index.
+    pub fn sign(&self) -> usize {
+        self.masked() + 1
+    }
+
+    /// The lm, masked; in a ratio index also the index, the signature monomial,
+    /// masked, and the row of the ratio.
     pub fn entry_width(&self) -> usize {
         match self.kind {
-            Kind::Monomial => self.slot() + 1,
-            Kind::Ratio => 2 * self.slot() + 4,
+            Kind::Monomial => self.masked(),
+            Kind::Ratio => 2 * self.masked() + 2,
         }
     }
 
@@ -174,10 +184,13 @@ impl Written {
         for entry in &state.entries {
             self.slot(Rule::Lm, monomial_words(entry.lm.vars()), variables);
             self.put(Rule::LmMask, [map.mask(&entry.lm)]);
+            self.put(Rule::LmVector, [vector(&entry.lm, Rules::document_01())]);
             if state.kind == Kind::Ratio {
                 self.put(Rule::Index, [word(INDEX, entry.index)]);
                 self.slot(Rule::Sign, monomial_words(entry.sign.vars()), variables);
                 self.put(Rule::SignMask, [map.mask(&entry.sign)]);
+                let vector = vector(&entry.sign, Rules::document_01());
+                self.put(Rule::SignVector, [vector]);
                 let row = rows.get(&entry.ratio()).copied().unwrap_or(0);
                 self.put(Rule::Row, [row]);
             }

@@ -38,10 +38,12 @@ named! {
     Lm: "an lm has its canonical words, then zeros",
     LmPowers: "an lm's powers are at most 32,767",
     LmMask: "an lm has its mask",
+    LmVector: "an lm has its short exponent vector",
     Index: "an entry's index is a kind 3 word",
     Sign: "a signature monomial has its canonical words, then zeros",
     SignPowers: "a signature monomial's powers are at most 32,767",
     SignMask: "a signature monomial has its mask",
+    SignVector: "a signature monomial has its short exponent vector",
     Row: "an entry names the row of its ratio",
     EntriesRest: "the words behind the entries are 0",
     Once: "the leaves hold each entry once",
@@ -218,16 +220,16 @@ fn signed(maxima: &[u32]) -> Vec<i32> {
 
 fn read_entry(shape: Shape, words: &[u32]) -> Entry {
     let variables = shape.variables;
-    let (lm, rest) = words.split_at(shape.slot());
+    let slot = |at: usize| read_slot(&words[at..][..shape.slot()], variables, VARIABLE, 0);
     Entry {
-        lm: read_slot(lm, variables, VARIABLE, 0),
+        lm: slot(0),
         index: match shape.kind {
             Kind::Monomial => 0,
-            Kind::Ratio => payload(rest[1]),
+            Kind::Ratio => payload(words[shape.masked()]),
         },
         sign: match shape.kind {
             Kind::Monomial => Powers::one(variables),
-            Kind::Ratio => read_slot(&rest[2..][..shape.slot()], variables, VARIABLE, 0),
+            Kind::Ratio => slot(shape.sign()),
         },
     }
 }
