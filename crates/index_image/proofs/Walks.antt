@@ -28,7 +28,7 @@ use Rattle.index_image.proofs.Limiting.{below-variable}
 use Rattle.index_image.proofs.Trees.{some-node, nodes-branch, nodes-leaf, RowIs, take-apart, put-together, leaf-row, row-leaf, Head, tree-head}
 
 -- ---- keys
-key-ratio : (x n d k : ℕ) → KeyOk x n d k → suc d ≡ x → x ≤ 1 → k < n
+pub key-ratio : (x n d k : ℕ) → KeyOk x n d k → suc d ≡ x → x ≤ 1 → k < n
 unfolding KeyOk
 key-ratio zero n d k o e h = absurd (omega arith)
 key-ratio (suc x) n zero k o e h = o
@@ -41,7 +41,7 @@ ratio-key (suc x) n zero k f h = f (omega arith)
 ratio-key (suc x) n (suc d) k f h = tt
 
 -- a list that is not empty has an element
-some-of : (P : ℕ → Type 0) (es : List ℕ) → 0 < length es → ((e : ℕ) → e ∈ es → P e) → (e : ℕ) × P e
+pub some-of : (P : ℕ → Type 0) (es : List ℕ) → 0 < length es → ((e : ℕ) → e ∈ es → P e) → (e : ℕ) × P e
 some-of P [] h f = absurd (omega arith)
 some-of P (x ∷ xs) h f = (x, f x (here x xs))
 
