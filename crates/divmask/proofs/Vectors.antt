@@ -84,16 +84,16 @@ pub record Short (m : ℕ) (A : List ℕ) (i sum t f : ℕ) : Type 0 where
   pub fits : sum + f * 2 ^ t % 2 ^ 64 < 2 ^ 32
   pub rest : Mapping m (bitCounts m) A (i + 1) (sum + f * 2 ^ t % 2 ^ 64)
 
-module _ (m : ℕ) (A : List ℕ) (i sum : ℕ) (s : Mapping m (bitCounts m) A i sum) (w : ℕ) (e : w ≡ getD A i 0) where
+module _ {m : ℕ} {A : List ℕ} {i sum : ℕ} (s : Mapping m (bitCounts m) A i sum) {w : ℕ} (e : w ≡ getD A i 0) where
   pub vector-mapped : w / 65536 ≡ 0 → sum ≡ vector m (pow 1 A)
   unfolding vector
-  vector-mapped h = mapped m (bitCounts m) A i sum s w e h
+  vector-mapped h = mapped s e h
 
-  pub short-stepped : (h : w / 65536 ≡ 0 → ⊥) (b f t : ℕ) (eb : b ≡ 32 / m + cond (ltb (ident w) (32 % m)) 1 0) → f ≡ parts b (max 1 b) (power w) b
+  pub short-stepped : (h : w / 65536 ≡ 0 → ⊥) {b f t : ℕ} (eb : b ≡ 32 / m + cond (ltb (ident w) (32 % m)) 1 0) → f ≡ parts b (max 1 b) (power w) b
       → (et : t ≡ ident w * (32 / m) + min (ident w) (32 % m)) → Short m A i sum t f
-  short-stepped h b f t eb ef et =
-      let k = step m (bitCounts m) A i sum s w e h in
-      let is = bits-are m (bitCounts m) A i sum s w e (ident w) b eb in
+  short-stepped h {b} {f} {t} eb ef et =
+      let k = step s e h in
+      let is = bits-are m (ident w) b eb in
       let c : max 1 b ≡ getD (bitCounts m) (ident w) 0 = ap (max 1) is ∙ sym (count-at m (ident w) (k .known)) in
-      let z = stepped m (bitCounts m) A i sum s w e h (max 1 b) b f t c eb ef et in
+      let z = stepped s e h c eb ef et in
       record { shift = z .shift; fits = z .fits; rest = z .rest }

@@ -3,7 +3,7 @@ ghost use mathlib.Core.Path.{_≡_};
 ghost use mathlib.Core.Bool.{_&&_};
 ghost use Prim.Native.Nat.{_+_, _*_, _/_, _%_, _≤_, max};
 ghost use Rattle.words.specs.Words.{words};
-ghost use Rattle.monomial.specs.Monomial.{Canonical, pow};
+ghost use Rattle.monomial.specs.Monomial.{Starts, first, pow};
 ghost use Rattle.divmask.specs.Mask.{parts, mask, vector, within};
 ghost use Rattle.divmask.specs.Tracker.{Maxima};
 
@@ -23,11 +23,11 @@ fn short_field(bits: u32, power: u32) -> u64
     (1u64 << count) - 1
 }
 
-// The mask of a monomial, and in the upper half its short exponent vector.
+// The mask of the monomial at the front of a slice, and in the upper half its short exponent vector.
 pub fn map(maxima: &[u8], variables: u32, monomial: &[u8]) -> u64
     requires { ⌜ Maxima variables (words (now maxima)) ⌝ }
-    requires { ⌜ Canonical 1 variables (words (now monomial)) ⌝ }
-    ensures { λ r. ⌜ r ≡ mask variables (words (now (maxima .entry))) (pow 1 (words (now (monomial .entry)))) + 4294967296 * vector variables (pow 1 (words (now (monomial .entry)))) ⌝ }
+    requires { ⌜ Starts 1 variables (words (now monomial)) ⌝ }
+    ensures { λ r. ⌜ r ≡ mask variables (words (now (maxima .entry))) (pow 1 (first 1 (words (now (monomial .entry))))) + 4294967296 * vector variables (pow 1 (first 1 (words (now (monomial .entry))))) ⌝ }
 {
     let whole = 32 / variables;
     let extra = 32 % variables;
