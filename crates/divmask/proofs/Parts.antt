@@ -3,7 +3,7 @@ use mathlib.Core.Path.{_≡_, refl, ap, _∙_}
 use mathlib.Core.Bool.{Bool, true, false, cond}
 use Prim.Native.Nat.{ℕ, zero, suc, min, _+_, _-_, _*_, _/_, _%_, _^_, _≤_, _<_}
 use native.Mathlib.Omega.{arith}
-use native.Mathlib.Nat.{one-mul, zero-mul, pow-suc, div-lt-iff-lt-mul, le-div-iff-mul-le, add-zero, mul-le-mul, zero-min, mod-eq-of-lt, mul-comm, mul-lt-mul-of-pos-right}
+use native.Mathlib.Nat.{one-mul, zero-mul, pow-suc, div-lt-iff-lt-mul, le-div-iff-mul-le, add-zero, mul-le-mul, zero-min, mod-eq-of-lt, mul-comm, mul-lt-mul-of-pos-right, mul-div-cancel}
 use native.Mathlib.Decide.{ℕ-discrete, decLe}
 use native.Mathlib.Numerals.{add-one}
 use lib.Dec.{ltb}
@@ -102,6 +102,22 @@ module _ (b x q : ℕ) (some : 1 ≤ x) (here : 1 ≤ q) where
             let e : min (suc n) (most b x q) ≡ min n (most b x q) = omega arith in
             rw (parts-suc b x q n, le-ltb (cutoff b x (suc n)) q (clear-above (suc n) (omega arith)), e, zero-mul (2 ^ n)) (omega (arith, parts-closed n))
       ]
+
+-- the lesser of two numbers, taken before a division
+pub least-div : (a b x : ℕ) → 1 ≤ x → min a (b * x) / x ≡ min b (a / x)
+least-div a b x some =
+    elim (decLe (b * x) a) [
+      | yes h ↦
+          let e : min a (b * x) ≡ b * x = omega arith in
+          let l = le-div-iff-mul-le {k = x} {x = b} {y = a} some .1 h in
+          let f : min b (a / x) ≡ b = omega arith in
+          rw (e, f) (mul-div-cancel b some)
+      | no h ↦
+          let e : min a (b * x) ≡ a = omega arith in
+          let l = div-lt-iff-lt-mul {k = x} {x = a} {y = b} some .1 (omega arith) in
+          let f : min b (a / x) ≡ a / x = omega arith in
+          rw (e, f)
+    ]
 
 -- as the code makes them: n ones, by a shift in 64 bits
 pub ones : (n : ℕ) → n ≤ 32 → 1 * 2 ^ n % 2 ^ 64 ≡ 2 ^ n

@@ -36,13 +36,16 @@ fn first_bit(whole: u32, extra: u32, v: u32) -> u32
 }
 
 // The bits that a power sets. Cutoffs rise, so these are the lowest ones, as many as cutoffs lie below the power.
+// The lesser number is taken before the division, so that no branch waits for the quotient: it would often be mispredicted.
 fn field(bits: u32, maximum: u32, power: u32) -> u64
-    requires { ⌜ (bits ≤ 32) × ((1 ≤ maximum) × ((1 ≤ power) × (power ≤ 32767))) ⌝ }
+    requires { ⌜ (bits ≤ 32) × ((1 ≤ maximum) × (maximum ≤ 32767)) ⌝ }
+    requires { ⌜ (1 ≤ power) × (power ≤ 32767) ⌝ }
     ensures { λ r. ⌜ r ≡ parts bits maximum power bits ⌝ }
 {
-    let most = (power * (bits + 1) - 1) / maximum;
-    let count = if most < bits { most } else { bits };
-    (1u64 << count) - 1
+    let top = power * (bits + 1) - 1;
+    let most = bits * maximum;
+    let least = if top < most { top } else { most };
+    (1u64 << (least / maximum)) - 1
 }
 
 // The mask of the monomial at the front of a slice.

@@ -1,10 +1,10 @@
 use lib.Pow.{pow-pos}
 use native.Mathlib.Omega.{arith}
-use native.Mathlib.Nat.{mul-le-mul}
+use native.Mathlib.Nat.{mul-le-mul, div-one}
 use mathlib.Core.Logic.{⊎-elim}
-use Prim.Native.Nat.{_≤_, _*_, _+_, min}
-use mathlib.Core.Path.{_≡_}
-use Rattle.divmask.proofs.Parts.{most, ones, field-is}
+use mathlib.Core.Path.{_≡_, ap, _∙_}
+use Prim.Native.Nat.{ℕ, _≤_, _*_, _+_, _-_, _/_, min}
+use Rattle.divmask.proofs.Parts.{most, ones, field-is, least-div}
 use borrow.Author.Needs.{needs}
 use Rattle.divmask.proofs.field.Statement.{statement}
 use Rattle.divmask.proofs.field.Tie as tie
@@ -12,39 +12,62 @@ use Rattle.divmask.proofs.field.Reads as reads
 use Rattle.divmask.proofs.field.Lts as lts
 
 -- helpers
-counted : (c : lts.After-row-known reads.Pre reads.Post) → c .before .if1 .count ≡ min (c .before .before .args .bits) (most (c .before .before .args .bits) (c .before .before .args .maximum) (c .before .before .args .power))
+-- the lesser number, and as a count
+lesser : (c : lts.After-row-known reads.Pre reads.Post) → c .before .if1 .least ≡ min ((c .before .before .args .power) * ((c .before .before .args .bits) + 1) - 1) ((c .before .before .args .bits) * (c .before .before .args .maximum))
+lesser c = ⊎-elim (λ w. omega arith) (λ w. omega arith) (c .before .if1 .came)
+
+counted : (c : lts.After-row-known reads.Pre reads.Post) → c .before .if1 .least / (c .before .before .args .maximum) ≡ min (c .before .before .args .bits) (most (c .before .before .args .bits) (c .before .before .args .maximum) (c .before .before .args .power))
 unfolding most
-counted c = ⊎-elim (λ w. omega arith) (λ w. omega arith) (c .before .if1 .came)
+counted c = ap (λ (n : ℕ). n / (c .before .before .args .maximum)) (lesser c) ∙ least-div ((c .before .before .args .power) * ((c .before .before .args .bits) + 1) - 1) (c .before .before .args .bits) (c .before .before .args .maximum) (c .before .before .pre .0 .1 .0)
 
 -- end of helpers
 
--- src/lib.rt:42:26
-add-most : tie.Need-add-most
-add-most c = search needs
+-- src/lib.rt:45:24
+add-top : tie.Need-add-top
+add-top c = search needs
 
--- src/lib.rt:42:17
+-- src/lib.rt:45:15
+mul-top : tie.Need-mul-top
+mul-top c = let l : (c .args .bits) + 1 ≤ 33 = omega arith in let h : (c .args .power) * ((c .args .bits) + 1) ≤ 32767 * 33 = mul-le-mul (c .pre .1 .1) l in omega arith
+
+-- src/lib.rt:45:15
+sub-top : tie.Need-sub-top
+sub-top c = let l : 1 ≤ (c .args .bits) + 1 = omega arith in let h : 1 * 1 ≤ (c .args .power) * ((c .args .bits) + 1) = mul-le-mul (c .pre .1 .0) l in omega arith
+
+-- src/lib.rt:46:16
 mul-most : tie.Need-mul-most
-mul-most c = let l : (c .args .bits) + 1 ≤ 33 = omega arith in let h : (c .args .power) * ((c .args .bits) + 1) ≤ 32767 * 33 = mul-le-mul (c .pre .1 .1 .1) l in omega arith
+mul-most c = let h : (c .args .bits) * (c .args .maximum) ≤ 32 * 32767 = mul-le-mul (c .pre .0 .0) (c .pre .0 .1 .1) in omega arith
 
--- src/lib.rt:42:17
-sub-most : tie.Need-sub-most
-sub-most c = search needs
+-- src/lib.rt:48:15
+div-result : tie.Need-div-result
+div-result c = omega (arith, c .before .before .pre .0 .1 .0)
 
--- src/lib.rt:42:16
-div-most : tie.Need-div-most
-div-most c = search needs
+-- src/lib.rt:48:15
+cast-result : tie.Need-cast-result
+cast-result c = omega (arith, counted c, c .before .before .pre .0 .0)
 
--- src/lib.rt:44:6
+-- src/lib.rt:48:6
 shl-result : tie.Need-shl-result
-shl-result c = omega (arith, counted c)
+shl-result c = omega (arith, counted c, c .before .before .pre .0 .0)
 
--- src/lib.rt:44:5
+-- src/lib.rt:48:5
 sub-result : tie.Need-sub-result
-sub-result c = omega (arith, ones (c .before .if1 .count) (omega (arith, counted c)), pow-pos (c .before .if1 .count))
+sub-result c = omega (arith, ones ((c .before .if1 .least) / (c .before .before .args .maximum)) (omega (arith, counted c)), pow-pos ((c .before .if1 .least) / (c .before .before .args .maximum)))
 
--- src/lib.rt:38:1
+-- src/lib.rt:40:1
 returns : tie.Need-returns
-returns c = field-is (c .before .before .args .bits) (c .before .before .args .maximum) (c .before .before .args .power) (c .before .if1 .count) (c .before .before .pre .0) (c .before .before .pre .1 .0) (c .before .before .pre .1 .1 .0) (counted c)
+returns c = field-is (c .before .before .args .bits) (c .before .before .args .maximum) (c .before .before .args .power) ((c .before .if1 .least) / (c .before .before .args .maximum)) (c .before .before .pre .0 .0) (c .before .before .pre .0 .1 .0) (c .before .before .pre .1 .0) (counted c)
 
 pub field-spec : {M : Type 1} → statement M
-field-spec = tie.close (tie.spec add-most mul-most sub-most div-most shl-result sub-result returns)
+field-spec =
+    tie.close
+    (tie.spec
+    add-top
+    mul-top
+    sub-top
+    mul-most
+    div-result
+    cast-result
+    shl-result
+    sub-result
+    returns)

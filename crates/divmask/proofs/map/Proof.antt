@@ -62,7 +62,8 @@ bits-of-requires c κs = div-le-self 32 (c .before .before .before .before .befo
 -- src/lib.rt:64:13
 field-requires : tie.Need-field-requires Inv-loop μ-loop
 field-requires c κs = let k = step (c .before .before .before .before .loop .inv) (seen _ (c .before .before .before .before .loop .inv .ra) (c .before .before .before .get .ensures)) (c .before .before .if1 .left) in let v = (c .before .before .before .get .result) / 65536 % 4096 in let e = bits-are (c .before .before .before .before .before .before .before .args .variables) v (c .bits-of .result) (c .bits-of .ensures) in
-    (omega (arith, k .few), (omega (arith, c .before .get2 .ensures, (c .before .before .before .before .before .before .before .pre .0 .low) v (k .known)), (k .low, k .high)))
+    let p = c .before .before .before .before .before .before .before .pre .0 in
+    ((omega (arith, k .few), (omega (arith, c .before .get2 .ensures, (p .low) v (k .known)), omega (arith, c .before .get2 .ensures, (p .high) v (k .known)))), (k .low, k .high))
 
 -- src/lib.rt:65:22
 first-bit-requires : tie.Need-first-bit-requires Inv-loop μ-loop

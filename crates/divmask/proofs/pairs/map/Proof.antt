@@ -72,7 +72,7 @@ first-bit-requires c κs = (div-le-self 32 (c .before .before .before .before .b
 
 -- src/pairs.rt:46:17
 field-requires : tie.Need-field-requires Inv-loop μ-loop
-field-requires c κs = let k = step (c .before .before .before .before .before .loop .inv .0) (seen _ (c .before .before .before .before .before .loop .inv .0 .ra) (c .before .before .before .before .get .ensures)) (c .before .before .before .if1 .left) in let e = bits-are (c .before .before .before .before .before .before .before .before .args .variables) ((c .before .before .before .before .get .result) / 65536 % 4096) (c .before .bits-of .result) (c .before .bits-of .ensures) in (omega (arith, k .few), (omega (arith, c .before .before .get2 .ensures, (c .before .before .before .before .before .before .before .before .pre .0 .low) ((c .before .before .before .before .get .result) / 65536 % 4096) (k .known)), (k .low, k .high)))
+field-requires c κs = let k = step (c .before .before .before .before .before .loop .inv .0) (seen _ (c .before .before .before .before .before .loop .inv .0 .ra) (c .before .before .before .before .get .ensures)) (c .before .before .before .if1 .left) in let e = bits-are (c .before .before .before .before .before .before .before .before .args .variables) ((c .before .before .before .before .get .result) / 65536 % 4096) (c .before .bits-of .result) (c .before .bits-of .ensures) in let p = c .before .before .before .before .before .before .before .before .pre .0 in let v = (c .before .before .before .before .get .result) / 65536 % 4096 in ((omega (arith, k .few), (omega (arith, c .before .before .get2 .ensures, (p .low) v (k .known)), omega (arith, c .before .before .get2 .ensures, (p .high) v (k .known)))), (k .low, k .high))
 
 -- src/pairs.rt:46:50
 cast-mask : tie.Need-cast-mask Inv-loop μ-loop
