@@ -1,55 +1,61 @@
 -- The ratio of an entry, and the value of the label map's row that it names. Assumes nothing.
 use mathlib.Core.Path.{_≡_, refl, sym, ap, _∙_}
-use mathlib.Core.Bool.{true}
-use mathlib.Core.List.{List}
+use mathlib.Core.Bool.{Bool, true}
+use mathlib.Core.List.{List, _++_}
 use mathlib.Core.Logic.{_↔_}
-use Prim.Native.Nat.{ℕ, _+_, _*_, _%_, _≤_}
+use Prim.Native.Nat.{ℕ, _+_, _-_, _*_, _%_, _≤_, _<_}
 use native.Mathlib.Omega.{arith}
-use lib.ListN.{getD, drop}
-use lib.Seq.{getD-drop, drop-drop}
+use lib.ListN.{length, getD, take, drop, take-append-drop, length-drop}
+use lib.Seq.{getD-drop, drop-drop, length-take-le, take-all}
 use Rattle.words.specs.Kinds.{kind, payload}
 use Rattle.words.specs.Words.{words}
 use Rattle.words.specs.Tables.{part}
-use Rattle.monomial.specs.Monomial.{front, found, ended, Canonical}
+use Rattle.monomial.specs.Monomial.{front, Starts, first, Canonical}
 use Rattle.monomial.specs.Operations.{result, equal}
 use Rattle.monomial.specs.declared.ordered_ops.Op.{Op}
 use Rattle.monomial.proofs.Divisions.{equal-iff}
-use Rattle.monomial.proofs.Ends.{ended-found}
-use Rattle.monomial.proofs.Laws.{canonical-more}
+use Rattle.monomial.proofs.Canon.{front-short}
+use Rattle.monomial.proofs.Firsts.{starts-wide, first-part}
+use Rattle.monomial.proofs.Laws.{canonical-front, canonical-result, length-result}
 use Rattle.fast_compare.specs.Map as map
 use Rattle.fast_compare.specs.Layout as labels
 use Rattle.index_theory.specs.Entries.{quotientOf}
 use Rattle.index_image.specs.Shape as at
 use Rattle.index_image.specs.Walk.{lmIn, rowIn}
-use Rattle.index_image.specs.Door.{slotLength, slotIn, indexIn, signIn, labelsIn, rowValue, RatioReady}
+use Rattle.index_image.specs.Door.{slotLength, slotIn, indexIn, signIn, labelsIn, rowValue, HasRatio, RatioReady}
 use Rattle.index_image.specs.declared.Shape.{Shape}
-use Rattle.index_image.proofs.Slots.{part-words, slot-canonical}
+use Rattle.words.proofs.Laws.{words-drop}
+use Rattle.index_image.proofs.Slots.{slot-canonical}
 
--- the words of what the finder hands back
-found-words : (k m : ℕ) (bs : List ℕ) (i : ℕ) → words (found k m bs i) ≡ part (words bs) i (front k m 0 (drop i (words bs)))
-unfolding found
-found-words k m bs i = part-words bs i (front k m 0 (drop i (words bs))) (4 * front k m 0 (drop i (words bs))) refl
+-- the bytes from x on, as they are lent
+abbrev pub rest : List ℕ → ℕ → List ℕ
+rest bs x = take (length bs - x) (drop x bs)
 
--- the words up to the end word, where a monomial or ratio stands
-ended-words : (k m : ℕ) (bs : List ℕ) (i j : ℕ) (r : List ℕ) → i ≡ j → r ≡ ended bs i → (front k m 0 (drop j (words bs)) ≡ 0 → ⊥) → words r ≡ part (words bs) j (front k m 0 (drop j (words bs)))
-ended-words k m bs i j r e p f = ap words (p ∙ ap (ended bs) e ∙ ended-found k m bs j f) ∙ found-words k m bs j
+rest-is : (bs : List ℕ) (x : ℕ) → rest bs x ≡ drop x bs
+rest-is bs x = take-all (length bs - x) (drop x bs) (omega (arith, length-drop x bs))
 
-module _ (bs : List ℕ) (s : Shape) (i a : ℕ) (ea : a ≡ at.entryAt s i) (r : List ℕ) where
-  pub lm-part : r ≡ ended bs a → (slotLength (words bs) (s .variables) (at.lmAt s i) ≡ 0 → ⊥) → words r ≡ lmIn (words bs) s i
+rest-words : (bs : List ℕ) (x g : ℕ) → x ≡ 4 * g → words (rest bs x) ≡ drop g (words bs)
+rest-words bs x g e = ap words (rest-is bs x) ∙ ap (λ (k : ℕ). words (drop k bs)) e ∙ words-drop bs g
+
+-- they start with the monomial there
+pub record Lent (bs ws : List ℕ) : Type 0 where
+  pub starts : Starts 1 4096 (words bs)
+  pub is : first 1 (words bs) ≡ ws
+
+lent-slot : (bs : List ℕ) (m g x : ℕ) → x ≡ 4 * g → (front 1 m 0 (drop g (words bs)) ≡ 0 → ⊥) → Lent (rest bs x) (part (words bs) g (front 1 m 0 (drop g (words bs))))
+lent-slot bs m g x e h =
+    let st : Starts 1 m (drop g (words bs)) = record { some = h } in
+    let w : words (rest bs x) ≡ drop g (words bs) = rest-words bs x g e in
+    record { starts = rw w (starts-wide st); is = ap (first 1) w ∙ first-part (words bs) g st }
+
+module _ (bs : List ℕ) (s : Shape) (i : ℕ) (n : RatioReady (words bs) s i) where
+  lm-lent : (x : ℕ) → x ≡ 4 * at.lmAt s i → Lent (rest bs x) (lmIn (words bs) s i)
   unfolding lmIn
-  lm-part p f = ended-words 1 (s .variables) bs a (at.entryAt s i) r ea p f
+  lm-lent x e = lent-slot bs (s .variables) (at.lmAt s i) x e (n .lm)
 
-  pub sign-part : r ≡ ended bs (a + (s .variables + 4)) → (slotLength (words bs) (s .variables) (at.signAt s i) ≡ 0 → ⊥) → words r ≡ signIn (words bs) s i
+  sign-lent : (x : ℕ) → x ≡ 4 * at.signAt s i → Lent (rest bs x) (signIn (words bs) s i)
   unfolding signIn slotIn
-  sign-part p f = ended-words 1 (s .variables) bs (a + (s .variables + 4)) (at.signAt s i) r (rw ea) p f
-
--- the ratio of the label map's row at word x
-pub ratio-part : (bs : List ℕ) (s : Shape) (j x : ℕ) (r : List ℕ) → x ≡ at.labelsAt s + labels.rowAt (s .variables) j → r ≡ ended bs (x + 1)
-    → labels.RowOk (labelsIn (words bs) s) (s .variables) (labels.rowAt (s .variables) j) → words r ≡ part (words bs) (x + 1) (front 2 (s .variables) 0 (drop (x + 1) (words bs)))
-ratio-part bs s j x r e p o =
-    let q : at.labelsAt s + (labels.rowAt (s .variables) j + 1) ≡ x + 1 = omega arith in
-    ended-words 2 (s .variables) bs (x + 1) (x + 1) r refl p
-    (rw (drop-drop (labels.rowAt (s .variables) j + 1) (at.labelsAt s) (words bs), q) at (o .some))
+  sign-lent x e = lent-slot bs (s .variables) (at.signAt s i) x e (n .sign)
 
 -- the value of a row, by the words of the whole image
 row-value : (W : List ℕ) (s : Shape) (j r : ℕ) → r ≡ at.labelsAt s + labels.rowAt (s .variables) j
@@ -61,12 +67,34 @@ row-value W s j r e =
     rw (getD-drop (at.labelsAt s) W a 0, drop-drop (a + 1) (at.labelsAt s) W, q, ← e)
 
 -- the signature monomial and lm of an entry are canonical
-pub parts-canonical : (W : List ℕ) (s : Shape) (i : ℕ) → s .variables ≤ 64 → RatioReady W s i → Canonical 1 64 (signIn W s i) × Canonical 1 64 (lmIn W s i)
+pub parts-canonical : (W : List ℕ) (s : Shape) (i : ℕ) → s .variables ≤ 64 → RatioReady W s i → Canonical 1 (s .variables) (signIn W s i) × Canonical 1 (s .variables) (lmIn W s i)
 unfolding signIn lmIn slotIn
 parts-canonical W s i few n = (
-  canonical-more (omega arith) few (slot-canonical W (s .variables) (at.signAt s i) (omega arith) (n .sign)),
-  canonical-more (omega arith) few (slot-canonical W (s .variables) (at.entryAt s i) (omega arith) (n .lm)),
+  slot-canonical W (s .variables) (at.signAt s i) (omega arith) (n .sign),
+  slot-canonical W (s .variables) (at.lmAt s i) (omega arith) (n .lm),
 )
+
+-- the ratio's words are as many as a slot has, and words that start with it have it there
+module _ (m : ℕ) (A B : List ℕ) (few : m ≤ 64) (ca : Canonical 1 m A) (cb : Canonical 1 m B) where
+  pub ratio-short : length (result Op.Ratio A B) ≤ at.slotWidth m
+  ratio-short = length-result m A B ca cb Op.Ratio (omega arith)
+
+  pub front-ratio : (D : List ℕ) → (front 2 m 0 D ≡ 0 → ⊥) → HasRatio A B D ↔ (take (front 2 m 0 D) D ≡ result Op.Ratio A B)
+  unfolding part
+  front-ratio D some = (to, from)
+    where
+      to : take (length (result Op.Ratio A B)) D ≡ result Op.Ratio A B → take (front 2 m 0 D) D ≡ result Op.Ratio A B
+      to e =
+          let r = result Op.Ratio A B in
+          let can : Canonical 2 m r = canonical-result m A B ca cb Op.Ratio (omega arith) (λ z. absurd (let y : _≡_ {A = ℕ} 0 1 = cc in omega arith)) in
+          let split : D ≡ r ++ drop (length r) D = sym (take-append-drop (length r) D) ∙ ap (λ (l : List ℕ). l ++ drop (length r) D) e in
+          let f : front 2 m 0 D ≡ length r = ap (front 2 m 0) split ∙ canonical-front 2 m r (drop (length r) D) (omega arith) can in
+          rw f e
+
+      from : take (front 2 m 0 D) D ≡ result Op.Ratio A B → take (length (result Op.Ratio A B)) D ≡ result Op.Ratio A B
+      from e =
+          let l : length (result Op.Ratio A B) ≡ front 2 m 0 D = ap length (sym e) ∙ length-take-le (front 2 m 0 D) D (omega (arith, front-short 2 m 0 D)) in
+          rw l e
 
 module _ (bs : List ℕ) (s : Shape) (i r x y : ℕ) (few : s .variables ≤ 64) (n : RatioReady (words bs) s i)
     (er : r ≡ at.labelsAt s + labels.rowAt (s .variables) (rowIn (words bs) s i))
@@ -96,3 +124,49 @@ module _ (bs : List ℕ) (s : Shape) (i r x y : ℕ) (few : s .variables ≤ 64)
         λ (e : rowValue (words bs) s (rowIn (words bs) s i) ≡ record { index = indexIn (words bs) s i; ratio = result Op.Ratio (signIn (words bs) s i) (lmIn (words bs) s i) }).
             equal-iff _ R .1 (sym (ap (λ (v : map.Value). v .ratio) (sym v ∙ e))),
       )
+
+  -- as it is compared while it is merged
+  pub by-merge : x ≡ y → (t : Bool) → (t ≡ true) ↔ HasRatio (signIn (words bs) s i) (lmIn (words bs) s i) (drop (r + 1) (words bs))
+      → (t ≡ true) ↔ (rowValue (words bs) s (rowIn (words bs) s i) ≡ quotientOf (indexIn (words bs) s i) (signIn (words bs) s i) (lmIn (words bs) s i))
+  unfolding part
+  by-merge h t e =
+      let q : at.labelsAt s + (labels.rowAt (s .variables) (rowIn (words bs) s i) + 1) ≡ r + 1 = omega (arith, er) in
+      let some : front 2 (s .variables) 0 (drop (r + 1) (words bs)) ≡ 0 → ⊥ =
+      rw (drop-drop (labels.rowAt (s .variables) (rowIn (words bs) s i) + 1) (at.labelsAt s) (words bs), q) at (n .row-ok .some) in
+      let can = parts-canonical (words bs) s i few n in
+      let f = front-ratio (s .variables) (signIn (words bs) s i) (lmIn (words bs) s i) few (can .0) (can .1) (drop (r + 1) (words bs)) some in
+      let g = same-ratio h in
+      let k = equal-iff (result Op.Ratio (signIn (words bs) s i) (lmIn (words bs) s i)) (part (words bs) (r + 1) (front 2 (s .variables) 0 (drop (r + 1) (words bs)))) in (
+        λ (z : t ≡ true). g .0 (k .1 (sym (f .0 (e .0 z)))),
+        λ z. e .1 (f .1 (sym (k .0 (g .1 z)))),
+      )
+
+  -- what is lent to the comparison, and what its answer says
+  module _ (e : ℕ) (ee : e ≡ at.entryAt s i) where
+    abbrev m : ℕ
+    m = s .variables
+
+    sl : Lent (rest bs (4 * (e + (m + 4)))) (signIn (words bs) s i)
+    sl = sign-lent bs s i n (4 * (e + (m + 4))) (omega arith)
+
+    ll : Lent (rest bs (4 * e)) (lmIn (words bs) s i)
+    ll = lm-lent bs s i n (4 * e) (omega arith)
+
+    pub record Asks : Type 0 where
+      pub sign-starts : Starts 1 4096 (words (rest bs (4 * (e + (s .variables + 4)))))
+      pub lm-starts : Starts 1 4096 (words (rest bs (4 * e)))
+      pub fits : 4 * length (result Op.Ratio (first 1 (words (rest bs (4 * (e + (s .variables + 4)))))) (first 1 (words (rest bs (4 * e))))) ≤ length (rest bs (4 * (r + 1)))
+
+    pub asks : 4 * at.labelAt s (rowIn (words bs) s i) ≤ length bs → Asks
+    asks room =
+        let can = parts-canonical (words bs) s i few n in
+        let l : length (rest bs (4 * (r + 1))) ≡ length bs - 4 * (r + 1) = ap length (rest-is bs (4 * (r + 1))) ∙ length-drop (4 * (r + 1)) bs in
+        record {
+          sign-starts = sl .starts;
+          lm-starts = ll .starts;
+          fits = rw (sl .is, ll .is) (omega (arith, l, er, ratio-short m (signIn (words bs) s i) (lmIn (words bs) s i) few (can .0) (can .1)));
+        }
+
+    pub answered : x ≡ y → (t : Bool) → (t ≡ true) ↔ HasRatio (first 1 (words (rest bs (4 * (e + (s .variables + 4)))))) (first 1 (words (rest bs (4 * e)))) (words (rest bs (4 * (r + 1))))
+        → (t ≡ true) ↔ (rowValue (words bs) s (rowIn (words bs) s i) ≡ quotientOf (indexIn (words bs) s i) (signIn (words bs) s i) (lmIn (words bs) s i))
+    answered h t q = by-merge h t (rw (sl .is, ll .is, rest-words bs (4 * (r + 1)) (r + 1) refl) at q)

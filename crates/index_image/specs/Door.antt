@@ -2,10 +2,12 @@
 use mathlib.Core.Path.{_≡_}
 use mathlib.Core.List.{List}
 use Prim.Native.Nat.{ℕ, _+_, _-_, _*_, _≤_, _<_}
-use lib.ListN.{getD, take, drop}
+use lib.ListN.{length, getD, take, drop}
 use Rattle.words.specs.Kinds.{kind, payload}
 use Rattle.words.specs.Tables.{part, zeros}
 use Rattle.monomial.specs.Monomial.{front, pow}
+use Rattle.monomial.specs.Operations.{result}
+use Rattle.monomial.specs.declared.ordered_ops.Op.{Op}
 use Rattle.divmask.specs.Mask.{mask, vector}
 use Rattle.divmask.specs.Tracker.{Maxima}
 use Rattle.fast_compare.specs.Map as map
@@ -34,6 +36,10 @@ indexIn W s i = payload (getD W (at.indexAt s i) 0)
 
 unfoldable pub signIn : List ℕ → Shape → ℕ → List ℕ
 signIn W s i = slotIn W (s .variables) (at.signAt s i)
+
+-- the words C start with the ratio A / B
+abbrev pub HasRatio : List ℕ → List ℕ → List ℕ → Type 0
+HasRatio A B C = part C 0 (length (result Op.Ratio A B)) ≡ result Op.Ratio A B
 
 -- the bytes of the label map; the words from it on, and the number of its rows
 abbrev pub labelBytes : List ℕ → Shape → List ℕ

@@ -2,14 +2,16 @@
 use crate::Shape;
 use crate::fields;
 ghost use mathlib.Core.Path.{_≡_};
-ghost use mathlib.Core.Bool.{true};
+ghost use mathlib.Core.Bool.{true, cond};
 ghost use mathlib.Core.Logic.{_↔_};
 ghost use Prim.Native.Nat.{ℕ, _+_, _*_, _≤_, _<_};
+ghost use lib.Dec.{eqb};
 ghost use lib.ListN.{length};
 ghost use Rattle.words.specs.Words.{words};
 ghost use Rattle.words.specs.Tables.{part};
-ghost use Rattle.monomial.specs.Monomial.{Canonical};
-ghost use Rattle.monomial.specs.Operations.{result, equal};
+ghost use Rattle.words.specs.Kinds.{varWord};
+ghost use Rattle.monomial.specs.Monomial.{Starts, first};
+ghost use Rattle.monomial.specs.Operations.{result};
 ghost use Rattle.monomial.specs.declared.ordered_ops.Op.{Op};
 ghost use Rattle.divmask.specs.Tracker.{Maxima};
 ghost use Rattle.index_theory.specs.Entries.{quotientOf};
@@ -40,16 +42,52 @@ pub fn masked_slot(image: &[u8], map: usize, variables: usize, i: usize) -> bool
     words::pairs::get(image, i + (variables + fields::MASK)) == masks
 }
 
-// Whether c is the ratio a / b.
-fn is_ratio(a: &[u8], b: &[u8], c: &[u8]) -> bool
-    requires { ⌜ Canonical 1 64 (words (now a)) ⌝ }
-    requires { ⌜ Canonical 1 64 (words (now b)) ⌝ }
-    ensures { λ r. ⌜ r ≡ equal (result Op.Ratio (words (now (a .entry))) (words (now (b .entry)))) (words (now (c .entry))) ⌝ }
+// Whether w is the word that a ratio has for variable v, whose power is p − 32,768. It has none for power 0.
+fn agrees(w: u32, v: u32, p: u32) -> bool
+    requires { ⌜ (v < 4096) × (p < 65536) ⌝ }
+    ensures { λ r. ⌜ r ≡ cond (eqb p 32768) true (eqb w (varWord 2 v p)) ⌝ }
 {
-    let mut made = [0u8; 260];
-    let n = monomial::fraction_division(a, b, &mut made);
-    let e = 4 * n;
-    monomial::eq(&made[..e], c)
+    if p == 32768 {
+        return true;
+    }
+    w == 536870912 + (65536 * v + p)
+}
+
+// The place behind word n, where there is a word for the power.
+fn place_after(n: usize, p: u32) -> usize
+    requires { ⌜ n ≤ 4096 ⌝ }
+    ensures { λ r. ⌜ r ≡ cond (eqb p 32768) n (n + 1) ⌝ }
+{
+    if p == 32768 { n } else { n + 1 }
+}
+
+// Whether c starts with the ratio of the monomials that a and b start with. It is compared while it is merged, and written nowhere.
+fn is_ratio(a: &[u8], b: &[u8], c: &[u8]) -> bool
+    requires { ⌜ Starts 1 4096 (words (now a)) ⌝ }
+    requires { ⌜ Starts 1 4096 (words (now b)) ⌝ }
+    requires { ⌜ 4 * length (result Op.Ratio (first 1 (words (now a))) (first 1 (words (now b)))) ≤ length (now c) ⌝ }
+    ensures { λ r. ⌜ (r ≡ true) ↔ door.HasRatio (first 1 (words (now (a .entry)))) (first 1 (words (now (b .entry)))) (words (now (c .entry))) ⌝ }
+{
+    let mut i: usize = 0;
+    let mut j: usize = 0;
+    let mut n: usize = 0;
+    loop {
+        let x = words::get(a, i);
+        let y = words::get(b, j);
+        let w = words::get(c, n);
+        let u = monomial::ordered_ops::upper(x, y);
+        if u == 0 {
+            return w as usize == n;
+        }
+        let q = monomial::ordered_ops::power_at(y, u, 0);
+        let p = monomial::ordered_ops::power_at(x, u, 0) + 32768 - q;
+        if !agrees(w, u % 4096, p) {
+            return false;
+        }
+        n = place_after(n, p);
+        i = monomial::ordered_ops::step(i, x, u);
+        j = monomial::ordered_ops::step(j, y, u);
+    }
 }
 
 // Whether the label map's row that entry i names has the entry's ratio.
@@ -67,10 +105,10 @@ fn has_ratio(image: &[u8], s: Shape, i: usize) -> bool
     if words::get(image, e + (m + fields::INDEX)) != words::get(image, r) {
         return false;
     }
-    let sign = monomial::known_at(image, e + (m + fields::SIGN));
-    let lm = monomial::known_at(image, e);
-    let ratio = monomial::known_at(image, r + 1);
-    is_ratio(sign, lm, ratio)
+    let x = 4 * (e + (m + fields::SIGN));
+    let y = 4 * e;
+    let z = 4 * (r + 1);
+    is_ratio(&image[x..], &image[y..], &image[z..])
 }
 
 // Whether the entry at place i of a ratio index has an index, a signature monomial and a ratio.
