@@ -72,8 +72,11 @@ first-bytes k s = omega (arith, first-short k (words s), length-words s)
 pub begins : {k : ℕ} {W : List ℕ} → 0 < k → Starts k 4096 W → Rest k (first k W) 0 4096
 begins pos s = start (first-canonical pos s)
 
-pub seen : {k i b x : ℕ} (W : List ℕ) → Rest k (first k W) i b → x ≡ getD W i 0 → x ≡ getD (first k W) i 0
+pub read : (k : ℕ) (W : List ℕ) (i : ℕ) {x : ℕ} → i < length (first k W) → x ≡ getD W i 0 → x ≡ getD (first k W) i 0
 unfolding first
-seen {k} {i} {b} {x} W r e =
-    let h : i < front k 4096 0 W = omega (arith, within r, length-take (front k 4096 0 W) W) in
-    e ∙ sym (getD-take (front k 4096 0 W) W i 0 h)
+read k W i h e =
+    let l : i < front k 4096 0 W = omega (arith, h, length-take (front k 4096 0 W) W) in
+    e ∙ sym (getD-take (front k 4096 0 W) W i 0 l)
+
+pub seen : {k i b x : ℕ} (W : List ℕ) → Rest k (first k W) i b → x ≡ getD W i 0 → x ≡ getD (first k W) i 0
+seen {k} {i} W r e = read k W i (within r) e

@@ -10,7 +10,8 @@ use lib.ListN.{length, getD, length-append}
 use borrow.Author.Tests.{eq-eqb, ne-eqb}
 use Rattle.words.specs.Kinds.{varWord}
 use Rattle.words.specs.Words.{putW, pasteW}
-use Rattle.words.proofs.Laws.{pasteW-nil, pasteW-snoc, length-pasteW}
+use Rattle.words.proofs.Laws.{pasteW-snoc, putW-paste, length-putW}
+use Rattle.words.proofs.Tables.{paste-over, over-mid}
 use Rattle.monomial.specs.Monomial.{bias, Canonical, pow, varsOf, monomialOf}
 use Rattle.monomial.specs.Operations.{met, kindOf, powers, result}
 use Rattle.monomial.specs.Walk.{powerAt, past}
@@ -38,13 +39,15 @@ kind-small Product = (omega arith, omega arith)
 kind-small Quotient = (omega arith, omega arith)
 kind-small Ratio = (omega arith, omega arith)
 
+-- what is done so far stands before word n; the next word goes to n, whatever stands there
 pub record Summing (o : Op) (A B out₀ out : List ℕ) (i j n : ℕ) : Type 0 where
   pub b : ℕ
   pub ra : Rest 1 A i b
   pub rb : Rest 1 B j b
   pub done : List ℕ
   pub count : length done ≡ n
-  pub now : out ≡ pasteW out₀ 0 done
+  pub kept : length out ≡ length out₀
+  pub now : 4 * n + 4 ≤ length out₀ → (w : ℕ) → putW out n w ≡ pasteW out₀ 0 (done ++ (w ∷ []))
   pub split : varsOf (kindOf o) 4096 (powers o A B) ≡ done ++ varsOf (kindOf o) b (powers o A B)
 
 pub begin : {A B : List ℕ} (o : Op) (out : List ℕ) → Rest 1 A 0 4096 → Rest 1 B 0 4096 → Summing o A B out out 0 0 0
@@ -54,7 +57,8 @@ begin o out ra rb = record {
   rb = rb;
   done = [];
   count = refl;
-  now = sym (pasteW-nil out 0);
+  kept = refl;
+  now = λ h w. putW-paste out 0 w h;
   split = refl;
 }
 
@@ -78,7 +82,7 @@ module _ {o : Op} {A B out₀ out : List ℕ} {i j n : ℕ} (s : Summing o A B o
         jb = within (s .rb);
         few = omega (arith, vars-length (kindOf o) 4096 (powers o A B));
         free = f;
-        kept = ap length (s .now) ∙ length-pasteW out₀ 0 (s .done) (omega (arith, s .count));
+        kept = s .kept;
       }
 
   module _ {x y t : ℕ} (ex : x ≡ getD A i 0) (ey : y ≡ getD B j 0) (et : t ≡ max (x / 65536) (y / 65536)) where
@@ -89,7 +93,7 @@ module _ {o : Op} {A B out₀ out : List ℕ} {i j n : ℕ} (s : Summing o A B o
         let zb = done-b (omega arith) x y t (s .ra) (s .rb) ex ey et h in
         let e : varsOf (kindOf o) 4096 (powers o A B) ≡ s .done =
         s .split ∙ rw (vars-skip (kindOf o) 0 (s .b) (powers o A B) (omega arith) (λ v l u. rw (za v u, zb v u) (met-zero o)), vars-nil) (append-nil (s .done)) in
-        rw e (simp (length-append, s .count), rw (s .count, s .now) (pasteW-snoc out₀ 0 (s .done) n n (omega (arith, s .count)) (fits .free)))
+        rw e (simp (length-append, s .count), rw (s .count) (s .now (fits .free) n))
 
     module _ (h : t ≡ 0 → ⊥) where
       next : Top 1 (s .b) t
@@ -113,7 +117,7 @@ module _ {o : Op} {A B out₀ out : List ℕ} {i j n : ℕ} (s : Summing o A B o
           record { a-small = pa; b-small = pb; p-small = met-small o _ _ pa pb }
 
       module _ {p : ℕ} {out′ : List ℕ} {n′ : ℕ} (ep : p ≡ met o (powerAt x t 0) (powerAt y t 0))
-          (en : n′ ≡ cond (eqb p (bias (kindOf o))) n (n + 1)) (eo : out′ ≡ cond (eqb p (bias (kindOf o))) out (putW out n (varWord (kindOf o) (t % 4096) p))) where
+          (en : n′ ≡ cond (eqb p (bias (kindOf o))) n (n + 1)) (eo : out′ ≡ putW out n (varWord (kindOf o) (t % 4096) p)) where
         here : powers o A B (next .u) ≡ p
         unfolding powers
         here = rw (ta .power-is, tb .power-is) (sym ep)
@@ -121,6 +125,23 @@ module _ {o : Op} {A B out₀ out : List ℕ} {i j n : ℕ} (s : Summing o A B o
         skipped : varsOf (kindOf o) (s .b) (powers o A B) ≡ varsOf (kindOf o) (suc (next .u)) (powers o A B)
         unfolding powers
         skipped = vars-skip (kindOf o) (suc (next .u)) (s .b) (powers o A B) (next .below) (λ v l r. rw (ta .gap v l r, tb .gap v l r) (met-zero o))
+
+        abbrev w : ℕ
+        w = varWord (kindOf o) (t % 4096) p
+
+        same-length : length out′ ≡ length out₀
+        same-length = ap length eo ∙ length-putW out n w ∙ s .kept
+
+        written : 4 * n + 4 ≤ length out₀ → out′ ≡ pasteW out₀ 0 (s .done ++ (w ∷ []))
+        written h = eo ∙ s .now h w
+
+        -- the word written last is gone where the next goes over it
+        instead : 4 * n + 4 ≤ length out₀ → (x : ℕ) → putW out′ n x ≡ pasteW out₀ 0 (s .done ++ (x ∷ []))
+        instead h x =
+            let l : length (s .done ++ (w ∷ [])) ≡ n + 1 = length-append (s .done) (w ∷ []) ∙ rw (s .count) in
+            putW-paste out′ n x (omega (arith, same-length))
+            ∙ rw (written h) (paste-over out₀ (s .done ++ (w ∷ [])) n (x ∷ []) (omega arith) (omega arith)
+            ∙ rw (over-mid (s .done) (w ∷ []) [] (x ∷ []) n (s .count) refl))
 
         pub again : Summing o A B out₀ out′ (past i x t) (past j y t) n′
         again =
@@ -131,7 +152,8 @@ module _ {o : Op} {A B out₀ out : List ℕ} {i j n : ℕ} (s : Summing o A B o
                 rb = tb .rest;
                 done = s .done;
                 count = s .count ∙ sym (en ∙ rw (eq-eqb p (bias (kindOf o)) z));
-                now = eo ∙ rw (eq-eqb p (bias (kindOf o)) z) (s .now);
+                kept = same-length;
+                now = let m : n′ ≡ n = en ∙ rw (eq-eqb p (bias (kindOf o)) z) in rw m instead;
                 split = s .split ∙ rw skipped (rw (vars-none (kindOf o) (next .u) (powers o A B) (here ∙ z)));
               }
               | no z ↦ record {
@@ -140,7 +162,11 @@ module _ {o : Op} {A B out₀ out : List ℕ} {i j n : ℕ} (s : Summing o A B o
                 rb = tb .rest;
                 done = s .done ++ (varWord (kindOf o) (t % 4096) p ∷ []);
                 count = length-append (s .done) _ ∙ rw (s .count) (sym (en ∙ rw (ne-eqb p (bias (kindOf o)) z)));
-                now = eo ∙ rw (ne-eqb p (bias (kindOf o)) z, s .now) (pasteW-snoc out₀ 0 (s .done) n _ (omega (arith, s .count)) (fits .free));
+                kept = same-length;
+                now = λ h x.
+                    let m : n′ ≡ n + 1 = en ∙ rw (ne-eqb p (bias (kindOf o)) z) in
+                    let l : n′ ≡ 0 + length (s .done ++ (w ∷ [])) = omega (arith, length-append (s .done) (w ∷ []), s .count) in
+                    rw (written (fits .free)) (pasteW-snoc out₀ 0 (s .done ++ (w ∷ [])) n′ x l h);
                 split =
                     let ids : t % 4096 ≡ next .u = omega (arith, next .is, next .below, s .ra .few) in
                     s .split ∙ rw (skipped, vars-some (kindOf o) (next .u) (powers o A B) (λ y. z (sym here ∙ y)), here, ids, append-assoc);

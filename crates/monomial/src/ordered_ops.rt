@@ -66,17 +66,15 @@ pub fn step(i: usize, w: u32, u: u32) -> usize
     if w / 65536 == u { i + 1 } else { i }
 }
 
-// Writes variable v to the power p as word n, and returns the next place; power 0 is left out.
+// Writes variable v to the power p as word n, and returns the next place: the same one for power 0, so that the next word goes over it.
+// It writes in either case, since a test before the store costs more.
 fn push(out: &mut [u8], n: usize, kind: u32, v: u32, p: u32) -> usize
     requires { ⌜ (1 ≤ kind) × ((kind < 16) × ((v < 4096) × (p < 65536))) ⌝ }
     requires { ⌜ (n ≤ 4096) × (4 * n + 4 ≤ length (now out)) ⌝ }
-    ensures { λ r. ⌜ (r ≡ cond (eqb p (bias kind)) n (n + 1)) × (now (out .exit) ≡ cond (eqb p (bias kind)) (now (out .entry)) (putW (now (out .entry)) n (varWord kind v p))) ⌝ }
+    ensures { λ r. ⌜ (r ≡ cond (eqb p (bias kind)) n (n + 1)) × (now (out .exit) ≡ putW (now (out .entry)) n (varWord kind v p)) ⌝ }
 {
-    if p == 32768 * (kind - 1) {
-        return n;
-    }
     words::put(out, n, 268435456 * kind + (65536 * v + p));
-    n + 1
+    if p == 32768 * (kind - 1) { n } else { n + 1 }
 }
 
 // Writes the end word of a monomial of n variables, and returns its length in words.

@@ -8,12 +8,12 @@ use lib.Dec.{eqb}
 use Rattle.words.specs.Kinds.{varWord, endWord}
 use Rattle.monomial.specs.Monomial.{pow, monomialOf}
 use Rattle.monomial.specs.Operations.{result}
-use Rattle.monomial.specs.Order.{order, compare}
+use Rattle.monomial.specs.Order.{order}
 use Rattle.monomial.specs.declared.monomial_ordering.CmpOrd.the-variants.{Greater}
 use Rattle.monomial.specs.declared.ordered_ops.Op.the-variants.{Ratio}
-use lib.ListN.{length, getD}
-use Rattle.fast_compare.specs.Labels.{half, rebuilt}
-use Rattle.divmask.specs.Mask.{bits, mask}
+use Rattle.fast_compare.specs.Map.{Value, valueOf, State, empty, answer, after, label, rebuild}
+use Rattle.fast_compare.specs.declared.Comparer.the-variants.{New}
+use Rattle.divmask.specs.Mask.{mask}
 use Rattle.divmask.specs.Tracker.{updated}
 use Rattle.kd_theory.specs.Bifurcate.{average}
 
@@ -30,13 +30,23 @@ two u p v q i = cond (eqb i u) p (cond (eqb i v) q 0)
 abbrev pub maskAt : ℕ → List ℕ → ℕ → ℕ → ℕ
 maskAt m xs v q = mask m xs (pow 1 (varWord 1 v q ∷ endWord 1 ∷ []))
 
--- the label of a new value among values and their labels, in order of arrival
-abbrev pub labelOf : List ℕ → List ℕ → ℕ → ℕ
-labelOf vs ls q = half compare (λ i. getD vs i 0) (λ i. getD ls i 0) (length vs) q
+-- a value: one, with signature index i
+abbrev pub signed : ℕ → Value
+signed i = valueOf i (0x00000000 ∷ [])
 
--- the label of value i of these after `rebuild`
-abbrev pub rebuiltAt : List ℕ → ℕ → ℕ
-rebuiltAt vs i = rebuilt compare (λ k. getD vs k 0) (length vs) i
+-- a label map opened for one variable and three values, and the same after values 5 and 3
+abbrev pub fresh : State
+fresh = empty 1 3
+
+abbrev pub withOne : State
+withOne = after fresh (signed 5)
+
+abbrev pub withTwo : State
+withTwo = after withOne (signed 3)
+
+-- the label of row i, in order of arrival, of the map with values 5, 3 and 7 after `rebuild`
+abbrev pub rebuiltAt : ℕ → ℕ
+rebuiltAt i = label (rebuild (after withTwo (signed 7)) .rows) i
 
 abbrev pub table : List (Type 0)
 table =
@@ -55,16 +65,16 @@ table =
     -- three variables, maxima 1, at any power from 1
     ((q : ℕ) → 1 ≤ q → q ≤ 32767 → maskAt 3 (1 ∷ 1 ∷ 1 ∷ []) 0 q ≡ 0x7FF) ∷
     ((q : ℕ) → 1 ≤ q → q ≤ 32767 → maskAt 3 (1 ∷ 1 ∷ 1 ∷ []) 2 q ≡ 0xFFC00000) ∷
-    -- 33 variables: id 32 has no bit
-    (bits 33 32 ≡ 0) ∷
+    -- 33 variables: id 32 has no bit, whatever its power and the maxima
+    ((xs : List ℕ) (q : ℕ) → q ≤ 32767 → maskAt 33 xs 32 q ≡ 0) ∷
     -- labels: the first, then a smaller value, then a larger one
-    (labelOf [] [] 5 ≡ 2147483647) ∷
-    (labelOf (5 ∷ []) (2147483647 ∷ []) 3 ≡ 1073741823) ∷
-    (labelOf (5 ∷ 3 ∷ []) (2147483647 ∷ 1073741823 ∷ []) 7 ≡ 3221225471) ∷
+    (answer fresh (signed 5) ≡ New 2147483647) ∷
+    (answer withOne (signed 3) ≡ New 1073741823) ∷
+    (answer withTwo (signed 7) ≡ New 3221225471) ∷
     -- `rebuild` of 3 values: the smallest, the middle one, the largest
-    (rebuiltAt (5 ∷ 3 ∷ 7 ∷ []) 1 ≡ 1073741823) ∷
-    (rebuiltAt (5 ∷ 3 ∷ 7 ∷ []) 0 ≡ 2147483647) ∷
-    (rebuiltAt (5 ∷ 3 ∷ 7 ∷ []) 2 ≡ 3221225471) ∷
+    (rebuiltAt 1 ≡ 1073741823) ∷
+    (rebuiltAt 0 ≡ 2147483647) ∷
+    (rebuiltAt 2 ≡ 3221225471) ∷
     -- averages
     (average 3 6 ≡ 5) ∷
     (average 3 4 ≡ 4) ∷

@@ -1,0 +1,140 @@
+use native.Mathlib.Omega.{arith}
+use mathlib.Core.Path.{_≡_, sym, ap, _∙_}
+use lib.ListN.{length, getD}
+use Prim.Native.Nat.{ℕ, _<_, _-_}
+use Rattle.words.specs.Words.{words}
+use Rattle.monomial.specs.Monomial.{first}
+use Rattle.monomial.proofs.Firsts.{begins, first-bytes, read}
+use Rattle.monomial.proofs.Orders.{Matching, match-begin, all-equal, right-alone, left-alone, differs, matches}
+use borrow.Author.Needs.{needs}
+use Rattle.monomial.proofs.monomial_ordering.revlex.Statement.{statement}
+use Rattle.monomial.proofs.monomial_ordering.revlex.Tie as tie
+use Rattle.monomial.proofs.monomial_ordering.revlex.Reads as reads
+use Rattle.monomial.proofs.monomial_ordering.revlex.Lts as lts
+use Rattle.monomial.proofs.monomial_ordering.cmp.Reads as cmp-reads
+use Rattle.monomial.proofs.monomial_ordering.differ.Reads as differ-reads
+use Rattle.words.proofs.get.Reads as get-reads
+use Rattle.words.proofs.power.Reads as power-reads
+
+abbrev Inv-loop : tie.InvT-loop
+Inv-loop a i b j kind absent m₀ n₀ m n = Matching kind (first kind (words a)) (first kind (words b)) m n
+
+abbrev μ-loop : tie.MeasureT-loop
+μ-loop a i b j kind absent m₀ n₀ m n = m
+
+-- src/monomial_ordering.rt:74:27
+sub-absent : tie.Need-sub-absent Inv-loop μ-loop
+sub-absent c = search needs
+
+-- src/monomial_ordering.rt:74:18
+mul-absent : tie.Need-mul-absent Inv-loop μ-loop
+mul-absent c = search needs
+
+-- src/monomial_ordering.rt:77:5
+loop-holds : tie.Need-loop-holds Inv-loop μ-loop
+loop-holds c = match-begin (c .before .before .pre .0 .0) (begins (c .before .before .pre .0 .0) (c .before .before .pre .1 .0)) (begins (c .before .before .pre .0 .0) (c .before .before .pre .1 .1 .0)) (c .before .before .pre .1 .1 .1 .0) (c .before .before .pre .1 .1 .1 .1)
+
+-- src/monomial_ordering.rt:80:17
+returns : tie.Need-returns Inv-loop μ-loop
+returns c = all-equal (c .before .before .before .before .before .pre .0 .0) (begins (c .before .before .before .before .before .pre .0 .0) (c .before .before .before .before .before .pre .1 .0)) (begins (c .before .before .before .before .before .pre .0 .0) (c .before .before .before .before .before .pre .1 .1 .0)) (c .before .before .loop .inv) (c .before .if1 .taken) (c .if2 .taken)
+
+-- src/monomial_ordering.rt:82:51
+sub-get : tie.Need-sub-get Inv-loop μ-loop
+sub-get c = search needs
+
+-- src/monomial_ordering.rt:82:37
+get-requires : tie.Need-get-requires Inv-loop μ-loop
+get-requires c κs = omega (arith, c .before .before .loop .inv .jb, first-bytes (c .before .before .before .before .before .args .kind) (c .before .before .before .before .before .args .b .now))
+
+-- src/monomial_ordering.rt:82:24
+power-requires : tie.Need-power-requires Inv-loop μ-loop
+power-requires c κs = search needs
+
+-- src/monomial_ordering.rt:82:13
+cmp-requires : tie.Need-cmp-requires Inv-loop μ-loop
+cmp-requires c κs = search needs
+
+-- src/monomial_ordering.rt:82:13
+returns-2 : tie.Need-returns-2 Inv-loop μ-loop
+returns-2 c = c .cmp .ensures ∙ rw (c .before .power .ensures) (right-alone (c .before .before .before .before .before .before .before .before .pre .0 .0) (begins (c .before .before .before .before .before .before .before .before .pre .0 .0) (c .before .before .before .before .before .before .before .before .pre .1 .0)) (begins (c .before .before .before .before .before .before .before .before .pre .0 .0) (c .before .before .before .before .before .before .before .before .pre .1 .1 .0)) (c .before .before .before .before .before .loop .inv) (c .before .before .before .before .if1 .taken) (omega arith) (read (c .before .before .before .before .before .before .before .before .args .kind) _ ((c .before .before .before .before .before .loop .n) - 1) (omega (arith, c .before .before .before .before .before .loop .inv .jb)) (c .before .before .get .ensures)))
+
+-- src/monomial_ordering.rt:84:31
+sub-get-2 : tie.Need-sub-get-2 Inv-loop μ-loop
+sub-get-2 c = search needs
+
+-- src/monomial_ordering.rt:84:13
+get-requires-2 : tie.Need-get-requires-2 Inv-loop μ-loop
+get-requires-2 c κs = omega (arith, c .before .loop .inv .ia, first-bytes (c .before .before .before .before .args .kind) (c .before .before .before .before .args .a .now))
+
+-- src/monomial_ordering.rt:86:32
+power-requires-2 : tie.Need-power-requires-2 Inv-loop μ-loop
+power-requires-2 c κs = search needs
+
+-- src/monomial_ordering.rt:86:13
+cmp-requires-2 : tie.Need-cmp-requires-2 Inv-loop μ-loop
+cmp-requires-2 c κs = search needs
+
+-- src/monomial_ordering.rt:86:13
+returns-3 : tie.Need-returns-3 Inv-loop μ-loop
+returns-3 c = c .cmp2 .ensures ∙ rw (c .before .power2 .ensures) (left-alone (c .before .before .before .before .before .before .before .before .pre .0 .0) (begins (c .before .before .before .before .before .before .before .before .pre .0 .0) (c .before .before .before .before .before .before .before .before .pre .1 .0)) (begins (c .before .before .before .before .before .before .before .before .pre .0 .0) (c .before .before .before .before .before .before .before .before .pre .1 .1 .0)) (c .before .before .before .before .before .loop .inv) (c .before .before .if3 .taken) (omega arith) (read (c .before .before .before .before .before .before .before .before .args .kind) _ ((c .before .before .before .before .before .loop .m) - 1) (omega (arith, c .before .before .before .before .before .loop .inv .ia)) (c .before .before .before .get2 .ensures)))
+
+-- src/monomial_ordering.rt:88:31
+sub-get-3 : tie.Need-sub-get-3 Inv-loop μ-loop
+sub-get-3 c = search needs
+
+-- src/monomial_ordering.rt:88:13
+get-requires-3 : tie.Need-get-requires-3 Inv-loop μ-loop
+get-requires-3 c κs = omega (arith, c .before .before .before .loop .inv .jb, first-bytes (c .before .before .before .before .before .before .args .kind) (c .before .before .before .before .before .before .args .b .now))
+
+-- src/monomial_ordering.rt:90:13
+differ-requires : tie.Need-differ-requires Inv-loop μ-loop
+differ-requires c κs = search needs
+
+-- src/monomial_ordering.rt:90:13
+returns-4 : tie.Need-returns-4 Inv-loop μ-loop
+returns-4 c = c .differ .ensures ∙ differs (c .before .before .before .before .before .before .before .before .before .pre .0 .0) (begins (c .before .before .before .before .before .before .before .before .before .pre .0 .0) (c .before .before .before .before .before .before .before .before .before .pre .1 .0)) (begins (c .before .before .before .before .before .before .before .before .before .pre .0 .0) (c .before .before .before .before .before .before .before .before .before .pre .1 .1 .0)) (c .before .before .before .before .before .before .loop .inv) (omega arith) (omega arith) (read (c .before .before .before .before .before .before .before .before .before .args .kind) _ ((c .before .before .before .before .before .before .loop .m) - 1) (omega (arith, c .before .before .before .before .before .before .loop .inv .ia)) (c .before .before .before .before .get2 .ensures)) (read (c .before .before .before .before .before .before .before .before .before .args .kind) _ ((c .before .before .before .before .before .before .loop .n) - 1) (omega (arith, c .before .before .before .before .before .before .loop .inv .jb)) (c .before .before .get3 .ensures)) (c .before .if4 .taken)
+
+-- src/monomial_ordering.rt:92:9
+sub-m : tie.Need-sub-m Inv-loop μ-loop
+sub-m c = search needs
+
+-- src/monomial_ordering.rt:93:9
+sub-n : tie.Need-sub-n Inv-loop μ-loop
+sub-n c = search needs
+
+-- src/monomial_ordering.rt:77:5
+loop-less : tie.Need-loop-less Inv-loop μ-loop
+loop-less c = omega arith
+
+-- src/monomial_ordering.rt:77:5
+loop-again : tie.Need-loop-again Inv-loop μ-loop
+loop-again c = matches (c .before .before .before .before .before .before .before .before .pre .0 .0) (begins (c .before .before .before .before .before .before .before .before .pre .0 .0) (c .before .before .before .before .before .before .before .before .pre .1 .0)) (begins (c .before .before .before .before .before .before .before .before .pre .0 .0) (c .before .before .before .before .before .before .before .before .pre .1 .1 .0)) (c .before .before .before .before .before .loop .inv) (omega arith) (omega arith) (read (c .before .before .before .before .before .before .before .before .args .kind) _ ((c .before .before .before .before .before .loop .m) - 1) (omega (arith, c .before .before .before .before .before .loop .inv .ia)) (c .before .before .before .get2 .ensures)) (read (c .before .before .before .before .before .before .before .before .args .kind) _ ((c .before .before .before .before .before .loop .n) - 1) (omega (arith, c .before .before .before .before .before .loop .inv .jb)) (c .before .get3 .ensures)) (omega arith)
+
+pub revlex-spec : {M : Type 1} → statement M
+revlex-spec =
+    tie.close
+    (tie.spec
+    Inv-loop
+    μ-loop
+    sub-absent
+    mul-absent
+    loop-holds
+    returns
+    sub-get
+    get-requires
+    power-requires
+    cmp-requires
+    returns-2
+    sub-get-2
+    get-requires-2
+    power-requires-2
+    cmp-requires-2
+    returns-3
+    sub-get-3
+    get-requires-3
+    differ-requires
+    returns-4
+    sub-m
+    sub-n
+    loop-less
+    loop-again)
