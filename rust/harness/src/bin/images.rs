@@ -9,6 +9,8 @@
 //! `images stack` prints the least stack on which the port judges the deepest
 //! trees.
 //!
+//! `images chain` writes the deepest tree that `crates/stack_case` reads.
+//!
 //! `images words` writes the small images that `crates/image_cases` reads, and
 //! `images answers` what it has to write, by the model alone.
 
@@ -34,6 +36,9 @@ fn main() -> ExitCode {
     let args: Vec<String> = env::args().skip(1).collect();
     match &args[..] {
         [first] if first == "stack" => return ended(print_stacks().is_ok()),
+        [first] if first == "chain" => {
+            return written(&stack::deepest(Kind::Monomial, Form::LessLeaves))
+        }
         [first] if first == "words" => return written(&cases::words()),
         [first] if first == "answers" => return written(cases::answers().as_bytes()),
         [first, rest @ ..] if first == "stack" => {
@@ -43,7 +48,7 @@ fn main() -> ExitCode {
     }
     let mut args = args.iter().map(|arg| arg.parse::<u64>().ok());
     let (Some(Some(count)), Some(seed)) = (args.next(), args.next().unwrap_or(Some(0))) else {
-        eprintln!("usage: images COUNT [SEED] | images stack | images words | images answers");
+        eprintln!("usage: images COUNT [SEED] | images stack | images chain | images words | images answers");
         return ExitCode::FAILURE;
     };
     match compare_all(count, seed) {

@@ -28,7 +28,7 @@ const LEAST: usize = 4 * PAGE;
 const MOST: usize = 8 << 20;
 
 /// The image of a full index of one variable.
-fn deepest(kind: Kind, form: Form) -> Vec<u8> {
+pub fn deepest(kind: Kind, form: Form) -> Vec<u8> {
     bytes(&encode(&full(kind, 1, MAX_CAPACITY, form)))
 }
 
