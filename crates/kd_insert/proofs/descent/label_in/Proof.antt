@@ -1,0 +1,97 @@
+use native.Mathlib.Omega.{arith}
+use Rattle.words.specs.Words.{words}
+use Rattle.index_image.proofs.Bounds.{spots}
+use Rattle.index_image.proofs.Reading.{label-at}
+use borrow.Author.Needs.{needs}
+use Rattle.kd_insert.proofs.descent.label_in.Statement.{statement}
+use Rattle.kd_insert.proofs.descent.label_in.Tie as tie
+use Rattle.kd_insert.proofs.descent.label_in.Reads as reads
+use Rattle.kd_insert.proofs.descent.label_in.Lts as lts
+use Rattle.index_image.proofs.Shape.entry_at.Reads as entry-at-reads
+use Rattle.index_image.proofs.Shape.labels_at.Reads as labels-at-reads
+use Rattle.words.proofs.get.Reads as get-reads
+
+-- src/descent.rt:84:31
+entry-at-requires : tie.Need-entry-at-requires
+entry-at-requires c κs = search needs
+
+-- src/descent.rt:84:48
+mul-get : tie.Need-mul-get
+mul-get c = search needs
+
+-- src/descent.rt:84:48
+add-get : tie.Need-add-get
+add-get c = search needs
+
+-- src/descent.rt:84:31
+add-get-2 : tie.Need-add-get-2
+add-get-2 c = let z = spots (c .before .before .args .s) (c .before .before .pre .0) (c .before .before .pre .1 .1 .0 .0) (c .before .before .args .e) 0 (omega (arith, c .before .before .pre .1 .1 .0 .1, c .before .before .pre .0 .few)) (omega (arith, c .before .before .pre .0 .cap-from)) in omega (arith, c .entry-at .ensures)
+
+-- src/descent.rt:84:13
+get-requires : tie.Need-get-requires
+get-requires c κs = let z = spots (c .before .before .args .s) (c .before .before .pre .0) (c .before .before .pre .1 .1 .0 .0) (c .before .before .args .e) 0 (omega (arith, c .before .before .pre .1 .1 .0 .1, c .before .before .pre .0 .few)) (omega (arith, c .before .before .pre .0 .cap-from)) in omega (arith, c .entry-at .ensures, c .before .before .pre .1 .0)
+
+-- src/descent.rt:84:13
+cast-r : tie.Need-cast-r
+cast-r c = search needs
+
+-- src/descent.rt:85:23
+labels-at-requires : tie.Need-labels-at-requires
+labels-at-requires c κs = search needs
+
+-- src/descent.rt:85:49
+add-get-3 : tie.Need-add-get-3
+add-get-3 c = search needs
+
+-- src/descent.rt:85:44
+mul-get-2 : tie.Need-mul-get-2
+mul-get-2 c = let z = spots (c .before .before .before .before .args .s) (c .before .before .before .before .pre .0) (c .before .before .before .before .pre .1 .1 .0 .0) (c .before .before .before .before .args .e) (c .before .get .result) (omega (arith, c .before .before .before .before .pre .1 .1 .0 .1, c .before .before .before .before .pre .0 .few)) (rw (c .before .get .ensures, c .before .before .entry-at .ensures) (c .before .before .before .before .pre .1 .1 .1)) in omega arith
+
+-- src/descent.rt:85:40
+add-get-4 : tie.Need-add-get-4
+add-get-4 c = let z = spots (c .before .before .before .before .args .s) (c .before .before .before .before .pre .0) (c .before .before .before .before .pre .1 .1 .0 .0) (c .before .before .before .before .args .e) (c .before .get .result) (omega (arith, c .before .before .before .before .pre .1 .1 .0 .1, c .before .before .before .before .pre .0 .few)) (rw (c .before .get .ensures, c .before .before .entry-at .ensures) (c .before .before .before .before .pre .1 .1 .1)) in omega arith
+
+-- src/descent.rt:85:59
+add-get-5 : tie.Need-add-get-5
+add-get-5 c = search needs
+
+-- src/descent.rt:85:40
+add-get-6 : tie.Need-add-get-6
+add-get-6 c = let z = spots (c .before .before .before .before .args .s) (c .before .before .before .before .pre .0) (c .before .before .before .before .pre .1 .1 .0 .0) (c .before .before .before .before .args .e) (c .before .get .result) (omega (arith, c .before .before .before .before .pre .1 .1 .0 .1, c .before .before .before .before .pre .0 .few)) (rw (c .before .get .ensures, c .before .before .entry-at .ensures) (c .before .before .before .before .pre .1 .1 .1)) in omega (arith, c .before .before .before .before .pre .0 .vars-to)
+
+-- src/descent.rt:85:23
+add-get-7 : tie.Need-add-get-7
+add-get-7 c = let z = spots (c .before .before .before .before .args .s) (c .before .before .before .before .pre .0) (c .before .before .before .before .pre .1 .1 .0 .0) (c .before .before .before .before .args .e) (c .before .get .result) (omega (arith, c .before .before .before .before .pre .1 .1 .0 .1, c .before .before .before .before .pre .0 .few)) (rw (c .before .get .ensures, c .before .before .entry-at .ensures) (c .before .before .before .before .pre .1 .1 .1)) in omega (arith, c .before .before .before .before .pre .0 .vars-to, c .labels-at .ensures)
+
+-- src/descent.rt:85:5
+get-requires-2 : tie.Need-get-requires-2
+get-requires-2 c κs = let z = spots (c .before .before .before .before .args .s) (c .before .before .before .before .pre .0) (c .before .before .before .before .pre .1 .1 .0 .0) (c .before .before .before .before .args .e) (c .before .get .result) (omega (arith, c .before .before .before .before .pre .1 .1 .0 .1, c .before .before .before .before .pre .0 .few)) (rw (c .before .get .ensures, c .before .before .entry-at .ensures) (c .before .before .before .before .pre .1 .1 .1)) in omega (arith, c .labels-at .ensures, c .before .before .before .before .pre .1 .0)
+
+-- src/descent.rt:85:5
+cast-result : tie.Need-cast-result
+cast-result c = search needs
+
+-- src/descent.rt:76:1
+returns : tie.Need-returns
+returns c = label-at (words (c .before .before .before .before .before .args .image .now)) (c .before .before .before .before .before .args .s) (c .before .before .before .before .before .args .e) (c .before .before .before .entry-at .result) (c .before .before .get .result) (c .before .labels-at .result) (c .get2 .result) (c .before .before .before .entry-at .ensures) (c .before .before .get .ensures) (c .before .labels-at .ensures) (c .get2 .ensures)
+
+pub label-in-spec : {M : Type 1} → statement M
+label-in-spec =
+    tie.close
+    (tie.spec
+    entry-at-requires
+    mul-get
+    add-get
+    add-get-2
+    get-requires
+    cast-r
+    labels-at-requires
+    add-get-3
+    mul-get-2
+    add-get-4
+    add-get-5
+    add-get-6
+    add-get-7
+    get-requires-2
+    cast-result
+    returns)
