@@ -197,8 +197,8 @@ pub record Updating (m : ℕ) (A bs₀ bs : List ℕ) (i : ℕ) : Type 0 where
   pub small : Bytes bs
   pub same : updated A (words bs₀) ≡ updated (drop i A) (words bs)
 
-pub begin : (m : ℕ) (A bs : List ℕ) → Canonical 1 m A → Maxima m (words bs) → length bs ≡ 4 * m → Bytes bs → Updating m A bs bs 0
-begin m A bs c g l s = record {
+pub begin : {m : ℕ} {A : List ℕ} (bs : List ℕ) → Canonical 1 m A → Maxima m (words bs) → length bs ≡ 4 * m → Bytes bs → Updating m A bs bs 0
+begin {m} bs c g l s = record {
   b = m;
   ra = record { n = 0; few = omega (arith, g .few); canon = canon-of c; same = λ v h. refl };
   below = omega arith;
@@ -209,7 +209,7 @@ begin m A bs c g l s = record {
   same = refl;
 }
 
-module _ (m : ℕ) (A bs₀ bs : List ℕ) (i : ℕ) (s : Updating m A bs₀ bs i) (w : ℕ) (e : w ≡ getD A i 0) where
+module _ {m : ℕ} {A bs₀ bs : List ℕ} {i : ℕ} (s : Updating m A bs₀ bs i) {w : ℕ} (e : w ≡ getD A i 0) where
   left : updated A (words bs₀) ≡ updated (w ∷ drop (i + 1) A) (words bs)
   left = rw (word-and-rest A i w (within (s .ra)) e) at (s .same)
 
@@ -237,8 +237,8 @@ module _ (m : ℕ) (A bs₀ bs : List ℕ) (i : ℕ) (s : Updating m A bs₀ bs 
   pub not-above : (w / 65536 ≡ 0 → ⊥) → power w ≤ getD (words bs) (ident w) 0 → bs ≡ pasteW bs₀ 0 (updated A (words bs₀))
   not-above h l = stopped (updated-stop w (drop (i + 1) A) (words bs) (variable h .kinded) l)
 
-  pub raises : (w / 65536 ≡ 0 → ⊥) → getD (words bs) (ident w) 0 < power w → (bs′ : List ℕ) → bs′ ≡ putW bs (ident w) (power w) → Bytes bs′ → Updating m A bs₀ bs′ (i + 1)
-  raises h l bs′ q k =
+  pub raises : (w / 65536 ≡ 0 → ⊥) → getD (words bs) (ident w) 0 < power w → {bs′ : List ℕ} → bs′ ≡ putW bs (ident w) (power w) → Bytes bs′ → Updating m A bs₀ bs′ (i + 1)
+  raises h l {bs′} q k =
       let v = variable h in
       let f : words bs′ ≡ set (words bs) (ident w) (power w) =
       ap words q ∙ words-putW bs (ident w) (power w) (omega (arith, v .high)) (omega (arith, v .known, s .kept, s .whole)) in

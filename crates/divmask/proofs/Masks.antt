@@ -1,5 +1,5 @@
 -- The laws of masks, for any number of variables, and the walk of `map`. Assumes nothing.
-use mathlib.Core.Path.{_≡_, refl, sym, _∙_}
+use mathlib.Core.Path.{_≡_, refl, sym, ap, _∙_}
 use mathlib.Core.Bool.{Bool, true, false, cond, _&&_}
 use mathlib.Core.List.{List}
 use mathlib.Core.Logic.{_⊎_, inl, inr, _↔_}
@@ -13,11 +13,12 @@ use lib.ListN.{getD}
 use lib.Pow.{pow-mono}
 use borrow.Author.Tests.{leb-false}
 use Rattle.words.specs.Kinds.{ident, power}
-use Rattle.monomial.specs.Monomial.{Canonical, pow}
+use Rattle.monomial.specs.Monomial.{Canonical, first, pow}
 use Rattle.monomial.specs.Operations.{Divides, allBelow}
 use Rattle.monomial.proofs.Canon.{canon-of}
 use Rattle.monomial.proofs.Divisions.{at-most}
 use Rattle.monomial.proofs.Walks.{Rest, Last, Next, word-at}
+use Rattle.monomial.proofs.Firsts.{first-whole}
 use Rattle.divmask.specs.Mask.{bits, firstBit, cutoff, parts, field, fields, mask, bit, Within, within, tested}
 use Rattle.divmask.specs.declared.DivMaskTestResult.{DivMaskTestResult}
 use Rattle.divmask.specs.declared.DivMaskTestResult.the-variants.{NotDivisible, Unsure}
@@ -182,6 +183,10 @@ never-wrong m xs a b e d =
     let u = tested-unsure (mask m xs (pow 1 a)) (mask m xs (pow 1 b)) (mask-small m xs (pow 1 a)) (mask-divides m xs a b d) in
     let z : _≡_ {A = ℕ} 0 1 = cc in omega arith
 
+-- a monomial lent whole is the one at its front
+pub mask-whole : {m : ℕ} (xs : List ℕ) {ws : List ℕ} → Canonical 1 m ws → mask m xs (pow 1 (first 1 ws)) ≡ mask m xs (pow 1 ws)
+mask-whole {m} xs c = ap (λ (l : List ℕ). mask m xs (pow 1 l)) (first-whole c)
+
 -- ---- the walk of `map`: what is added up are the bits of the variables from b on
 pub record Mapping (m : ℕ) (xs A : List ℕ) (i sum : ℕ) : Type 0 where
   pub b : ℕ
@@ -189,26 +194,26 @@ pub record Mapping (m : ℕ) (xs A : List ℕ) (i sum : ℕ) : Type 0 where
   pub ra : Rest 1 A i b
   pub split : sum + fields m xs (pow 1 A) b ≡ mask m xs (pow 1 A)
 
-pub begin : {m : ℕ} (xs A : List ℕ) → m ≤ 64 → Canonical 1 m A → Mapping m xs A 0 0
+pub begin : {m : ℕ} {A : List ℕ} (xs : List ℕ) → m ≤ 64 → Canonical 1 m A → Mapping m xs A 0 0
 unfolding mask
-begin {m} xs A h c = record {
+begin {m} xs h c = record {
   b = m;
   below = omega arith;
   ra = record { n = 0; few = omega arith; canon = canon-of c; same = λ v l. refl };
   split = omega arith;
 }
 
-module _ (m : ℕ) (xs A : List ℕ) (i sum : ℕ) (s : Mapping m xs A i sum) (w : ℕ) (e : w ≡ getD A i 0) where
+pub bits-are : (m v b : ℕ) → b ≡ 32 / m + cond (ltb v (32 % m)) 1 0 → b ≡ bits m v
+unfolding bits
+bits-are m v b e = e
+
+module _ {m : ℕ} {xs A : List ℕ} {i sum : ℕ} (s : Mapping m xs A i sum) {w : ℕ} (e : w ≡ getD A i 0) where
   pub mapped : w / 65536 ≡ 0 → sum ≡ mask m xs (pow 1 A)
   mapped h = go (word-at (omega arith) w (s .ra) e)
     where
       go : Last 1 A (s .b) w ⊎ Next 1 A i (s .b) w → sum ≡ mask m xs (pow 1 A)
       go (inl z) = omega (arith, s .split, fields-skip m xs (pow 1 A) 0 (s .b) (omega arith) (λ v l h. z .none v h), fields-zero m xs (pow 1 A))
       go (inr z) = absurd (omega (arith, z .upper))
-
-  pub bits-are : (v b : ℕ) → b ≡ 32 / m + cond (ltb v (32 % m)) 1 0 → b ≡ bits m v
-  unfolding bits
-  bits-are v b e = e
 
   -- a variable's word: what the code needs of it, and the walk after its bits are added
   pub record Step : Type 0 where
@@ -241,7 +246,7 @@ module _ (m : ℕ) (xs A : List ℕ) (i sum : ℕ) (s : Mapping m xs A i sum) (w
           }
 
   -- the same with what the code's helpers gave: x the maximum, b the bits, f the field, t the first bit
-  module _ (h : w / 65536 ≡ 0 → ⊥) (x b f t : ℕ) (ex : x ≡ getD xs (ident w) 0) (eb : b ≡ 32 / m + cond (ltb (ident w) (32 % m)) 1 0)
+  module _ (h : w / 65536 ≡ 0 → ⊥) {x b f t : ℕ} (ex : x ≡ getD xs (ident w) 0) (eb : b ≡ 32 / m + cond (ltb (ident w) (32 % m)) 1 0)
       (ef : f ≡ parts b x (power w) b) (et : t ≡ ident w * (32 / m) + min (ident w) (32 % m)) where
     pub record Stepped : Type 0 where
       pub shift : t ≤ 32
@@ -252,7 +257,7 @@ module _ (m : ℕ) (xs A : List ℕ) (i sum : ℕ) (s : Mapping m xs A i sum) (w
     stepped =
         let k = step h in
         let is : t ≡ firstBit m (ident w) = et ∙ sym (first-closed m (ident w)) in
-        let fs : f ≡ parts (bits m (ident w)) (getD xs (ident w) 0) (power w) (bits m (ident w)) = ef ∙ rw (ex, bits-are (ident w) b eb) in
+        let fs : f ≡ parts (bits m (ident w)) (getD xs (ident w) 0) (power w) (bits m (ident w)) = ef ∙ rw (ex, bits-are m (ident w) b eb) in
         let small : f * 2 ^ t < 2 ^ 64 = rw (is, fs) (omega (arith, k .fits)) in
         record {
           shift = omega (arith, k .first);

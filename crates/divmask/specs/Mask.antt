@@ -1,10 +1,11 @@
 -- Masks and the mask test, from document 01, for any number of variables. Assumes nothing.
 -- Here and above, m is the number of variables, xs the maximum of each and p the power of each.
 use mathlib.Core.Bool.{Bool, cond}
-use mathlib.Core.List.{List}
-use Prim.Native.Nat.{ℕ, zero, suc, _+_, _*_, _/_, _%_, _^_, _≤_}
+use mathlib.Core.List.{List, [], _∷_}
+use Prim.Native.Nat.{ℕ, zero, suc, max, _+_, _*_, _/_, _%_, _^_, _≤_}
 use lib.Dec.{leb, ltb}
 use lib.ListN.{getD}
+use Rattle.words.specs.Tables.{table}
 use Rattle.monomial.specs.Operations.{allBelow}
 use Rattle.divmask.specs.declared.DivMaskTestResult.{DivMaskTestResult}
 use Rattle.divmask.specs.declared.DivMaskTestResult.the-variants.{NotDivisible, Unsure}
@@ -39,6 +40,14 @@ fields m xs p (suc v) = fields m xs p v + field m xs v (p v) * 2 ^ firstBit m v
 -- the mask
 unfoldable pub mask : ℕ → List ℕ → (ℕ → ℕ) → ℕ
 mask m xs p = fields m xs p m
+
+-- the short exponent vector (Singular's term): the mask by the fixed map whose maxima are the numbers of bits, 1 for a variable without bits.
+-- So bit j of a variable is set when its power is above j.
+unfoldable pub bitCounts : ℕ → List ℕ
+bitCounts m = table m (λ v. max 1 (bits m v) ∷ [])
+
+unfoldable pub vector : ℕ → (ℕ → ℕ) → ℕ
+vector m p = mask m (bitCounts m) p
 
 -- bit i of a mask
 unfoldable pub bit : ℕ → ℕ → ℕ

@@ -9,7 +9,7 @@ ghost use mathlib.Core.Bool.{cond};
 ghost use Prim.Native.Nat.{_+_, _*_, _<_, _≤_, min};
 ghost use lib.Dec.{ltb};
 ghost use Rattle.words.specs.Words.{words};
-ghost use Rattle.monomial.specs.Monomial.{Canonical, pow};
+ghost use Rattle.monomial.specs.Monomial.{Starts, first, pow};
 ghost use Rattle.divmask.specs.Mask.{parts, mask, tested};
 ghost use Rattle.divmask.specs.Tracker.{Maxima};
 
@@ -45,11 +45,11 @@ fn field(bits: u32, maximum: u32, power: u32) -> u64
     (1u64 << count) - 1
 }
 
-// The mask of a monomial.
+// The mask of the monomial at the front of a slice.
 pub fn map(maxima: &[u8], variables: u32, monomial: &[u8]) -> u32
     requires { ⌜ Maxima variables (words (now maxima)) ⌝ }
-    requires { ⌜ Canonical 1 variables (words (now monomial)) ⌝ }
-    ensures { λ r. ⌜ r ≡ mask variables (words (now (maxima .entry))) (pow 1 (words (now (monomial .entry)))) ⌝ }
+    requires { ⌜ Starts 1 variables (words (now monomial)) ⌝ }
+    ensures { λ r. ⌜ r ≡ mask variables (words (now (maxima .entry))) (pow 1 (first 1 (words (now (monomial .entry))))) ⌝ }
 {
     let whole = 32 / variables;
     let extra = 32 % variables;

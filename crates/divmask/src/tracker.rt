@@ -3,7 +3,7 @@ ghost use mathlib.Core.Path.{_≡_};
 ghost use Prim.Native.Nat.{_*_};
 ghost use lib.ListN.{length};
 ghost use Rattle.words.specs.Words.{words, pasteW};
-ghost use Rattle.monomial.specs.Monomial.{Canonical};
+ghost use Rattle.monomial.specs.Monomial.{Starts, first};
 ghost use Rattle.divmask.specs.Tracker as spec;
 
 // Whether each word of s is a maximum.
@@ -41,12 +41,12 @@ pub fn maxima_good(maxima: &[u8], variables: u32) -> bool
     in_range(maxima)
 }
 
-// Raises the maxima to the powers of a monomial; stops at the first variable that is not above its maximum.
+// Raises the maxima to the powers of the monomial at the front of a slice; stops at the first variable that is not above its maximum.
 pub fn update(maxima: &mut [u8], variables: u32, monomial: &[u8])
     requires { ⌜ length (now maxima) ≡ 4 * variables ⌝ }
     requires { ⌜ spec.Maxima variables (words (now maxima)) ⌝ }
-    requires { ⌜ Canonical 1 variables (words (now monomial)) ⌝ }
-    ensures { λ _. ⌜ now (maxima .exit) ≡ pasteW (now (maxima .entry)) 0 (spec.updated (words (now (monomial .entry))) (words (now (maxima .entry)))) ⌝ }
+    requires { ⌜ Starts 1 variables (words (now monomial)) ⌝ }
+    ensures { λ _. ⌜ now (maxima .exit) ≡ pasteW (now (maxima .entry)) 0 (spec.updated (first 1 (words (now (monomial .entry)))) (words (now (maxima .entry)))) ⌝ }
 {
     let mut i: usize = 0;
     loop {

@@ -6,29 +6,15 @@ ghost use mathlib.Core.Logic.{_↔_};
 ghost use Prim.Native.Nat.{ℕ, _+_, _*_, _<_, _≤_};
 ghost use lib.ListN.{length, getD};
 ghost use Rattle.words.specs.Words.{words};
-ghost use Rattle.monomial.specs.Monomial.{Canonical};
+ghost use Rattle.monomial.specs.Monomial.{Starts, first};
 ghost use Rattle.fast_compare.specs.Map.{valueOf, cmp};
 ghost use Rattle.fast_compare.specs.Layout.{ratioWords, HasRatio, valueAt, RowOk, Rises};
 
-// How many words the ratio at word `at` has, its end word with them.
-fn ratio_words(map: &[u8], at: usize) -> usize
-    requires { ⌜ HasRatio (words (now map)) at ⌝ }
-    ensures { λ r. ⌜ ((m : ℕ) → (ratioWords (words (now (map .entry))) m at ≡ 0 → ⊥) → r ≡ ratioWords (words (now (map .entry))) m at) ⌝ }
-{
-    let mut i = at;
-    loop {
-        if words::get(map, i) / 268435456 == 0 {
-            return i - at + 1;
-        }
-        i += 1;
-    }
-}
-
-// The value of the row at word `at`, compared with another.
+// The value of the row at word `at`, compared with another, whose ratio stands at the front of a slice.
 pub fn compare_at(map: &[u8], at: usize, index: u32, ratio: &[u8]) -> CmpOrd
     requires { ⌜ HasRatio (words (now map)) (at + 1) ⌝ }
-    requires { ⌜ Canonical 2 4096 (words (now ratio)) ⌝ }
-    ensures { λ r. ⌜ ((m : ℕ) → (ratioWords (words (now (map .entry))) m (at + 1) ≡ 0 → ⊥) → r ≡ cmp (valueAt (words (now (map .entry))) m at) (valueOf index (words (now (ratio .entry))))) ⌝ }
+    requires { ⌜ Starts 2 4096 (words (now ratio)) ⌝ }
+    ensures { λ r. ⌜ ((m : ℕ) → (ratioWords (words (now (map .entry))) m (at + 1) ≡ 0 → ⊥) → r ≡ cmp (valueAt (words (now (map .entry))) m at) (valueOf index (first 2 (words (now (ratio .entry)))))) ⌝ }
 {
     let i = words::payload(words::get(map, at));
     if i < index {
@@ -37,10 +23,8 @@ pub fn compare_at(map: &[u8], at: usize, index: u32, ratio: &[u8]) -> CmpOrd
     if index < i {
         return CmpOrd::Greater;
     }
-    let n = ratio_words(map, at + 1);
     let a = 4 * (at + 1);
-    let e = a + 4 * n;
-    monomial::monomial_ordering::ord(&map[a..e], ratio, 2)
+    monomial::monomial_ordering::ord(&map[a..], ratio, 2)
 }
 
 // Whether the row at word a lies below the row at word b, in value and in label.
@@ -52,10 +36,8 @@ pub fn rises(map: &[u8], variables: usize, a: usize, b: usize) -> bool
     ensures { λ r. ⌜ (r ≡ true) ↔ Rises (words (now (map .entry))) variables a b ⌝ }
 {
     let i = words::payload(words::get(map, b));
-    let n = ratio_words(map, b + 1);
     let s = 4 * (b + 1);
-    let e = s + 4 * n;
-    let c = compare_at(map, a, i, &map[s..e]);
+    let c = compare_at(map, a, i, &map[s..]);
     match c {
         CmpOrd::Less => words::get(map, a + (variables + 2)) < words::get(map, b + (variables + 2)),
         CmpOrd::Equal => false,

@@ -5,23 +5,24 @@ use native.Mathlib.Omega.{arith}
 use native.Mathlib.Nat.{mul-le-mul}
 use Rattle.words.proofs.Tables.{row-fits, split-rows}
 use Rattle.index_image.specs.declared.Shape.{Shape}
-use Rattle.index_image.specs.Shape.{InRange, entryWidth, entryAt, permutationAt, labelsAt, labelsSize, size}
+use Rattle.index_image.specs.Shape.{InRange, entryWidth, entryAt, maskedWidth, indexAt, signAt, rowAt, rowsCountAt, mapAt, permutationAt, labelsAt, labelsSize, labelAt, nodeWidth, nodeAt, size}
+use Rattle.fast_compare.specs.Layout as labels
 
 -- a product of two numbers with known bounds
 pub times : (a b x y : ℕ) → a ≤ x → b ≤ y → a * b ≤ x * y
 times a b x y h l = mul-le-mul h l
 
 module _ (s : Shape) (r : InRange s) where
-  pub width-small : entryWidth s ≤ 134
-  width-small = omega (arith, r .kind-to, times (s .kind + 1) (s .variables + 2) 2 66 (omega (arith, r .kind-to)) (omega (arith, r .vars-to)))
+  pub width-small : entryWidth s ≤ 136
+  width-small = omega (arith, r .kind-to, times (s .kind + 1) (s .variables + 3) 2 67 (omega (arith, r .kind-to)) (omega (arith, r .vars-to)))
 
-  pub entries-small : (i : ℕ) → i ≤ s .capacity → i * entryWidth s ≤ 548864
-  entries-small i h = omega (arith, times i (entryWidth s) 4096 134 (omega (arith, r .cap-to)) width-small)
+  pub entries-small : (i : ℕ) → i ≤ s .capacity → i * entryWidth s ≤ 557056
+  entries-small i h = omega (arith, times i (entryWidth s) 4096 136 (omega (arith, r .cap-to)) width-small)
 
   pub rows-small : s .capacity * (s .variables + 3) ≤ 274432
   rows-small = omega (arith, times (s .capacity) (s .variables + 3) 4096 67 (r .cap-to) (omega (arith, r .vars-to)))
 
-  pub labels-small : s .kind * (4 + s .capacity * (s .variables + 3) + s .capacity) ≤ 278532
+  pub labels-small : labelsSize s ≤ 278532
   labels-small =
       omega (arith, times (s .kind) (4 + s .capacity * (s .variables + 3) + s .capacity) 1 278532 (r .kind-to) (omega (arith, rows-small, r .cap-to)))
 
@@ -29,13 +30,13 @@ module _ (s : Shape) (r : InRange s) where
   nodes-small k h = omega (arith, times k (s .variables + 6) 8191 70 h (omega (arith, r .vars-to)))
 
   -- ---- in a ratio index
-  pub ratio-width : s .kind ≡ 1 → entryWidth s ≡ 2 * s .variables + 6
-  ratio-width e = ap (λ (k : ℕ). (k + 1) * (s .variables + 2) + 2 * k) e ∙ omega arith
+  pub ratio-width : s .kind ≡ 1 → entryWidth s ≡ 2 * s .variables + 8
+  ratio-width e = ap (λ (k : ℕ). (k + 1) * (s .variables + 3) + 2 * k) e ∙ omega arith
 
-  pub ratio-labels : s .kind ≡ 1 → labelsSize s ≡ 4 + s .capacity * (s .variables + 3) + s .capacity
+  pub ratio-labels : s .kind ≡ 1 → labelsSize s ≡ labels.size (s .variables) (s .capacity)
   ratio-labels e = ap (λ (k : ℕ). k * (4 + s .capacity * (s .variables + 3) + s .capacity)) e ∙ omega arith
 
-  pub size-small : size s ≤ 1405008
+  pub size-small : size s ≤ 1413206
   size-small =
       omega (arith, entries-small (s .capacity) (omega arith), labels-small, nodes-small (2 * s .capacity - 1) (omega (arith, r .cap-to)), r .vars-to, r .cap-to)
 
@@ -45,9 +46,9 @@ module _ (s : Shape) (r : InRange s) where
 
   -- the entry at place i of a ratio index, and the label map's row j, lie within the image
   pub record Spots (i j : ℕ) : Type 0 where
-    pub entry : entryAt s i + (2 * s .variables + 6) ≤ size s
-    pub row : labelsAt s + (4 + j * (s .variables + 3)) + (s .variables + 3) ≤ size s
-    pub small : size s ≤ 1405008
+    pub entry : rowAt s i < size s
+    pub row : labelAt s j < size s
+    pub small : size s ≤ 1413206
     pub row-small : j * (s .variables + 3) ≤ 274432
 
   pub spots : s .kind ≡ 1 → (i j : ℕ) → i < s .capacity → j < s .capacity → Spots i j
@@ -63,21 +64,21 @@ module _ (s : Shape) (r : InRange s) where
       }
 
   -- ---- in any index
-  pub width-least : s .variables + 2 ≤ entryWidth s
-  width-least = omega (arith, times 1 (s .variables + 2) (s .kind + 1) (s .variables + 2) (omega arith) (omega arith))
+  pub width-least : maskedWidth (s .variables) ≤ entryWidth s
+  width-least = omega (arith, times 1 (s .variables + 3) (s .kind + 1) (s .variables + 3) (omega arith) (omega arith))
 
   -- the entry at place i, the map's maxima and the first words of the label map lie within the image
   pub record Inside (i : ℕ) : Type 0 where
-    pub entry : entryAt s i + (s .variables + 2) ≤ size s
-    pub maxima : 16 + s .variables + s .variables ≤ size s
-    pub small : size s ≤ 1405008
+    pub entry : entryAt s i + maskedWidth (s .variables) ≤ size s
+    pub maxima : mapAt (s .variables) + s .variables ≤ size s
+    pub small : size s ≤ 1413206
 
   pub inside : (i : ℕ) → i < s .capacity → Inside i
   inside i h = record { entry = omega (arith, entry-inside i h, width-least); maxima = omega arith; small = size-small }
 
   -- the unused rows of the entries
   pub record Rest : Type 0 where
-    pub fits : (s .capacity - s .entries) * entryWidth s ≤ 548864
+    pub fits : (s .capacity - s .entries) * entryWidth s ≤ 557056
     pub room : entryAt s (s .entries) + (s .capacity - s .entries) * entryWidth s ≤ size s
 
   pub rest : Rest

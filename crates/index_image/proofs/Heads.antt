@@ -22,15 +22,16 @@ same-shape W len s t h k = λ i. record {
   nodes = (sym (h .nodes) ∙ k .nodes) i;
 }
 
--- an image has at least 64 bytes
-pub long-enough : (W : List ℕ) (len : ℕ) (s : Shape) → HeadOk W len s → 64 ≤ len
+-- an image is longer than its header
+pub long-enough : (W : List ℕ) (len : ℕ) (s : Shape) → HeadOk W len s → 4 * at.headerWidth ≤ len
 long-enough W len s h = omega (arith, h .room, inside s (h .range) 0 (h .range .cap-from) .entry)
 
 pub bad : (W : List ℕ) (len : ℕ) → ((s : Shape) → HeadOk W len s → ⊥) → HeadIs W len Bad
 unfolding HeadIs
 bad W len h = h
 
-module _ (W : List ℕ) (len k v c e n : ℕ) (ek : k ≡ getD W 1 0) (ev : v ≡ getD W 2 0) (ec : c ≡ getD W 3 0) (ee : e ≡ getD W 4 0) (en : n ≡ getD W 5 0) where
+module _ (W : List ℕ) (len k v c e n : ℕ) (ek : k ≡ getD W at.kindAt 0) (ev : v ≡ getD W at.variablesAt 0)
+    (ec : c ≡ getD W at.capacityAt 0) (ee : e ≡ getD W at.lengthAt 0) (en : n ≡ getD W at.nodesCountAt 0) where
   abbrev read : Shape
   read = record { kind = k; variables = v; capacity = c; entries = e; nodes = n }
 
@@ -51,7 +52,7 @@ module _ (W : List ℕ) (len k v c e n : ℕ) (ek : k ≡ getD W 1 0) (ev : v �
   unfolding HeadIs
   too-short l s h = let z : 4 * at.size read ≤ len = rw (same s h) at (h .room) in omega arith
 
-  pub good : getD W 0 0 ≡ 1 → part W 6 10 ≡ zeros 10 → at.InRange read → 4 * at.size read ≤ len → HeadIs W len (Image read)
+  pub good : getD W at.layoutAt 0 ≡ 1 → part W at.keptAt at.kept ≡ zeros at.kept → at.InRange read → 4 * at.size read ≤ len → HeadIs W len (Image read)
   unfolding HeadIs
   good l z r m = record {
     layout = l;
@@ -66,13 +67,15 @@ module _ (W : List ℕ) (len k v c e n : ℕ) (ek : k ≡ getD W 1 0) (ev : v �
   }
 
 -- the first words one by one
-pub words-of-head : (W : List ℕ) → 16 ≤ length W → part W 0 16 ≡ getD W 0 0 ∷ getD W 1 0 ∷ getD W 2 0 ∷ getD W 3 0 ∷ getD W 4 0 ∷ getD W 5 0 ∷ part W 6 10
+pub words-of-head : (W : List ℕ) → at.headerWidth ≤ length W
+    → part W 0 at.headerWidth
+    ≡ getD W at.layoutAt 0 ∷ getD W at.kindAt 0 ∷ getD W at.variablesAt 0 ∷ getD W at.capacityAt 0 ∷ getD W at.lengthAt 0 ∷ getD W at.nodesCountAt 0 ∷ part W at.keptAt at.kept
 words-of-head W h =
     rw (
-      part-cons W 0 15 (omega arith),
-      part-cons W 1 14 (omega arith),
-      part-cons W 2 13 (omega arith),
-      part-cons W 3 12 (omega arith),
-      part-cons W 4 11 (omega arith),
-      part-cons W 5 10 (omega arith),
+      part-cons W at.layoutAt 23 (omega arith),
+      part-cons W at.kindAt 22 (omega arith),
+      part-cons W at.variablesAt 21 (omega arith),
+      part-cons W at.capacityAt 20 (omega arith),
+      part-cons W at.lengthAt 19 (omega arith),
+      part-cons W at.nodesCountAt 18 (omega arith),
     )

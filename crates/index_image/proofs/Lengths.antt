@@ -1,12 +1,13 @@
 -- The image of a valid state has the lengths that its tables need. Assumes nothing.
-use mathlib.Core.Path.{_≡_, refl, ap, _∙_}
+use mathlib.Core.Path.{_≡_, refl, sym, ap, _∙_}
 use mathlib.Core.List.{List, [], _∷_, _++_}
 use Prim.Native.Nat.{ℕ, zero, suc, _+_, _-_, _*_, _≤_, _<_}
 use native.Mathlib.Omega.{arith}
 use native.Mathlib.Decide.{decLe}
+use native.Mathlib.Nat.{zero-mul}
 use lib.ListN.{length, getD, List·getD-eq-default, length-append}
 use Rattle.monomial.specs.Monomial.{pow, powerOf, find}
-use Rattle.monomial.proofs.Powers.{absent-above}
+use Rattle.monomial.proofs.Powers.{absent-above, powers-in-range}
 use Rattle.fast_compare.specs.Map as map
 use Rattle.fast_compare.specs.Layout as labels
 use Rattle.fast_compare.proofs.Images as images
@@ -14,8 +15,9 @@ use Rattle.kd_theory.specs.Tree.{Tree, leaf, branch, inorder, nodes, count, Key
 use Rattle.kd_theory.proofs.TreeLaws.{some-length, few-nodes}
 use Rattle.index_theory.specs.Entries.{Entry, entryAt, one}
 use Rattle.index_theory.specs.State.{Kind, monomials, ratioed, State, Valid, powerIn, keys}
-use Rattle.index_image.specs.Layout.{labelsSize, labelWords}
+use Rattle.index_image.specs.Layout.{code, labelWords}
 use Rattle.index_image.proofs.Encoding.{Fits}
+use Rattle.index_image.proofs.Gcds.{Powers}
 
 -- a tree of no entries is one leaf
 empty-nodes : (K : Keys) (t : Tree) → Ordered K t → count t ≡ 0 → nodes t ≡ 1
@@ -26,18 +28,18 @@ empty-nodes K (branch d k l r) o e =
     omega (arith, more, e, some-length (inorder l) (o .0 .some-less))
 
 -- at a place past the entries stands one
-past : (es : List Entry) (e : ℕ) → length es ≤ e → entryAt es e .lm ≡ one
+pub past : (es : List Entry) (e : ℕ) → length es ≤ e → entryAt es e .lm ≡ one
 unfolding entryAt
 past es e h = ap (λ (x : Entry). x .lm) (List·getD-eq-default es (record { number = 0; index = 0; sign = one; lm = one }) {n = e} h)
 
-one-power : (v : ℕ) → pow 1 one v ≡ 0
+pub one-power : (v : ℕ) → pow 1 one v ≡ 0
 unfolding pow powerOf find
 one-power v = refl
 
-label-length : (k : Kind) (m c : ℕ) (l : map.State) → map.Valid l → l .variables ≡ m → l .capacity ≡ c → length (labelWords k l) ≡ labelsSize k m c
+label-length : (k : Kind) (m c : ℕ) (l : map.State) → map.Valid l → l .variables ≡ m → l .capacity ≡ c → length (labelWords k l) ≡ code k * labels.size m c
 unfolding labelWords
-label-length monomials m c l val v d = refl
-label-length ratioed m c l val v d = rw (← v, ← d) (images.encode-length l val)
+label-length monomials m c l val v d = sym (zero-mul (labels.size m c))
+label-length ratioed m c l val v d = rw (← v, ← d) (images.encode-length l val ∙ omega arith)
 
 module _ (st : State) (val : Valid st) where
   -- a variable past the last has power 0 in every entry
@@ -47,6 +49,16 @@ module _ (st : State) (val : Valid st) where
     | yes l ↦ rw (past (st .entries) e l) (one-power v)
     | no l ↦ absent-above 1 (st .variables) (entryAt (st .entries) e .lm) v (omega arith) (val .canonical e (omega arith) .lm-canonical) h
   ]
+
+  small : (v e : ℕ) → powerIn (st .entries) v e ≤ 32767
+  unfolding powerIn
+  small v e = elim (decLe (length (st .entries)) e) [
+    | yes l ↦ rw (past (st .entries) e l, one-power v) (omega arith)
+    | no l ↦ powers-in-range 1 (st .variables) (entryAt (st .entries) e .lm) v (omega arith) (omega arith) (val .canonical e (omega arith) .lm-canonical) .high
+  ]
+
+  pub state-powers : Powers (st .variables) (powerIn (st .entries))
+  state-powers = record { few = val .map-good .few; small = small; absent = absent }
 
   enough : nodes (st .tree) ≤ 2 * st .capacity - 1
   enough = elim (decLe 1 (count (st .tree))) [

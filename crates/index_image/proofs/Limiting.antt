@@ -8,7 +8,7 @@ use native.Mathlib.Decide.{ℕ-discrete}
 use lib.ListN.{length, getD, set}
 use lib.Seq.{getD-set-same, getD-set-other, set-getD}
 use Rattle.index_image.specs.declared.Shape.{Shape}
-use Rattle.index_image.specs.Shape.{InRange}
+use Rattle.index_image.specs.Shape.{InRange, tagAt, keyAt}
 use Rattle.index_image.specs.Walk.{power, label, Below}
 use Rattle.index_image.specs.Rows.{Inside, KeyIn, BelowKey, Cut}
 
@@ -25,20 +25,20 @@ module _ (pw : ℕ → ℕ → ℕ) (lb : ℕ → ℕ) where
   below-variable (suc x) zero k e h l = absurd (omega arith)
   below-variable (suc x) (suc d) k e h l = let z : suc d - suc x ≡ d = omega arith in rw z Iff·rfl
 
-module _ (W : List ℕ) (s : Shape) (H : List ℕ) (ll lh at : ℕ) (r : InRange s) (long : length H ≡ s .variables)
-    (some : (v : ℕ) → v < s .variables → 1 ≤ getD H v 0) (K : KeyIn W s at) (t : ℕ) (et : t ≡ getD W at 0) where
+module _ (W : List ℕ) (s : Shape) (H : List ℕ) (ll lh i : ℕ) (r : InRange s) (long : length H ≡ s .variables)
+    (some : (v : ℕ) → v < s .variables → 1 ≤ getD H v 0) (K : KeyIn W s i) (t : ℕ) (et : t ≡ getD W (tagAt i) 0) where
   module _ (same : t ≡ s .kind) where
     one : s .kind ≡ 1
     one = omega (arith, K .from, r .kind-to)
 
-    here : (e : ℕ) → BelowKey W s at e ↔ (label W s e < label W s (getD W (at + 1) 0))
-    here e = below-ratio (power W s) (label W s) (s .kind) (getD W at 0 - 1) (getD W (at + 1) 0) e one (omega (arith, one))
+    here : (e : ℕ) → BelowKey W s i e ↔ (label W s e < label W s (getD W (keyAt i) 0))
+    here e = below-ratio (power W s) (label W s) (s .kind) (getD W (tagAt i) 0 - 1) (getD W (keyAt i) 0) e one (omega (arith, one))
 
-    pub cut-ratio : (key l q a b : ℕ) → key ≡ getD W (at + 1) 0 → l ≡ label W s key → q ≡ getD H 0 0 → q < 2 ^ 32 → a ≡ min l lh → b ≡ max l ll
-        → Cut W s H ll lh at (record { variable = 0; power = q; less = a; other = b })
+    pub cut-ratio : (key l q a b : ℕ) → key ≡ getD W (keyAt i) 0 → l ≡ label W s key → q ≡ getD H 0 0 → q < 2 ^ 32 → a ≡ min l lh → b ≡ max l ll
+        → Cut W s H ll lh i (record { variable = 0; power = q; less = a; other = b })
     cut-ratio key l q a b ek el eq sm ea eb =
         let v : 0 < s .variables = omega (arith, r .vars-from) in
-        let lk : l ≡ label W s (getD W (at + 1) 0) = el ∙ ap (label W s) ek in
+        let lk : l ≡ label W s (getD W (keyAt i) 0) = el ∙ ap (label W s) ek in
         let own : set H 0 q ≡ H = rw eq (set-getD H 0 0) in
         record {
           known = v;
@@ -59,7 +59,7 @@ module _ (W : List ℕ) (s : Shape) (H : List ℕ) (ll lh at : ℕ) (r : InRange
           );
         }
       where
-        not-below : (e : ℕ) → ll ≤ label W s e → (BelowKey W s at e → ⊥) → b ≤ label W s e
+        not-below : (e : ℕ) → ll ≤ label W s e → (BelowKey W s i e → ⊥) → b ≤ label W s e
         not-below e h n =
             let m : label W s e < l → ⊥ = λ y. n (here e .1 (omega (arith, el, ap (label W s) ek))) in
             omega arith
@@ -68,12 +68,12 @@ module _ (W : List ℕ) (s : Shape) (H : List ℕ) (ll lh at : ℕ) (r : InRange
     pub variable-known : t - 1 - s .kind < s .variables
     variable-known = omega (arith, K .to, K .from, r .kind-to, r .vars-from)
 
-    there : (e : ℕ) → BelowKey W s at e ↔ (power W s (t - 1 - s .kind) e < getD W (at + 1) 0)
+    there : (e : ℕ) → BelowKey W s i e ↔ (power W s (t - 1 - s .kind) e < getD W (keyAt i) 0)
     there e =
-        rw et (below-variable (power W s) (label W s) (s .kind) (getD W at 0 - 1) (getD W (at + 1) 0) e (r .kind-to) (omega (arith, K .from, r .kind-to)))
+        rw et (below-variable (power W s) (label W s) (s .kind) (getD W (tagAt i) 0 - 1) (getD W (keyAt i) 0) e (r .kind-to) (omega (arith, K .from, r .kind-to)))
 
-    pub cut-variable : (key x : ℕ) → key ≡ getD W (at + 1) 0 → key < 2 ^ 32 → x ≡ min key (getD H (t - 1 - s .kind) 0)
-        → Cut W s H ll lh at (record { variable = t - 1 - s .kind; power = x; less = lh; other = ll })
+    pub cut-variable : (key x : ℕ) → key ≡ getD W (keyAt i) 0 → key < 2 ^ 32 → x ≡ min key (getD H (t - 1 - s .kind) 0)
+        → Cut W s H ll lh i (record { variable = t - 1 - s .kind; power = x; less = lh; other = ll })
     cut-variable key x ek sm ex =
         let v = t - 1 - s .kind in
         let k : v < s .variables = variable-known in
@@ -97,7 +97,7 @@ module _ (W : List ℕ) (s : Shape) (H : List ℕ) (ll lh at : ℕ) (r : InRange
               | no z ↦ rw (getD-set-other H (t - 1 - s .kind) u x 0 z) at (i .powers u l)
             ]
 
-        raise : (e : ℕ) → Inside W s H ll lh e → power W s (t - 1 - s .kind) e < getD W (at + 1) 0 → (u : ℕ) → u < s .variables → power W s u e < getD (set H (t - 1 - s .kind) x) u 0
+        raise : (e : ℕ) → Inside W s H ll lh e → power W s (t - 1 - s .kind) e < getD W (keyAt i) 0 → (u : ℕ) → u < s .variables → power W s u e < getD (set H (t - 1 - s .kind) x) u 0
         raise e i b u l =
             elim (ℕ-discrete u (t - 1 - s .kind)) [
               | yes z ↦ rw (z, getD-set-same H (t - 1 - s .kind) x 0 (omega (arith, variable-known))) (omega (arith, i .powers (t - 1 - s .kind) variable-known))

@@ -23,17 +23,17 @@ module _ (W : List ℕ) (s : Shape) (R : Ready W s) where
   pub place-fits : (i : ℕ) → i ≤ s .entries → at.permutationAt s + i ≤ length W
   place-fits i h = omega (arith, R .room, r .few)
 
-  pub label-fits : s .kind ≡ 1 → (x : ℕ) → x < s .capacity → at.labelsAt s + (labels.rowAt (s .variables) x + (s .variables + 2)) < length W
+  pub label-fits : s .kind ≡ 1 → (x : ℕ) → x < s .capacity → at.labelAt s x < length W
   label-fits k x h =
       let e : s .kind * (4 + s .capacity * (s .variables + 3) + s .capacity) ≡ 4 + s .capacity * (s .variables + 3) + s .capacity = rw k (one-mul _) in
       omega (arith, R .room, row-fits x (s .capacity) (s .variables + 3) h)
 
-  pub node-fits : (k : ℕ) → k < s .nodes → at.nodeAt s k + (s .variables + 6) ≤ length W
-  node-fits k h = omega (arith, R .room, row-fits k (2 * s .capacity - 1) (s .variables + 6) (omega (arith, r .nodes-to)))
+  pub node-fits : (k : ℕ) → k < s .nodes → at.nodeAt s k + at.nodeWidth (s .variables) ≤ length W
+  node-fits k h = omega (arith, R .room, row-fits k (2 * s .capacity - 1) (at.nodeWidth (s .variables)) (omega (arith, r .nodes-to)))
 
 -- the row behind row k
-pub row-behind : (s : Shape) (k : ℕ) → at.nodeAt s k + (s .variables + 6) ≡ at.nodeAt s (k + 1)
-row-behind s k = omega (arith, add-mul k 1 (s .variables + 6))
+pub row-behind : (s : Shape) (k : ℕ) → at.nodeAt s k + at.nodeWidth (s .variables) ≡ at.nodeAt s (k + 1)
+row-behind s k = omega (arith, add-mul k 1 (at.nodeWidth (s .variables)))
 
 -- the entry at place lo + i of the permutation
 pub record EntryAt (W : List ℕ) (s : Shape) (lo i x : ℕ) : Type 0 where
@@ -53,8 +53,8 @@ module _ (bs : List ℕ) (s : Shape) (R : Ready (words bs) s) where
   pub place-room : (i : ℕ) → i ≤ s .entries → 4 * (at.permutationAt s + i) ≤ length bs
   place-room i h = omega (arith, place-fits (words bs) s R i h, length-words bs)
 
-  pub label-room : s .kind ≡ 1 → (x : ℕ) → x < s .capacity → 4 * (at.labelsAt s + (labels.rowAt (s .variables) x + (s .variables + 2))) + 4 ≤ length bs
+  pub label-room : s .kind ≡ 1 → (x : ℕ) → x < s .capacity → 4 * at.labelAt s x + 4 ≤ length bs
   label-room k x h = omega (arith, label-fits (words bs) s R k x h, length-words bs)
 
-  pub node-room : (k : ℕ) → k < s .nodes → 4 * (at.nodeAt s k + (s .variables + 6)) ≤ length bs
+  pub node-room : (k : ℕ) → k < s .nodes → 4 * (at.nodeAt s k + at.nodeWidth (s .variables)) ≤ length bs
   node-room k h = omega (arith, node-fits (words bs) s R k h, length-words bs)

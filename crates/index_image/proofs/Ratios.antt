@@ -35,13 +35,13 @@ ended-words : (k m : ℕ) (bs : List ℕ) (i j : ℕ) (r : List ℕ) → i ≡ j
 ended-words k m bs i j r e p f = ap words (p ∙ ap (ended bs) e ∙ ended-found k m bs j f) ∙ found-words k m bs j
 
 module _ (bs : List ℕ) (s : Shape) (i a : ℕ) (ea : a ≡ at.entryAt s i) (r : List ℕ) where
-  pub lm-part : r ≡ ended bs a → (slotLength (words bs) (s .variables) (at.entryAt s i) ≡ 0 → ⊥) → words r ≡ lmIn (words bs) s i
+  pub lm-part : r ≡ ended bs a → (slotLength (words bs) (s .variables) (at.lmAt s i) ≡ 0 → ⊥) → words r ≡ lmIn (words bs) s i
   unfolding lmIn
   lm-part p f = ended-words 1 (s .variables) bs a (at.entryAt s i) r ea p f
 
-  pub sign-part : r ≡ ended bs (a + (s .variables + 3)) → (slotLength (words bs) (s .variables) (at.entryAt s i + (s .variables + 3)) ≡ 0 → ⊥) → words r ≡ signIn (words bs) s i
+  pub sign-part : r ≡ ended bs (a + (s .variables + 4)) → (slotLength (words bs) (s .variables) (at.signAt s i) ≡ 0 → ⊥) → words r ≡ signIn (words bs) s i
   unfolding signIn slotIn
-  sign-part p f = ended-words 1 (s .variables) bs (a + (s .variables + 3)) (at.entryAt s i + (s .variables + 3)) r (rw ea) p f
+  sign-part p f = ended-words 1 (s .variables) bs (a + (s .variables + 4)) (at.signAt s i) r (rw ea) p f
 
 -- the ratio of the label map's row at word x
 pub ratio-part : (bs : List ℕ) (s : Shape) (j x : ℕ) (r : List ℕ) → x ≡ at.labelsAt s + labels.rowAt (s .variables) j → r ≡ ended bs (x + 1)
@@ -64,13 +64,13 @@ row-value W s j r e =
 pub parts-canonical : (W : List ℕ) (s : Shape) (i : ℕ) → s .variables ≤ 64 → RatioReady W s i → Canonical 1 64 (signIn W s i) × Canonical 1 64 (lmIn W s i)
 unfolding signIn lmIn slotIn
 parts-canonical W s i few n = (
-  canonical-more (omega arith) few (slot-canonical W (s .variables) (at.entryAt s i + (s .variables + 3)) (omega arith) (n .sign)),
+  canonical-more (omega arith) few (slot-canonical W (s .variables) (at.signAt s i) (omega arith) (n .sign)),
   canonical-more (omega arith) few (slot-canonical W (s .variables) (at.entryAt s i) (omega arith) (n .lm)),
 )
 
 module _ (bs : List ℕ) (s : Shape) (i r x y : ℕ) (few : s .variables ≤ 64) (n : RatioReady (words bs) s i)
     (er : r ≡ at.labelsAt s + labels.rowAt (s .variables) (rowIn (words bs) s i))
-    (ex : x ≡ getD (words bs) (at.entryAt s i + (s .variables + 2)) 0) (ey : y ≡ getD (words bs) r 0) where
+    (ex : x ≡ getD (words bs) (at.indexAt s i) 0) (ey : y ≡ getD (words bs) r 0) where
   -- both index words are of kind 3, so they are the same where their payloads are
   kinds : (kind x ≡ 3) × (kind y ≡ 3)
   kinds = (

@@ -24,10 +24,11 @@ use Rattle.monomial.proofs.Laws.{canonical-more, canonical-result, result-small
 use Rattle.divmask.specs.Mask.{mask}
 use Rattle.index_image.specs.declared.Shape.{Shape}
 use Rattle.index_image.specs.Shape as at
-use Rattle.index_image.specs.Layout.{slot}
+use Rattle.index_image.specs.Layout.{slot, gcdOf}
+use Rattle.index_image.specs.Shape.{slotWidth, tagAt, keyAt, nodeMaskAt, gcdAt, nodeWidth}
 use Rattle.index_image.specs.Walk.{lmLength, lmIn, power, label, mapMaxima, Ready}
-use Rattle.index_image.specs.Rows.{monomialIn, Taken, Slots, Inside, NodeOk, OtherOk, gcdOf}
-use Rattle.index_image.proofs.Gcds.{in-canonical, lm-is, lm-canonical, gcd-none, gcd-one, gcd-more, gcd-words, gcd-canonical}
+use Rattle.index_image.specs.Rows.{monomialIn, Taken, Slots, Inside, NodeOk, OtherOk}
+use Rattle.index_image.proofs.Gcds.{in-canonical, lm-is, lm-canonical, lm-powers, Powers, image-powers, gcd-none, gcd-one, gcd-more, gcd-words, gcd-canonical}
 
 -- ---- monomials
 pub taken : (bs : List ℕ) (m g : ℕ) (r : List ℕ) → r ≡ found 1 m bs g → Taken r (monomialIn (words bs) m g)
@@ -75,13 +76,13 @@ gcd-held acc n b by room ca cb d =
     let e : result Gcd (part (words acc) 0 n) b ≡ part (words acc) 0 n = gcd-divided 64 (part (words acc) 0 n) b ca cb (omega arith) d in
     rw e (record { long = sym (length-part (words acc) 0 n (omega (arith, length-words acc))); kept = sym (paste-own acc n by room) })
 
-pub slots-gcd : (W : List ℕ) (m a b : ℕ) → m ≤ 64 → Slots W m a b → Canonical 1 m (result Gcd (monomialIn W m (a + 5)) (monomialIn W m (b + 5)))
+pub slots-gcd : (W : List ℕ) (m a b : ℕ) → m ≤ 64 → Slots W m a b → Canonical 1 m (result Gcd (monomialIn W m (gcdAt a)) (monomialIn W m (gcdAt b)))
 slots-gcd W m a b h s =
-    canonical-result m (monomialIn W m (a + 5)) (monomialIn W m (b + 5)) (in-canonical W m (a + 5) (s .one)) (in-canonical W m (b + 5) (s .two)) Gcd (omega arith)
+    canonical-result m (monomialIn W m (gcdAt a)) (monomialIn W m (gcdAt b)) (in-canonical W m (gcdAt a) (s .one)) (in-canonical W m (gcdAt b) (s .two)) Gcd (omega arith)
     (λ e. absurd (let z : _≡_ {A = ℕ} 0 1 = cc in omega arith))
 
 -- ---- one entry
-pub label-at : (W : List ℕ) (s : Shape) (e a r l x : ℕ) → a ≡ at.entryAt s e → r ≡ getD W (a + (2 * s .variables + 5)) 0 → l ≡ at.labelsAt s
+pub label-at : (W : List ℕ) (s : Shape) (e a r l x : ℕ) → a ≡ at.entryAt s e → r ≡ getD W (a + (2 * s .variables + 7)) 0 → l ≡ at.labelsAt s
     → x ≡ getD W (l + (4 + r * (s .variables + 3) + (s .variables + 2))) 0 → x ≡ label W s e
 unfolding label
 label-at W s e a r l x ea er el ex = ex ∙ rw (el, er, ea)
@@ -121,40 +122,46 @@ pub record Folding (W : List ℕ) (s : Shape) (q c : ℕ) (acc : List ℕ) (n i 
   pub to : i ≤ c
   pub room : length acc ≡ 260
   pub few : n ≤ 65
-  pub is : part (words acc) 0 n ≡ gcdOf W s (part W q i)
+  pub is : part (words acc) 0 n ≡ gcdOf (power W s) (part W q i)
 
 module _ (W : List ℕ) (s : Shape) (R : Ready W s) where
   abbrev few : s .variables ≤ 64
   few = R .range .vars-to
 
-  pub fold-none : (q c : ℕ) (acc : List ℕ) → 4 ≤ length acc → c ≡ 0 → (acc′ : List ℕ) → acc′ ≡ putW acc 0 0 → part (words acc′) 0 1 ≡ gcdOf W s (part W q c)
+  abbrev P : Powers (s .variables) (power W s)
+  P = image-powers W s (R .range .vars-to)
+
+  pub fold-none : (q c : ℕ) (acc : List ℕ) → 4 ≤ length acc → c ≡ 0 → (acc′ : List ℕ) → acc′ ≡ putW acc 0 0 → part (words acc′) 0 1 ≡ gcdOf (power W s) (part W q c)
   fold-none q c acc l z acc′ e =
-      rw (e, z, part-nil W q, gcd-none W s few, putW-paste acc 0 0 (omega arith)) (pasted acc (0 ∷ []) 1 (λ k. zero-word k) refl)
+      rw (e, z, part-nil W q, gcd-none (s .variables) (power W s) P, putW-paste acc 0 0 (omega arith)) (pasted acc (0 ∷ []) 1 (λ k. zero-word k) refl)
     where
       zero-word : Words (0 ∷ [])
       zero-word zero = omega arith
       zero-word (suc k) = omega arith
 
   pub fold-canonical : (q c : ℕ) (acc : List ℕ) (n i : ℕ) → Folding W s q c acc n i → Canonical 1 64 (part (words acc) 0 n)
-  fold-canonical q c acc n i f = rw (f .is) (canonical-more (omega arith) few (gcd-canonical W s few (part W q i)))
+  fold-canonical q c acc n i f = rw (f .is) (canonical-more (omega arith) few (gcd-canonical (s .variables) (power W s) P (part W q i)))
 
   module _ (q c : ℕ) (fits : q + c ≤ length W) (e : ℕ) (some : lmLength W s e ≡ 0 → ⊥) where
     pub lm-64 : (ws : List ℕ) → ws ≡ lmIn W s e → Canonical 1 64 ws
     lm-64 ws ew = rw ew (canonical-more (omega arith) few (lm-canonical W s e some))
+
+    alone : gcdOf (power W s) (e ∷ []) ≡ lmIn W s e
+    alone = gcd-one (s .variables) (power W s) P e (lmIn W s e) (lm-canonical W s e some) (λ v. lm-powers W s v e)
 
     -- the first entry
     pub fold-one : 1 ≤ c → e ≡ getD W q 0 → (acc acc′ ws : List ℕ) (n : ℕ) → length acc′ ≡ 260 → ws ≡ lmIn W s e → n ≡ length ws → acc′ ≡ pasteW acc 0 ws
         → Folding W s q c acc′ n 1
     fold-one h ee acc acc′ ws n l′ ew en ea =
         let on : part W q 1 ≡ e ∷ [] = part-one W q (omega arith) ∙ ap (λ (x : ℕ). x ∷ []) (sym ee) in
-        let sm : Words ws = rw (ew ∙ sym (gcd-one W s few e some)) (gcd-words W s few (e ∷ [])) in
+        let sm : Words ws = rw (ew ∙ sym alone) (gcd-words (s .variables) (power W s) P (e ∷ [])) in
         let pa : part (words acc′) 0 n ≡ ws = rw ea (pasted acc ws n sm en) in
         record {
           from = omega arith;
           to = h;
           room = l′;
           few = omega (arith, canonical-length 1 (s .variables) (lmIn W s e) (omega arith) (omega (arith, few)) (lm-canonical W s e some), ap length ew);
-          is = pa ∙ ew ∙ sym (gcd-one W s few e some) ∙ ap (gcdOf W s) (sym on);
+          is = pa ∙ ew ∙ sym alone ∙ ap (gcdOf (power W s)) (sym on);
         }
 
     -- one more
@@ -166,52 +173,52 @@ module _ (W : List ℕ) (s : Shape) (R : Ready W s) where
         let cb : Canonical 1 64 ws = lm-64 ws ew in
         let li : length (part W q i) ≡ i = length-part W q i (omega (arith, f .to)) in
         let pa : part (words acc′) 0 n′ ≡ result Gcd A ws = rw ea (pasted acc (result Gcd A ws) n′ (gcd-small A ws ca cb) en) in
-        let ga : result Gcd A ws ≡ gcdOf W s (part W q i ++ e ∷ []) = rw (f .is, ew) (gcd-more W s few (part W q i) e (omega (arith, f .from)) some) in
+        let ga : result Gcd A ws ≡ gcdOf (power W s) (part W q i ++ e ∷ []) = rw (f .is, ew) (gcd-more (s .variables) (power W s) P (part W q i) e (lmIn W s e) (omega (arith, f .from)) (lm-canonical W s e some) (λ v. lm-powers W s v e)) in
         let sn : part W q (i + 1) ≡ part W q i ++ (e ∷ []) = part-snoc W q i (omega arith) ∙ rw ee in
         record {
           from = omega arith;
           to = omega arith;
           room = l′;
           few = omega (arith, gcd-fits A ws ca cb);
-          is = pa ∙ ga ∙ ap (gcdOf W s) (sym sn);
+          is = pa ∙ ga ∙ ap (gcdOf (power W s)) (sym sn);
         }
 
 -- ---- the gcd and mask of a row
-module _ (W : List ℕ) (s : Shape) (at : ℕ) (ws : List ℕ) (few : s .variables ≤ 64) (can : Canonical 1 (s .variables) ws) (fits : at + (s .variables + 6) ≤ length W) where
-  long : length ws ≤ s .variables + 1
+module _ (W : List ℕ) (s : Shape) (i : ℕ) (ws : List ℕ) (few : s .variables ≤ 64) (can : Canonical 1 (s .variables) ws) (fits : i + nodeWidth (s .variables) ≤ length W) where
+  long : length ws ≤ slotWidth (s .variables)
   long = canonical-length 1 (s .variables) ws (omega arith) (omega (arith, few)) can
 
   pub slot-iff : (n : ℕ) → n ≡ length ws
-      → (part W (at + 5) (s .variables + 1) ≡ slot (s .variables) ws) ↔ ((part W (at + 5) n ≡ ws) × (part W (at + 5 + n) (s .variables + 1 - n) ≡ zeros (s .variables + 1 - n)))
+      → (part W (gcdAt i) (slotWidth (s .variables)) ≡ slot (s .variables) ws) ↔ ((part W (gcdAt i) n ≡ ws) × (part W (gcdAt i + n) (slotWidth (s .variables) - n) ≡ zeros (slotWidth (s .variables) - n)))
   unfolding slot
   slot-iff n e =
-      let z : s .variables + 1 ≡ n + (s .variables + 1 - n) = omega (arith, long) in
-      let i = part-append W (at + 5) n (s .variables + 1 - n) ws (zeros (s .variables + 1 - n)) (omega (arith, long)) (sym e) in (
-        λ (h : part W (at + 5) (s .variables + 1) ≡ ws ++ zeros (s .variables + 1 - length ws)). i .0 (sym (ap (part W (at + 5)) z) ∙ h ∙ rw e),
-        λ h. ap (part W (at + 5)) z ∙ i .1 h ∙ rw e,
+      let z : slotWidth (s .variables) ≡ n + (slotWidth (s .variables) - n) = omega (arith, long) in
+      let j = part-append W (gcdAt i) n (slotWidth (s .variables) - n) ws (zeros (slotWidth (s .variables) - n)) (omega (arith, long)) (sym e) in (
+        λ (h : part W (gcdAt i) (slotWidth (s .variables)) ≡ ws ++ zeros (slotWidth (s .variables) - length ws)). j .0 (sym (ap (part W (gcdAt i)) z) ∙ h ∙ rw e),
+        λ h. ap (part W (gcdAt i)) z ∙ j .1 h ∙ rw e,
       )
 
-  module _ (x y : ℕ) (ex : x ≡ getD W (at + 4) 0) (ey : y ≡ mask (s .variables) (mapMaxima W s) (pow 1 ws)) where
-    pub other-mask : (x ≡ y → ⊥) → (false ≡ true) ↔ NodeOk W s at ws
+  module _ (x y : ℕ) (ex : x ≡ getD W (nodeMaskAt i) 0) (ey : y ≡ mask (s .variables) (mapMaxima W s) (pow 1 ws)) where
+    pub other-mask : (x ≡ y → ⊥) → (false ≡ true) ↔ NodeOk W s i ws
     other-mask h = refuse (λ o. h (ex ∙ o .masked ∙ sym ey))
 
-    module _ (n : ℕ) (en : n ≡ length ws) (u : List ℕ) (eu : u ≡ part W (at + 5) n) (t : Bool) (et : t ≡ equal u ws) where
-      same : (t ≡ true) ↔ (part W (at + 5) n ≡ ws)
-      same = rw (et, eu) (equal-iff (part W (at + 5) n) ws)
+    module _ (n : ℕ) (en : n ≡ length ws) (u : List ℕ) (eu : u ≡ part W (gcdAt i) n) (t : Bool) (et : t ≡ equal u ws) where
+      same : (t ≡ true) ↔ (part W (gcdAt i) n ≡ ws)
+      same = rw (et, eu) (equal-iff (part W (gcdAt i) n) ws)
 
-      pub other-words : not t ≡ true → (false ≡ true) ↔ NodeOk W s at ws
+      pub other-words : not t ≡ true → (false ≡ true) ↔ NodeOk W s i ws
       other-words h = refuse (λ o. failed t same h (slot-iff n en .0 (o .gcd) .0))
 
-      pub by-zeros : x ≡ y → not t ≡ false → (b : Bool) → (b ≡ true) ↔ (part W (at + 5 + n) (s .variables + 1 - n) ≡ zeros (s .variables + 1 - n)) → (b ≡ true) ↔ NodeOk W s at ws
+      pub by-zeros : x ≡ y → not t ≡ false → (b : Bool) → (b ≡ true) ↔ (part W (gcdAt i + n) (slotWidth (s .variables) - n) ≡ zeros (slotWidth (s .variables) - n)) → (b ≡ true) ↔ NodeOk W s i ws
       by-zeros e h b q = (
         λ (z : b ≡ true). record { masked = sym ex ∙ e ∙ ey; gcd = slot-iff n en .1 (passed t same h, q .0 z) },
         λ o. q .1 (slot-iff n en .0 (o .gcd) .1),
       )
 
 -- ---- the other side of a branch
-pub other-answer : (W : List ℕ) (s : Shape) (at b t k p : ℕ) → t ≡ getD W at 0 → k ≡ getD W (at + 1) 0 → (t ≡ s .kind → ⊥)
-    → p ≡ pow 1 (monomialIn W (s .variables) (b + 5)) (t - 1 - s .kind) → (leb k p ≡ true) ↔ OtherOk W s at b
-other-answer W s at b t k p et ek n ep = (
+pub other-answer : (W : List ℕ) (s : Shape) (i b t k p : ℕ) → t ≡ getD W (tagAt i) 0 → k ≡ getD W (keyAt i) 0 → (t ≡ s .kind → ⊥)
+    → p ≡ pow 1 (monomialIn W (s .variables) (gcdAt b)) (t - 1 - s .kind) → (leb k p ≡ true) ↔ OtherOk W s i b
+other-answer W s i b t k p et ek n ep = (
   λ (z : leb k p ≡ true). λ _. rw (← et, ← ek, ← ep) (leb-true k p z),
   λ o. le-leb k p (rw (ek, ep, et) (o (λ e. n (et ∙ e)))),
 )

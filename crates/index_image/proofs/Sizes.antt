@@ -1,11 +1,10 @@
--- The length of an image is within document 01's bounds, for every kind, variable count and capacity. Assumes nothing.
+-- The length of an image is within document 01's bounds. Assumes nothing.
 use mathlib.Core.Path.{_≡_}
-use Prim.Native.Nat.{ℕ, _+_, _-_, _*_, _≤_}
+use Prim.Native.Nat.{ℕ, zero, suc, _+_, _-_, _*_, _≤_}
 use native.Mathlib.Omega.{arith}
 use native.Mathlib.Nat.{mul-le-mul, add-mul, mul-add, mul-comm}
 use Rattle.fast_compare.specs.Layout as labels
-use Rattle.index_theory.specs.State.{Kind, monomials, ratioed}
-use Rattle.index_image.specs.Layout.{entryWidth, nodeWidth}
+use Rattle.index_image.specs.Shape.{widthOf, nodeWidth}
 use Rattle.index_image.specs.Size.{LengthOk}
 
 module _ (m c : ℕ) where
@@ -21,14 +20,19 @@ module _ (m c : ℕ) where
       let most : (2 * c - 1) * (m + 6) ≤ (c + c) * (m + 6) = mul-le-mul (omega arith) (omega arith) in
       omega (arith, most, add-mul c c (m + 6), row 6)
 
-  entries : c * entryWidth ratioed m ≤ c * m + c * m + c * 6
-  entries =
-      let most : c * (2 * m + 6) ≤ c * ((m + 3) + (m + 3)) = mul-le-mul (omega arith) (omega arith) in
-      omega (arith, most, mul-add c (m + 3) (m + 3), row 3)
+  entries : (kind : ℕ) → kind ≤ 1 → c * widthOf kind m ≤ c * m + c * m + c * 8
+  entries kind h =
+      let wide : (kind + 1) * (m + 3) ≤ 2 * (m + 3) = mul-le-mul (omega arith) (omega arith) in
+      let most : c * widthOf kind m ≤ c * ((m + 4) + (m + 4)) = mul-le-mul (omega arith) (omega arith) in
+      omega (arith, most, mul-add c (m + 4) (m + 4), row 4)
 
-  plain : c * entryWidth monomials m ≡ c * m + c * 2
-  plain = row 2
+  label-map : (kind : ℕ) → kind ≤ 1 → kind * labels.size m c ≤ labels.size m c
+  label-map kind h =
+      let most : kind * (4 + c * (m + 3) + c) ≤ 1 * (4 + c * (m + 3) + c) = mul-le-mul h (omega arith) in
+      omega arith
 
-pub length-ok : (k : Kind) (m c : ℕ) → LengthOk k m c
-length-ok monomials m c = record { above = omega arith; bounded = omega (arith, bound m c, nodes m c, plain m c) }
-length-ok ratioed m c = record { above = omega arith; bounded = omega (arith, bound m c, nodes m c, entries m c, row m c 3) }
+pub length-ok : (kind m c : ℕ) → kind ≤ 1 → 1 ≤ m → 1 ≤ c → LengthOk kind m c
+length-ok kind m c h v l = record {
+  above = omega arith;
+  bounded = omega (arith, bound m c, nodes m c, entries m c kind h, label-map m c kind h, row m c 3);
+}

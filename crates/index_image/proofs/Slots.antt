@@ -3,7 +3,7 @@ use mathlib.Core.Path.{_≡_, sym, ap, _∙_}
 use mathlib.Core.Bool.{true}
 use mathlib.Core.List.{List}
 use mathlib.Core.Logic.{_↔_}
-use Prim.Native.Nat.{ℕ, _+_, _-_, _*_, _≤_}
+use Prim.Native.Nat.{ℕ, _+_, _-_, _*_, _^_, _≤_, _<_}
 use native.Mathlib.Omega.{arith}
 use lib.Dec.{eqb}
 use lib.ListN.{length, getD, take, drop, length-take, length-drop}
@@ -18,7 +18,9 @@ use Rattle.monomial.proofs.Powers.{canonical-length}
 use Rattle.monomial.specs.Operations.{result}
 use Rattle.monomial.specs.declared.ordered_ops.Op.{Op}
 use Rattle.monomial.proofs.Laws.{front-canonical, length-result, result-small}
-use Rattle.divmask.specs.Mask.{mask}
+use Rattle.divmask.specs.Mask.{mask, vector}
+use Rattle.divmask.proofs.Masks.{mask-small}
+use Rattle.index_image.specs.Shape.{slotWidth, maskAt, vectorAt}
 use Rattle.index_image.specs.Door.{slotLength, slotIn, MaskedSlot}
 
 module _ (W : List ℕ) (m i : ℕ) (few : m ≤ 4096) (some : slotLength W m i ≡ 0 → ⊥) where
@@ -33,7 +35,7 @@ module _ (W : List ℕ) (m i : ℕ) (few : m ≤ 4096) (some : slotLength W m i 
   unfolding slotIn part
   slot-length = simp (length-take, length-drop) (omega (arith, slot-inside))
 
-  pub slot-short : slotLength W m i ≤ m + 1
+  pub slot-short : slotLength W m i ≤ slotWidth m
   slot-short = omega (arith, slot-length, canonical-length 1 m (slotIn W m i) (omega arith) few slot-canonical)
 
 -- the words of a part that is handed on
@@ -43,7 +45,7 @@ part-words bs a n k e = words-part bs a n k e
 
 -- what is known of the monomial that was found in a slot
 pub record FoundSlot (bs : List ℕ) (m i n : ℕ) : Type 0 where
-  pub short : n ≤ m + 1
+  pub short : n ≤ slotWidth m
   pub inside : 4 * (i + n) ≤ length bs
   pub canonical : Canonical 1 m (part (words bs) i n)
 
@@ -57,13 +59,22 @@ found-slot bs m i n few e some =
       canonical = slot-canonical (words bs) m i (omega arith) some′;
     })
 
-pub masked-iff : (W : List ℕ) (m : ℕ) (xs : List ℕ) (i n x y : ℕ) → n ≡ slotLength W m i → (n ≡ 0 → ⊥) → part W (i + n) (m + 1 - n) ≡ zeros (m + 1 - n)
-    → x ≡ getD W (i + (m + 1)) 0 → y ≡ mask m xs (pow 1 (part W i n)) → (eqb x y ≡ true) ↔ MaskedSlot W m xs i
+pub masked-iff : (W : List ℕ) (m : ℕ) (xs : List ℕ) (i n x y : ℕ) → n ≡ slotLength W m i → (n ≡ 0 → ⊥) → part W (i + n) (slotWidth m - n) ≡ zeros (slotWidth m - n)
+    → getD W (maskAt m i) 0 < 2 ^ 32 → x ≡ getD W (maskAt m i) 0 + 4294967296 * getD W (maskAt m i + 1) 0
+    → y ≡ mask m xs (pow 1 (part W i n)) + 4294967296 * vector m (pow 1 (part W i n)) → (eqb x y ≡ true) ↔ MaskedSlot W m xs i
 unfolding slotIn
-masked-iff W m xs i n x y e some rest ex ey =
+masked-iff W m xs i n x y e some rest small ex ey =
+    let next : maskAt m i + 1 ≡ vectorAt m i = omega arith in
+    let ex′ : x ≡ getD W (maskAt m i) 0 + 4294967296 * getD W (vectorAt m i) 0 = ex ∙ rw next in
+    let low : mask m xs (pow 1 (part W i n)) < 2 ^ 32 = mask-small m xs (pow 1 (part W i n)) in
     test x y
-    (λ z. record { some = λ q. some (e ∙ q); rest = rw (← e) rest; masked = sym ex ∙ z ∙ ey ∙ rw e })
-    (λ s. ex ∙ s .masked ∙ rw (← e) (sym ey))
+    (λ z. record {
+      some = λ q. some (e ∙ q);
+      rest = rw (← e) rest;
+      masked = let q : getD W (maskAt m i) 0 ≡ mask m xs (pow 1 (part W i n)) = omega arith in q ∙ rw e;
+      vectored = let q : getD W (vectorAt m i) 0 ≡ vector m (pow 1 (part W i n)) = omega arith in q ∙ rw e;
+    })
+    (λ s. ex′ ∙ rw (s .masked, s .vectored, ← e) (sym ey))
 
 pub range-words : (bs : List ℕ) (a n : ℕ) → words (take (4 * a + 4 * n - 4 * a) (drop (4 * a) bs)) ≡ part (words bs) a n
 range-words bs a n = part-words bs a n (4 * a + 4 * n - 4 * a) (omega arith)

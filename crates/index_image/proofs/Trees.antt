@@ -1,27 +1,25 @@
--- The tree in the image: its rows, one by one. Assumes nothing.
+-- The tree in the image: its rows, one by one, for any map and powers. Assumes nothing.
 use mathlib.Core.Path.{_≡_, refl, sym, ap, _∙_}
-use mathlib.Core.List.{List, _∷_, _++_, append-assoc}
+use mathlib.Core.List.{List, _∷_, _++_}
 use mathlib.Core.Logic.{_↔_}
 use Prim.Native.Nat.{ℕ, suc, _+_, _-_, _*_, _≤_, _<_}
 use native.Mathlib.Nat.{mul-le-mul-right, suc-mul, add-mul, one-mul}
 use native.Mathlib.Omega.{arith}
-use lib.ListN.{length, getD, drop, length-append, take-append-drop}
-use lib.Seq.{take-at}
-use Rattle.words.specs.Tables.{part, zeros}
+use lib.ListN.{length, getD, drop, length-append}
+use Rattle.words.specs.Tables.{part}
 use Rattle.words.proofs.Tables.{part-cons, part-append}
-use Rattle.monomial.specs.Monomial.{front, pow}
-use Rattle.monomial.proofs.Laws.{canonical-front}
+use Rattle.monomial.specs.Monomial.{pow}
 use Rattle.divmask.specs.Mask.{mask}
 use Rattle.divmask.proofs.Masks.{mask-ext}
 use Rattle.kd_theory.specs.Tree.{Tree, leaf, branch, inorder, nodes}
 use Rattle.index_image.specs.declared.Shape.{Shape}
 use Rattle.index_image.specs.Shape as at
-use Rattle.index_image.specs.Layout.{slot, gcdPowers, nodeWords, treeWords}
-use Rattle.index_image.specs.Walk.{power, label, mapMaxima, Ready, Sides, Ordered, TreeAt}
-use Rattle.index_image.specs.Rows.{monomialIn, NodeOk, gcdOf}
+use Rattle.index_image.specs.Shape.{tagAt, keyAt, countAt, skipAt, nodeMaskAt, gcdAt, slotWidth, nodeWidth}
+use Rattle.index_image.specs.Layout.{slot, gcdPowers, gcdOf, nodeWords, treeWords}
+use Rattle.index_image.specs.Walk.{Stands}
+use Rattle.index_image.specs.Rows.{NodeIs}
 use Rattle.index_image.proofs.Encoding.{node-length, tree-length}
-use Rattle.index_image.proofs.Gcds.{power-absent, gcd-canonical, gcd-pow}
-use Rattle.index_image.proofs.Places.{node-fits}
+use Rattle.index_image.proofs.Gcds.{Powers, gcd-canonical, gcd-pow, SlotHas, slot-has}
 
 pub some-node : (t : Tree) → 1 ≤ nodes t
 unfolding nodes
@@ -37,167 +35,148 @@ unfolding nodes
 nodes-leaf es = refl
 
 -- ---- a row, word by word
-pub record RowIs (W : List ℕ) (s : Shape) (at tag key skip : ℕ) (es : List ℕ) : Type 0 where
-  pub tag-is : getD W at 0 ≡ tag
-  pub key-is : getD W (at + 1) 0 ≡ key
-  pub count : getD W (at + 2) 0 ≡ length es
-  pub skip-is : getD W (at + 3) 0 ≡ skip
-  pub node : NodeOk W s at (gcdOf W s es)
+pub record RowIs (W : List ℕ) (m : ℕ) (xs : List ℕ) (pw : ℕ → ℕ → ℕ) (i tag key skip : ℕ) (es : List ℕ) : Type 0 where
+  pub tag-is : getD W (tagAt i) 0 ≡ tag
+  pub key-is : getD W (keyAt i) 0 ≡ key
+  pub count : getD W (countAt i) 0 ≡ length es
+  pub skip-is : getD W (skipAt i) 0 ≡ skip
+  pub node : NodeIs W m xs i (gcdOf pw es)
 
-words-of-row : (W : List ℕ) (at m : ℕ) → at + (m + 6) ≤ length W
-    → part W at (m + 6) ≡ getD W at 0 ∷ getD W (at + 1) 0 ∷ getD W (at + 2) 0 ∷ getD W (at + 3) 0 ∷ getD W (at + 4) 0 ∷ part W (at + 5) (m + 1)
-words-of-row W at m h =
-    let e : m + 6 ≡ suc (suc (suc (suc (suc (m + 1))))) = omega arith in
-    let e2 : at + 1 + 1 ≡ at + 2 = omega arith in
-    let e3 : at + 2 + 1 ≡ at + 3 = omega arith in
-    let e4 : at + 3 + 1 ≡ at + 4 = omega arith in
-    let e5 : at + 4 + 1 ≡ at + 5 = omega arith in
+words-of-row : (W : List ℕ) (i m : ℕ) → i + nodeWidth m ≤ length W
+    → part W i (nodeWidth m) ≡ getD W (tagAt i) 0 ∷ getD W (keyAt i) 0 ∷ getD W (countAt i) 0 ∷ getD W (skipAt i) 0 ∷ getD W (nodeMaskAt i) 0 ∷ part W (gcdAt i) (slotWidth m)
+words-of-row W i m h =
+    let e : nodeWidth m ≡ suc (suc (suc (suc (suc (slotWidth m))))) = omega arith in
+    let e2 : keyAt i + 1 ≡ countAt i = omega arith in
+    let e3 : countAt i + 1 ≡ skipAt i = omega arith in
+    let e4 : skipAt i + 1 ≡ nodeMaskAt i = omega arith in
+    let e5 : nodeMaskAt i + 1 ≡ gcdAt i = omega arith in
     rw (
       e,
-      part-cons W at (suc (suc (suc (suc (m + 1))))) (omega arith),
-      part-cons W (at + 1) (suc (suc (suc (m + 1)))) (omega arith),
+      part-cons W i (suc (suc (suc (suc (slotWidth m))))) (omega arith),
+      part-cons W (keyAt i) (suc (suc (suc (slotWidth m)))) (omega arith),
       e2,
-      part-cons W (at + 2) (suc (suc (m + 1))) (omega arith),
+      part-cons W (countAt i) (suc (suc (slotWidth m))) (omega arith),
       e3,
-      part-cons W (at + 3) (suc (m + 1)) (omega arith),
+      part-cons W (skipAt i) (suc (slotWidth m)) (omega arith),
       e4,
-      part-cons W (at + 4) (m + 1) (omega arith),
+      part-cons W (nodeMaskAt i) (slotWidth m) (omega arith),
       e5,
     )
 
-module _ (W : List ℕ) (s : Shape) (few : s .variables ≤ 64) where
-  abbrev rowOf : ℕ → ℕ → ℕ → List ℕ → List ℕ
-  rowOf tag key skip es = nodeWords (s .variables) (mapMaxima W s) (power W s) tag key skip es
-
-  abbrev treeOf : Tree → List ℕ
-  treeOf t = treeWords (s .variables) (mapMaxima W s) (power W s) t
-
-  mask-of : (es : List ℕ) → mask (s .variables) (mapMaxima W s) (gcdPowers (power W s) es) ≡ mask (s .variables) (mapMaxima W s) (pow 1 (gcdOf W s es))
+module _ (m : ℕ) (xs : List ℕ) (pw : ℕ → ℕ → ℕ) (P : Powers m pw) where
+  pub mask-of : (es : List ℕ) → mask m xs (gcdPowers pw es) ≡ mask m xs (pow 1 (gcdOf pw es))
   unfolding gcdPowers
-  mask-of es = mask-ext (s .variables) (mapMaxima W s) (gcdPowers (power W s) es) (pow 1 (gcdOf W s es)) (λ v h. sym (gcd-pow W s few es v))
+  mask-of es = mask-ext m xs (gcdPowers pw es) (pow 1 (gcdOf pw es)) (λ v h. sym (gcd-pow m pw P es v))
 
-  length-row : (tag key skip : ℕ) (es : List ℕ) → length (rowOf tag key skip es) ≡ s .variables + 6
-  length-row tag key skip es = node-length (s .variables) (mapMaxima W s) (power W s) few (power-absent W s) tag key skip es
+  pub length-row : (tag key skip : ℕ) (es : List ℕ) → length (nodeWords m xs pw tag key skip es) ≡ nodeWidth m
+  length-row tag key skip es = node-length m xs pw (P .few) (P .absent) tag key skip es
 
-  length-tree : (t : Tree) → length (treeOf t) ≡ nodes t * (s .variables + 6)
-  length-tree t = tree-length (s .variables) (mapMaxima W s) (power W s) few (power-absent W s) t
+  pub length-tree : (t : Tree) → length (treeWords m xs pw t) ≡ nodes t * nodeWidth m
+  length-tree t = tree-length m xs pw (P .few) (P .absent) t
 
-  row-iff : (at tag key skip : ℕ) (es : List ℕ) → at + (s .variables + 6) ≤ length W
-      → (part W at (s .variables + 6) ≡ rowOf tag key skip es) ↔ RowIs W s at tag key skip es
+  pub row-iff : (W : List ℕ) (i tag key skip : ℕ) (es : List ℕ) → i + nodeWidth m ≤ length W
+      → (part W i (nodeWidth m) ≡ nodeWords m xs pw tag key skip es) ↔ RowIs W m xs pw i tag key skip es
   unfolding nodeWords
-  row-iff at tag key skip es h = (
-    λ (e : part W at (s .variables + 6) ≡ tag ∷ key ∷ length es ∷ skip ∷ mask (s .variables) (mapMaxima W s) (gcdPowers (power W s) es) ∷ slot (s .variables) (gcdOf W s es)).
-        let z = sym (words-of-row W at (s .variables) h) ∙ e in
-        let ms : getD W (at + 4) 0 ≡ mask (s .variables) (mapMaxima W s) (gcdPowers (power W s) es) = cc in
+  row-iff W i tag key skip es h = (
+    λ (e : part W i (nodeWidth m) ≡ tag ∷ key ∷ length es ∷ skip ∷ mask m xs (gcdPowers pw es) ∷ slot m (gcdOf pw es)).
+        let z = sym (words-of-row W i m h) ∙ e in
+        let ms : getD W (nodeMaskAt i) 0 ≡ mask m xs (gcdPowers pw es) = cc in
         record { tag-is = cc; key-is = cc; count = cc; skip-is = cc; node = record { masked = ms ∙ mask-of es; gcd = cc } },
-    λ r. words-of-row W at (s .variables) h ∙ rw (r .tag-is, r .key-is, r .count, r .skip-is, r .node .masked ∙ sym (mask-of es), r .node .gcd),
+    λ r. words-of-row W i m h ∙ rw (r .tag-is, r .key-is, r .count, r .skip-is, r .node .masked ∙ sym (mask-of es), r .node .gcd),
   )
 
   -- the gcd that a row holds can be read again
-  pub record Slot (at : ℕ) (es : List ℕ) : Type 0 where
-    pub some : front 1 (s .variables) 0 (drop (at + 5) W) ≡ 0 → ⊥
-    pub is : monomialIn W (s .variables) (at + 5) ≡ gcdOf W s es
+  pub slot-of : (W : List ℕ) (i : ℕ) (es : List ℕ) → NodeIs W m xs i (gcdOf pw es) → SlotHas W m (gcdAt i) (gcdOf pw es)
+  slot-of W i es n = slot-has W m (gcdAt i) (gcdOf pw es) (gcd-canonical m pw P es) (n .gcd)
 
-  pub slot-of : (at : ℕ) (es : List ℕ) → NodeOk W s at (gcdOf W s es) → Slot at es
-  unfolding slot monomialIn part
-  slot-of at es n =
-      let g = gcdOf W s es in
-      let can = gcd-canonical W s few es in
-      let rest = zeros (s .variables + 1 - length g) ++ drop (s .variables + 1) (drop (at + 5) W) in
-      let split : drop (at + 5) W ≡ g ++ rest =
-      sym (take-append-drop (s .variables + 1) (drop (at + 5) W)) ∙ ap (λ (l : List ℕ). l ++ drop (s .variables + 1) (drop (at + 5) W)) (n .gcd)
-      ∙ append-assoc g (zeros (s .variables + 1 - length g)) (drop (s .variables + 1) (drop (at + 5) W)) in
-      let f : front 1 (s .variables) 0 (drop (at + 5) W) ≡ length g = rw split (canonical-front 1 (s .variables) g rest (omega arith) can) in
-      record { some = λ z. omega (arith, can .some); is = rw (f, split) (take-at g rest (length g) refl) }
+-- ---- trees. Rows may stand up to the capacity's, and places too, whatever the header says of them.
+module _ (W : List ℕ) (s : Shape) (R : at.InRange s) (room : at.size s ≤ length W) (xs : List ℕ) (pw : ℕ → ℕ → ℕ) (P : Powers (s .variables) pw) where
+  abbrev m : ℕ
+  m = s .variables
 
-module _ (W : List ℕ) (s : Shape) (R : Ready W s) where
-  abbrev few′ : s .variables ≤ 64
-  few′ = R .range .vars-to
+  abbrev w : ℕ
+  w = nodeWidth (s .variables)
+
+  pub row-fits : (k : ℕ) → k < 2 * s .capacity - 1 → at.nodeAt s k + w ≤ length W
+  row-fits k h = omega (arith, mul-le-mul-right {m = k + 1} {n = 2 * s .capacity - 1} w (omega arith), add-mul k 1 w)
 
   -- ---- the rows of a branch
-  module _ (k lo d key : ℕ) (l r : Tree) (hk : k + suc (nodes l + nodes r) ≤ s .nodes) (hlo : lo + (length (inorder l) + length (inorder r)) ≤ s .entries) where
-    next : at.nodeAt s k + (s .variables + 6) ≡ at.nodeAt s (k + 1)
-    next = let e : k + 1 ≡ suc k = omega arith in rw e (omega (arith, suc-mul k (s .variables + 6)))
+  module _ (k lo d key : ℕ) (l r : Tree) (hk : k + suc (nodes l + nodes r) ≤ 2 * s .capacity - 1) (hlo : lo + (length (inorder l) + length (inorder r)) ≤ s .capacity) where
+    next : at.nodeAt s k + w ≡ at.nodeAt s (k + 1)
+    next = let e : k + 1 ≡ suc k = omega arith in rw e (omega (arith, suc-mul k w))
 
-    nexts : at.nodeAt s (k + 1) + nodes l * (s .variables + 6) ≡ at.nodeAt s (k + 1 + nodes l)
-    nexts = omega (arith, add-mul (k + 1) (nodes l) (s .variables + 6))
+    nexts : at.nodeAt s (k + 1) + nodes l * w ≡ at.nodeAt s (k + 1 + nodes l)
+    nexts = omega (arith, add-mul (k + 1) (nodes l) w)
 
-    all-rows : suc (nodes l + nodes r) * (s .variables + 6) ≡ (s .variables + 6) + (nodes l * (s .variables + 6) + nodes r * (s .variables + 6))
-    all-rows = omega (arith, suc-mul (nodes l + nodes r) (s .variables + 6), add-mul (nodes l) (nodes r) (s .variables + 6))
+    all-rows : suc (nodes l + nodes r) * w ≡ w + (nodes l * w + nodes r * w)
+    all-rows = omega (arith, suc-mul (nodes l + nodes r) w, add-mul (nodes l) (nodes r) w)
 
-    last-row : at.nodeAt s k + suc (nodes l + nodes r) * (s .variables + 6) ≤ length W
-    last-row =
-        omega (arith, R .room, mul-le-mul-right {m = k + suc (nodes l + nodes r)} {n = 2 * s .capacity - 1} (s .variables + 6) (omega (arith, R .range .nodes-to)), add-mul k (suc (nodes l + nodes r)) (s .variables + 6))
+    last-row : at.nodeAt s k + suc (nodes l + nodes r) * w ≤ length W
+    last-row = omega (arith, mul-le-mul-right {m = k + suc (nodes l + nodes r)} {n = 2 * s .capacity - 1} w hk, add-mul k (suc (nodes l + nodes r)) w)
 
-    row-in : at.nodeAt s k + (s .variables + 6) ≤ length W
-    row-in = node-fits W s R k (omega arith)
+    row-in : at.nodeAt s k + w ≤ length W
+    row-in = row-fits k (omega arith)
 
-    less-in : at.nodeAt s (k + 1) + nodes l * (s .variables + 6) ≤ length W
+    less-in : at.nodeAt s (k + 1) + nodes l * w ≤ length W
     less-in = omega (arith, last-row, next, all-rows)
 
     perm-in : at.permutationAt s + lo + length (inorder l) ≤ length W
-    perm-in = omega (arith, R .room, R .range .few)
+    perm-in = omega arith
 
     pub record Parts : Type 0 where
-      pub here : RowIs W s (at.nodeAt s k) (suc d) key (nodes l) (inorder l ++ inorder r)
-      pub sides : Sides s (power W s) (label W s) d key (inorder l) (inorder r)
-      pub one : TreeAt W s (k + 1) lo l
-      pub two : TreeAt W s (k + 1 + nodes l) (lo + length (inorder l)) r
+      pub here : RowIs W (s .variables) xs pw (at.nodeAt s k) (suc d) key (nodes l) (inorder l ++ inorder r)
+      pub one : Stands W s xs pw (k + 1) lo l
+      pub two : Stands W s xs pw (k + 1 + nodes l) (lo + length (inorder l)) r
 
-    pub take-apart : TreeAt W s k lo (branch d key l r) → Parts
-    unfolding treeWords nodes Ordered
+    pub take-apart : Stands W s xs pw k lo (branch d key l r) → Parts
+    unfolding treeWords nodes
     take-apart t =
-        let nl = treeOf W s few′ l in
-        let nr = treeOf W s few′ r in
-        let rr = rowOf W s few′ (suc d) key (nodes l) (inorder l ++ inorder r) in
-        let a = part-append W (at.nodeAt s k) (s .variables + 6) (nodes l * (s .variables + 6) + nodes r * (s .variables + 6)) rr (nl ++ nr) row-in (length-row W s few′ (suc d) key (nodes l) (inorder l ++ inorder r)) .0 (rw all-rows at (t .rows)) in
-        let b = part-append W (at.nodeAt s (k + 1)) (nodes l * (s .variables + 6)) (nodes r * (s .variables + 6)) nl nr less-in (length-tree W s few′ l) .0 (rw next at (a .1)) in
+        let nl = treeWords m xs pw l in
+        let nr = treeWords m xs pw r in
+        let rr = nodeWords m xs pw (suc d) key (nodes l) (inorder l ++ inorder r) in
+        let a = part-append W (at.nodeAt s k) w (nodes l * w + nodes r * w) rr (nl ++ nr) row-in (length-row m xs pw P (suc d) key (nodes l) (inorder l ++ inorder r)) .0 (rw all-rows at (t .rows)) in
+        let b = part-append W (at.nodeAt s (k + 1)) (nodes l * w) (nodes r * w) nl nr less-in (length-tree m xs pw P l) .0 (rw next at (a .1)) in
         let la = length-append (inorder l) (inorder r) in
         let p = part-append W (at.permutationAt s + lo) (length (inorder l)) (length (inorder r)) (inorder l) (inorder r) perm-in refl .0 (rw la at (t .perm)) in
         let ep : at.permutationAt s + lo + length (inorder l) ≡ at.permutationAt s + (lo + length (inorder l)) = omega arith in
         record {
-          here = row-iff W s few′ (at.nodeAt s k) (suc d) key (nodes l) (inorder l ++ inorder r) row-in .0 (a .0);
-          sides = t .ordered .0;
-          one = record { rows = b .0; perm = p .0; ordered = t .ordered .1 .0 };
-          two = record { rows = rw nexts at (b .1); perm = rw ep at (p .1); ordered = t .ordered .1 .1 };
+          here = row-iff m xs pw P W (at.nodeAt s k) (suc d) key (nodes l) (inorder l ++ inorder r) row-in .0 (a .0);
+          one = record { rows = b .0; perm = p .0 };
+          two = record { rows = rw nexts at (b .1); perm = rw ep at (p .1) };
         }
 
-    pub put-together : Parts → TreeAt W s k lo (branch d key l r)
-    unfolding treeWords nodes Ordered
+    pub put-together : Parts → Stands W s xs pw k lo (branch d key l r)
+    unfolding treeWords nodes
     put-together t =
-        let nl = treeOf W s few′ l in
-        let nr = treeOf W s few′ r in
-        let rr = rowOf W s few′ (suc d) key (nodes l) (inorder l ++ inorder r) in
-        let b = part-append W (at.nodeAt s (k + 1)) (nodes l * (s .variables + 6)) (nodes r * (s .variables + 6)) nl nr less-in (length-tree W s few′ l) .1 (t .one .rows, rw nexts (t .two .rows)) in
-        let a = part-append W (at.nodeAt s k) (s .variables + 6) (nodes l * (s .variables + 6) + nodes r * (s .variables + 6)) rr (nl ++ nr) row-in (length-row W s few′ (suc d) key (nodes l) (inorder l ++ inorder r)) .1
-        (row-iff W s few′ (at.nodeAt s k) (suc d) key (nodes l) (inorder l ++ inorder r) row-in .1 (t .here), rw next b) in
+        let nl = treeWords m xs pw l in
+        let nr = treeWords m xs pw r in
+        let rr = nodeWords m xs pw (suc d) key (nodes l) (inorder l ++ inorder r) in
+        let b = part-append W (at.nodeAt s (k + 1)) (nodes l * w) (nodes r * w) nl nr less-in (length-tree m xs pw P l) .1 (t .one .rows, rw nexts (t .two .rows)) in
+        let a = part-append W (at.nodeAt s k) w (nodes l * w + nodes r * w) rr (nl ++ nr) row-in (length-row m xs pw P (suc d) key (nodes l) (inorder l ++ inorder r)) .1
+        (row-iff m xs pw P W (at.nodeAt s k) (suc d) key (nodes l) (inorder l ++ inorder r) row-in .1 (t .here), rw next b) in
         let la = length-append (inorder l) (inorder r) in
         let ep : at.permutationAt s + lo + length (inorder l) ≡ at.permutationAt s + (lo + length (inorder l)) = omega arith in
         let p = part-append W (at.permutationAt s + lo) (length (inorder l)) (length (inorder r)) (inorder l) (inorder r) perm-in refl .1 (t .one .perm, rw ep (t .two .perm)) in
-        record { rows = rw all-rows a; perm = rw la p; ordered = (t .sides, (t .one .ordered, t .two .ordered)) }
+        record { rows = rw all-rows a; perm = rw la p }
 
   -- ---- a leaf is its row
-  pub leaf-row : (k lo : ℕ) (es : List ℕ) → TreeAt W s k lo (leaf es) → k < s .nodes → RowIs W s (at.nodeAt s k) 0 0 0 es
+  pub leaf-row : (k lo : ℕ) (es : List ℕ) → Stands W s xs pw k lo (leaf es) → k < 2 * s .capacity - 1 → RowIs W (s .variables) xs pw (at.nodeAt s k) 0 0 0 es
   unfolding treeWords nodes
-  leaf-row k lo es t h = row-iff W s few′ (at.nodeAt s k) 0 0 0 es (node-fits W s R k h) .0 (rw (one-mul (s .variables + 6)) at (t .rows))
+  leaf-row k lo es t h = row-iff m xs pw P W (at.nodeAt s k) 0 0 0 es (row-fits k h) .0 (rw (one-mul w) at (t .rows))
 
-  pub row-leaf : (k lo : ℕ) (es : List ℕ) → k < s .nodes → RowIs W s (at.nodeAt s k) 0 0 0 es → part W (at.permutationAt s + lo) (length es) ≡ es → TreeAt W s k lo (leaf es)
-  unfolding treeWords nodes Ordered
-  row-leaf k lo es h r p = record {
-    rows = rw (one-mul (s .variables + 6)) (row-iff W s few′ (at.nodeAt s k) 0 0 0 es (node-fits W s R k h) .1 r);
-    perm = p;
-    ordered = tt;
-  }
+  pub row-leaf : (k lo : ℕ) (es : List ℕ) → k < 2 * s .capacity - 1 → RowIs W (s .variables) xs pw (at.nodeAt s k) 0 0 0 es → part W (at.permutationAt s + lo) (length es) ≡ es → Stands W s xs pw k lo (leaf es)
+  unfolding treeWords nodes
+  row-leaf k lo es h r p = record { rows = rw (one-mul w) (row-iff m xs pw P W (at.nodeAt s k) 0 0 0 es (row-fits k h) .1 r); perm = p }
 
   -- ---- the first row of a tree: its count and gcd
   pub record Head (k : ℕ) (t : Tree) : Type 0 where
-    pub count : getD W (at.nodeAt s k + 2) 0 ≡ length (inorder t)
-    pub slot : Slot W s few′ (at.nodeAt s k) (inorder t)
+    pub count : getD W (countAt (at.nodeAt s k)) 0 ≡ length (inorder t)
+    pub slot : SlotHas W (s .variables) (gcdAt (at.nodeAt s k)) (gcdOf pw (inorder t))
 
-  pub tree-head : (k lo : ℕ) (t : Tree) → TreeAt W s k lo t → k + nodes t ≤ s .nodes → lo + length (inorder t) ≤ s .entries → Head k t
+  pub tree-head : (k lo : ℕ) (t : Tree) → Stands W s xs pw k lo t → k + nodes t ≤ 2 * s .capacity - 1 → lo + length (inorder t) ≤ s .capacity → Head k t
   tree-head k lo (leaf es) t h n =
       let r = leaf-row k lo es t (omega (arith, nodes-leaf es)) in
-      record { count = r .count; slot = slot-of W s few′ (at.nodeAt s k) es (r .node) }
+      record { count = r .count; slot = slot-of m xs pw P W (at.nodeAt s k) es (r .node) }
   tree-head k lo (branch d key l r) t h n =
       let p = take-apart k lo d key l r (omega (arith, nodes-branch d key l r)) (omega (arith, length-append (inorder l) (inorder r))) t .here in
-      record { count = p .count; slot = slot-of W s few′ (at.nodeAt s k) (inorder l ++ inorder r) (p .node) }
+      record { count = p .count; slot = slot-of m xs pw P W (at.nodeAt s k) (inorder l ++ inorder r) (p .node) }

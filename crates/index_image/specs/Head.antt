@@ -11,13 +11,13 @@ use Rattle.index_image.specs.declared.head.Head.the-variants.{Image, Bad
 
 -- layout 1, numbers in range that `len` bytes have room for, and zeros in the words kept for later use
 pub record HeadOk (W : List ℕ) (len : ℕ) (s : Shape) : Type 0 where
-  pub layout : getD W 0 0 ≡ 1
-  pub kind : getD W 1 0 ≡ s .kind
-  pub variables : getD W 2 0 ≡ s .variables
-  pub capacity : getD W 3 0 ≡ s .capacity
-  pub entries : getD W 4 0 ≡ s .entries
-  pub nodes : getD W 5 0 ≡ s .nodes
-  pub kept : part W 6 10 ≡ zeros 10
+  pub layout : getD W at.layoutAt 0 ≡ 1
+  pub kind : getD W at.kindAt 0 ≡ s .kind
+  pub variables : getD W at.variablesAt 0 ≡ s .variables
+  pub capacity : getD W at.capacityAt 0 ≡ s .capacity
+  pub entries : getD W at.lengthAt 0 ≡ s .entries
+  pub nodes : getD W at.nodesCountAt 0 ≡ s .nodes
+  pub kept : part W at.keptAt at.kept ≡ zeros at.kept
   pub range : at.InRange s
   pub room : 4 * at.size s ≤ len
 

@@ -7,80 +7,61 @@ use Rattle.words.specs.Kinds.{indexWord}
 use Rattle.words.specs.Words.{words}
 use Rattle.words.specs.Tables.{part, zeros, table}
 use Rattle.monomial.specs.Monomial.{pow, monomialOf}
-use Rattle.divmask.specs.Mask.{mask}
+use Rattle.divmask.specs.Mask.{mask, vector}
 use Rattle.fast_compare.specs.Map as map
 use Rattle.fast_compare.specs.Layout as labels
 use Rattle.kd_theory.specs.Bifurcate.{least}
 use Rattle.kd_theory.specs.Tree.{Tree, leaf, branch, inorder, nodes}
 use Rattle.index_theory.specs.Entries.{Entry, entryAt, ratioOf}
 use Rattle.index_theory.specs.State.{Kind, monomials, ratioed, State, Valid, powerIn, rowOf}
-
--- ---- the numbers of words. A monomial has a slot of m + 1 words: its words, then zeros.
--- an entry: lm and its mask; in a ratio index also index, signature monomial, its mask, and the row of its ratio in the label map
-abbrev pub entryWidth : Kind → ℕ → ℕ
-entryWidth monomials m = m + 2
-entryWidth ratioed m = 2 * m + 6
-
--- a node: tag, key, count, skip, mask, gcd
-abbrev pub nodeWidth : ℕ → ℕ
-nodeWidth m = m + 6
-
--- a ratio index holds the image of its label map
-abbrev pub labelsSize : Kind → ℕ → ℕ → ℕ
-labelsSize monomials m c = 0
-labelsSize ratioed m c = labels.size m c
-
--- ---- where the tables begin
-abbrev pub maximaAt : ℕ
-maximaAt = 16
-
-abbrev pub mapAt : ℕ → ℕ
-mapAt m = 16 + m
-
-abbrev pub entriesAt : ℕ → ℕ
-entriesAt m = 16 + 2 * m
-
-abbrev pub permutationAt : Kind → ℕ → ℕ → ℕ
-permutationAt k m c = entriesAt m + c * entryWidth k m
-
-abbrev pub labelsAt : Kind → ℕ → ℕ → ℕ
-labelsAt k m c = permutationAt k m c + c
-
-abbrev pub nodesAt : Kind → ℕ → ℕ → ℕ
-nodesAt k m c = labelsAt k m c + labelsSize k m c
-
--- a capacity of c never needs more than 2 c − 1 nodes
-abbrev pub size : Kind → ℕ → ℕ → ℕ
-size k m c = nodesAt k m c + (2 * c - 1) * nodeWidth m
+use Rattle.index_image.specs.Shape as at
+use Rattle.index_image.specs.declared.Shape.{Shape}
 
 -- ---- the words
 abbrev pub code : Kind → ℕ
 code monomials = 0
 code ratioed = 1
 
-unfoldable pub slot : ℕ → List ℕ → List ℕ
-slot m ws = ws ++ zeros (m + 1 - length ws)
+-- the numbers of a state's header, which say where its tables begin
+abbrev pub shapeOf : State → Shape
+shapeOf st = record {
+  kind = code (st .kind);
+  variables = st .variables;
+  capacity = st .capacity;
+  entries = length (st .entries);
+  nodes = nodes (st .tree);
+}
 
--- layout number, index kind, variables, capacity, entries, nodes; the rest is kept for later use
 unfoldable pub header : State → List ℕ
-header st = 1 ∷ code (st .kind) ∷ st .variables ∷ st .capacity ∷ length (st .entries) ∷ nodes (st .tree) ∷ zeros 10
+header st = 1 ∷ code (st .kind) ∷ st .variables ∷ st .capacity ∷ length (st .entries) ∷ nodes (st .tree) ∷ zeros at.kept
+
+-- a monomial in its slot
+unfoldable pub slot : ℕ → List ℕ → List ℕ
+slot m ws = ws ++ zeros (at.slotWidth m - length ws)
+
+-- and with its mask and short exponent vector behind it, before the words `rest`
+unfoldable pub masked : ℕ → List ℕ → List ℕ → List ℕ → List ℕ
+masked m xs ws rest = slot m ws ++ (mask m xs (pow 1 ws) ∷ vector m (pow 1 ws) ∷ rest)
 
 -- what a ratio index adds to an entry
 unfoldable pub signWords : Kind → ℕ → List ℕ → map.State → Entry → List ℕ
 signWords monomials m xs l e = []
-signWords ratioed m xs l e = indexWord (e .index) ∷ (slot m (e .sign) ++ (mask m xs (pow 1 (e .sign)) ∷ rowOf l (ratioOf e) ∷ []))
+signWords ratioed m xs l e = indexWord (e .index) ∷ masked m xs (e .sign) (rowOf l (ratioOf e) ∷ [])
 
 unfoldable pub entryWords : Kind → ℕ → List ℕ → map.State → Entry → List ℕ
-entryWords k m xs l e = slot m (e .lm) ++ (mask m xs (pow 1 (e .lm)) ∷ signWords k m xs l e)
+entryWords k m xs l e = masked m xs (e .lm) (signWords k m xs l e)
 
 -- Nodes speak of entries by their places. pw v e is the power of variable v in the lm of the entry at place e.
 -- the powers of the gcd of the entries at some places; of none it is one
 unfoldable pub gcdPowers : (ℕ → ℕ → ℕ) → List ℕ → ℕ → ℕ
 gcdPowers pw places v = least (pw v) places
 
+abbrev pub gcdOf : (ℕ → ℕ → ℕ) → List ℕ → List ℕ
+gcdOf pw places = monomialOf 1 (gcdPowers pw places)
+
 unfoldable pub nodeWords : ℕ → List ℕ → (ℕ → ℕ → ℕ) → ℕ → ℕ → ℕ → List ℕ → List ℕ
 nodeWords m xs pw tag key skip places =
-    tag ∷ key ∷ length places ∷ skip ∷ mask m xs (gcdPowers pw places) ∷ slot m (monomialOf 1 (gcdPowers pw places))
+    tag ∷ key ∷ length places ∷ skip ∷ mask m xs (gcdPowers pw places) ∷ slot m (gcdOf pw places)
 
 -- the nodes in preorder: a leaf has tag, key and skip 0; a branch on dimension d has tag 1 + d, and skips the nodes of its less side
 unfoldable pub treeWords : ℕ → List ℕ → (ℕ → ℕ → ℕ) → Tree → List ℕ
@@ -103,19 +84,19 @@ encode st =
     ++ (st .maxima
     ++ (xs
     ++ (table n (λ i. entryWords k m xs (st .labels) (entryAt (st .entries) i))
-    ++ (zeros ((st .capacity - n) * entryWidth k m)
+    ++ (zeros ((st .capacity - n) * at.entryWidth (shapeOf st))
     ++ (inorder (st .tree)
     ++ (zeros (st .capacity - n)
     ++ (labelWords k (st .labels)
     ++ (treeWords m xs (powerIn (st .entries)) (st .tree)
-    ++ zeros ((2 * st .capacity - 1 - nodes (st .tree)) * nodeWidth m)))))))))
+    ++ zeros ((2 * st .capacity - 1 - nodes (st .tree)) * at.nodeWidth m)))))))))
 
 -- ---- which bytes hold an index
 -- the bytes begin with the image of st; bytes past its length are not judged
 pub record Is (st : State) (bs : List ℕ) : Type 0 where
   pub valid : Valid st
-  pub room : 4 * size (st .kind) (st .variables) (st .capacity) ≤ length bs
-  pub is : part (words bs) 0 (size (st .kind) (st .variables) (st .capacity)) ≡ encode st
+  pub room : 4 * at.size (shapeOf st) ≤ length bs
+  pub is : part (words bs) 0 (at.size (shapeOf st)) ≡ encode st
 
 -- sound: the bytes begin with the image of some valid state
 pub record Sound (bs : List ℕ) : Type 0 where

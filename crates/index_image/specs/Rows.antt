@@ -6,11 +6,11 @@ use Prim.Native.Nat.{ℕ, _+_, _-_, _*_, _^_, _≤_, _<_}
 use lib.ListN.{length, getD, set, drop}
 use Rattle.words.specs.Words.{words}
 use Rattle.words.specs.Tables.{part}
-use Rattle.monomial.specs.Monomial.{front, pow, monomialOf}
+use Rattle.monomial.specs.Monomial.{front, pow}
 use Rattle.monomial.specs.Operations.{result}
 use Rattle.monomial.specs.declared.ordered_ops.Op.the-variants.{Gcd}
 use Rattle.divmask.specs.Mask.{mask}
-use Rattle.index_image.specs.Layout.{slot, gcdPowers}
+use Rattle.index_image.specs.Layout.{slot, gcdOf}
 use Rattle.index_image.specs.Shape as at
 use Rattle.index_image.specs.Walk.{power, label, mapMaxima, dims, Below, Bounded}
 use Rattle.index_image.specs.declared.Shape.{Shape}
@@ -39,55 +39,55 @@ pub record Uppers (m : ℕ) (hi : List ℕ) : Type 0 where
   pub one-each : length hi ≡ 4 * m
   pub some : (v : ℕ) → v < m → 1 ≤ getD (words hi) v 0
 
--- the row at word `at` has the gcd ws and its mask
-pub record NodeOk (W : List ℕ) (s : Shape) (at : ℕ) (ws : List ℕ) : Type 0 where
-  pub masked : getD W (at + 4) 0 ≡ mask (s .variables) (mapMaxima W s) (pow 1 ws)
-  pub gcd : part W (at + 5) (s .variables + 1) ≡ slot (s .variables) ws
+-- the row at word `i` has the gcd ws and its mask
+pub record NodeIs (W : List ℕ) (m : ℕ) (xs : List ℕ) (i : ℕ) (ws : List ℕ) : Type 0 where
+  pub masked : getD W (at.nodeMaskAt i) 0 ≡ mask m xs (pow 1 ws)
+  pub gcd : part W (at.gcdAt i) (at.slotWidth m) ≡ slot m ws
 
-abbrev pub gcdOf : List ℕ → Shape → List ℕ → List ℕ
-gcdOf W s es = monomialOf 1 (gcdPowers (power W s) es)
+abbrev pub NodeOk : List ℕ → Shape → ℕ → List ℕ → Type 0
+NodeOk W s i ws = NodeIs W (s .variables) (mapMaxima W s) i ws
 
--- the row at word `at` is that of a leaf whose c entries start at lo
-pub record LeafOk (W : List ℕ) (s : Shape) (H : List ℕ) (ll lh at lo c : ℕ) : Type 0 where
-  pub key : getD W (at + 1) 0 ≡ 0
-  pub skip : getD W (at + 3) 0 ≡ 0
-  pub node : NodeOk W s at (gcdOf W s (entriesFrom W s lo c))
+-- the row at word `i` is that of a leaf whose c entries start at lo
+pub record LeafOk (W : List ℕ) (s : Shape) (H : List ℕ) (ll lh i lo c : ℕ) : Type 0 where
+  pub key : getD W (at.keyAt i) 0 ≡ 0
+  pub skip : getD W (at.skipAt i) 0 ≡ 0
+  pub node : NodeOk W s i (gcdOf (power W s) (entriesFrom W s lo c))
   pub bounded : Bounded W s H ll lh (entriesFrom W s lo c)
 
--- the row at word `at` has a branch's dimension and key. The tag of the ratio is the kind of a ratio index, and no other tag is.
-pub record KeyIn (W : List ℕ) (s : Shape) (at : ℕ) : Type 0 where
-  pub two : 2 ≤ getD W (at + 2) 0
-  pub from : 1 ≤ getD W at 0
-  pub to : getD W at 0 ≤ dims s
-  pub ratio : getD W at 0 ≡ s .kind → getD W (at + 1) 0 < s .entries
-  pub variable : (getD W at 0 ≡ s .kind → ⊥) → 1 ≤ getD W (at + 1) 0
+-- the row at word `i` has a branch's dimension and key. The tag of the ratio is the kind of a ratio index, and no other tag is.
+pub record KeyIn (W : List ℕ) (s : Shape) (i : ℕ) : Type 0 where
+  pub two : 2 ≤ getD W (at.countAt i) 0
+  pub from : 1 ≤ getD W (at.tagAt i) 0
+  pub to : getD W (at.tagAt i) 0 ≤ dims s
+  pub ratio : getD W (at.tagAt i) 0 ≡ s .kind → getD W (at.keyAt i) 0 < s .entries
+  pub variable : (getD W (at.tagAt i) 0 ≡ s .kind → ⊥) → 1 ≤ getD W (at.keyAt i) 0
 
--- entry e lies below the key of the row at word `at`
+-- entry e lies below the key of the row at word `i`
 abbrev pub BelowKey : List ℕ → Shape → ℕ → ℕ → Type 0
-BelowKey W s at e = Below (s .kind) (power W s) (label W s) (getD W at 0 - 1) (getD W (at + 1) 0) e
+BelowKey W s i e = Below (s .kind) (power W s) (label W s) (getD W (at.tagAt i) 0 - 1) (getD W (at.keyAt i) 0) e
 
 -- the bounds of the two sides. A variable's key bounds the powers of the less side alone: those of the other side are seen from its gcd.
-pub record Cut (W : List ℕ) (s : Shape) (H : List ℕ) (ll lh at : ℕ) (b : Limits) : Type 0 where
+pub record Cut (W : List ℕ) (s : Shape) (H : List ℕ) (ll lh i : ℕ) (b : Limits) : Type 0 where
   pub known : b .variable < s .variables
   pub some : 1 ≤ b .power
   pub small : b .power < 2 ^ 32
-  pub less : (e : ℕ) → Inside W s (set H (b .variable) (b .power)) ll (b .less) e ↔ (Inside W s H ll lh e × BelowKey W s at e)
-  pub other : (e : ℕ) → Inside W s H (b .other) lh e ↔ (Inside W s H ll lh e × (getD W at 0 ≡ s .kind → BelowKey W s at e → ⊥))
+  pub less : (e : ℕ) → Inside W s (set H (b .variable) (b .power)) ll (b .less) e ↔ (Inside W s H ll lh e × BelowKey W s i e)
+  pub other : (e : ℕ) → Inside W s H (b .other) lh e ↔ (Inside W s H ll lh e × (getD W (at.tagAt i) 0 ≡ s .kind → BelowKey W s i e → ⊥))
 
 -- canonical monomials stand in the gcd slots of the rows at words a and b
 pub record Slots (W : List ℕ) (m a b : ℕ) : Type 0 where
-  pub one : front 1 m 0 (drop (a + 5) W) ≡ 0 → ⊥
-  pub two : front 1 m 0 (drop (b + 5) W) ≡ 0 → ⊥
+  pub one : front 1 m 0 (drop (at.gcdAt a) W) ≡ 0 → ⊥
+  pub two : front 1 m 0 (drop (at.gcdAt b) W) ≡ 0 → ⊥
 
 -- no power of the other side, whose row is at word b, is below the key of a variable
 abbrev pub OtherOk : List ℕ → Shape → ℕ → ℕ → Type 0
-OtherOk W s at b = (getD W at 0 ≡ s .kind → ⊥) → getD W (at + 1) 0 ≤ pow 1 (monomialIn W (s .variables) (b + 5)) (getD W at 0 - 1 - s .kind)
+OtherOk W s i b = (getD W (at.tagAt i) 0 ≡ s .kind → ⊥) → getD W (at.keyAt i) 0 ≤ pow 1 (monomialIn W (s .variables) (at.gcdAt b)) (getD W (at.tagAt i) 0 - 1 - s .kind)
 
--- the row at word `at` is that of a branch over those at words a and b, the first of t rows
-pub record BranchOk (W : List ℕ) (s : Shape) (at a b t : ℕ) : Type 0 where
-  pub some-less : 0 < getD W (a + 2) 0
-  pub some-other : 0 < getD W (b + 2) 0
-  pub count : getD W (at + 2) 0 ≡ getD W (a + 2) 0 + getD W (b + 2) 0
-  pub skip : getD W (at + 3) 0 ≡ t
-  pub node : NodeOk W s at (result Gcd (monomialIn W (s .variables) (a + 5)) (monomialIn W (s .variables) (b + 5)))
-  pub other : OtherOk W s at b
+-- the row at word `i` is that of a branch over those at words a and b, the first of t rows
+pub record BranchOk (W : List ℕ) (s : Shape) (i a b t : ℕ) : Type 0 where
+  pub some-less : 0 < getD W (at.countAt a) 0
+  pub some-other : 0 < getD W (at.countAt b) 0
+  pub count : getD W (at.countAt i) 0 ≡ getD W (at.countAt a) 0 + getD W (at.countAt b) 0
+  pub skip : getD W (at.skipAt i) 0 ≡ t
+  pub node : NodeOk W s i (result Gcd (monomialIn W (s .variables) (at.gcdAt a)) (monomialIn W (s .variables) (at.gcdAt b)))
+  pub other : OtherOk W s i b

@@ -6,7 +6,6 @@ use lib.ListN.{length, getD, drop}
 use Rattle.words.specs.Tables.{part}
 use Rattle.monomial.specs.Monomial.{front, pow}
 use Rattle.divmask.specs.Tracker.{Maxima}
-use Rattle.fast_compare.specs.Layout as labels
 use Rattle.kd_theory.specs.Bag.{_∈_}
 use Rattle.kd_theory.specs.Tree.{Tree, leaf, branch, inorder, nodes}
 use Rattle.index_image.specs.Layout.{treeWords}
@@ -16,10 +15,10 @@ use Rattle.index_image.specs.declared.Shape.{Shape}
 -- ---- entries by place
 -- how many words the lm of the entry at place e has; 0 where no canonical monomial stands there
 abbrev pub lmLength : List ℕ → Shape → ℕ → ℕ
-lmLength W s e = front 1 (s .variables) 0 (drop (at.entryAt s e) W)
+lmLength W s e = front 1 (s .variables) 0 (drop (at.lmAt s e) W)
 
 unfoldable pub lmIn : List ℕ → Shape → ℕ → List ℕ
-lmIn W s e = part W (at.entryAt s e) (lmLength W s e)
+lmIn W s e = part W (at.lmAt s e) (lmLength W s e)
 
 -- the power of variable v in it
 unfoldable pub power : List ℕ → Shape → ℕ → ℕ → ℕ
@@ -27,13 +26,13 @@ power W s v e = pow 1 (lmIn W s e) v
 
 -- in a ratio index, the row of its ratio in the label map, and the label there
 abbrev pub rowIn : List ℕ → Shape → ℕ → ℕ
-rowIn W s e = getD W (at.entryAt s e + (2 * s .variables + 5)) 0
+rowIn W s e = getD W (at.rowAt s e) 0
 
 unfoldable pub label : List ℕ → Shape → ℕ → ℕ
-label W s e = getD W (at.labelsAt s + (labels.rowAt (s .variables) (rowIn W s e) + (s .variables + 2))) 0
+label W s e = getD W (at.labelAt s (rowIn W s e)) 0
 
 abbrev pub mapMaxima : List ℕ → Shape → List ℕ
-mapMaxima W s = part W (16 + s .variables) (s .variables)
+mapMaxima W s = part W (at.mapAt (s .variables)) (s .variables)
 
 -- what is known before the walk: the words that it reads are there and make sense
 pub record Ready (W : List ℕ) (s : Shape) : Type 0 where
@@ -73,10 +72,14 @@ unfoldable pub Ordered : Shape → (ℕ → ℕ → ℕ) → (ℕ → ℕ) → T
 Ordered s pw lb (leaf es) = Unit {0}
 Ordered s pw lb (branch d k l r) = Sides s pw lb d k (inorder l) (inorder r) × (Ordered s pw lb l × Ordered s pw lb r)
 
--- the tree t stands at node row k, its entries from place lo of the permutation on
-pub record TreeAt (W : List ℕ) (s : Shape) (k lo : ℕ) (t : Tree) : Type 0 where
-  pub rows : part W (at.nodeAt s k) (nodes t * (s .variables + 6)) ≡ treeWords (s .variables) (mapMaxima W s) (power W s) t
+-- the rows of the tree t, by a map and powers, stand at node row k, its entries from place lo of the permutation on
+pub record Stands (W : List ℕ) (s : Shape) (xs : List ℕ) (pw : ℕ → ℕ → ℕ) (k lo : ℕ) (t : Tree) : Type 0 where
+  pub rows : part W (at.nodeAt s k) (nodes t * at.nodeWidth (s .variables)) ≡ treeWords (s .variables) xs pw t
   pub perm : part W (at.permutationAt s + lo) (length (inorder t)) ≡ inorder t
+
+-- the same by the image's own map and powers, in order
+pub record TreeAt (W : List ℕ) (s : Shape) (k lo : ℕ) (t : Tree) : Type 0 where
+  pub stands : Stands W s (mapMaxima W s) (power W s) k lo t
   pub ordered : Ordered s (power W s) (label W s) t
 
 -- every entry has powers below H and, in a ratio index, a label from ll on and below lh

@@ -1,5 +1,6 @@
 // The door's checks of the entries: canonical slots with their masks, ratios that the label map has, and unused rows that are 0.
 use crate::Shape;
+use crate::fields;
 ghost use mathlib.Core.Path.{_≡_};
 ghost use mathlib.Core.Bool.{true};
 ghost use mathlib.Core.Logic.{_↔_};
@@ -16,11 +17,11 @@ ghost use Rattle.index_image.specs.Door as door;
 ghost use Rattle.index_image.specs.Shape as at;
 ghost use Rattle.index_image.specs.Walk.{lmIn, rowIn, mapMaxima};
 
-// Whether a canonical monomial stands in the slot at word i, zeros behind it, and then its mask.
+// Whether a canonical monomial stands in the slot at word i, zeros behind it, and then its mask and short exponent vector.
 pub fn masked_slot(image: &[u8], map: usize, variables: usize, i: usize) -> bool
     requires { ⌜ Maxima variables (part (words (now image)) map variables) ⌝ }
     requires { ⌜ 4 * (map + variables) ≤ length (now image) ⌝ }
-    requires { ⌜ 4 * (i + (variables + 2)) ≤ length (now image) ⌝ }
+    requires { ⌜ 4 * (i + at.maskedWidth variables) ≤ length (now image) ⌝ }
     ensures { λ r. ⌜ (r ≡ true) ↔ door.MaskedSlot (words (now (image .entry))) variables (part (words (now (image .entry))) map variables) i ⌝ }
 {
     let m = variables as u32;
@@ -28,15 +29,15 @@ pub fn masked_slot(image: &[u8], map: usize, variables: usize, i: usize) -> bool
     if n == 0 {
         return false;
     }
-    if !words::runs::is_blank(image, i + n, variables + 1 - n) {
+    if !words::runs::is_blank(image, i + n, variables + fields::SLOT - n) {
         return false;
     }
     let a = 4 * map;
     let b = a + 4 * variables;
     let c = 4 * i;
     let d = c + 4 * n;
-    let mask = divmask::map(&image[a..b], m, &image[c..d]);
-    words::get(image, i + (variables + 1)) == mask
+    let masks = divmask::pairs::map(&image[a..b], m, &image[c..d]);
+    words::pairs::get(image, i + (variables + fields::MASK)) == masks
 }
 
 // Whether c is the ratio a / b.
@@ -61,12 +62,12 @@ fn has_ratio(image: &[u8], s: Shape, i: usize) -> bool
 {
     let m = s.variables;
     let e = s.entry_at(i);
-    let row = words::get(image, e + (2 * m + 5)) as usize;
-    let r = s.labels_at() + (4 + row * (m + 3));
-    if words::get(image, e + (m + 2)) != words::get(image, r) {
+    let row = words::get(image, e + (2 * m + fields::ROW)) as usize;
+    let r = s.labels_at() + (fields::LABELS + row * (m + fields::LABEL_ROW));
+    if words::get(image, e + (m + fields::INDEX)) != words::get(image, r) {
         return false;
     }
-    let sign = monomial::known_at(image, e + (m + 3));
+    let sign = monomial::known_at(image, e + (m + fields::SIGN));
     let lm = monomial::known_at(image, e);
     let ratio = monomial::known_at(image, r + 1);
     is_ratio(sign, lm, ratio)
@@ -78,18 +79,20 @@ fn ratio_ok(image: &[u8], s: Shape, i: usize) -> bool
     requires { ⌜ 4 * at.size s ≤ length (now image) ⌝ }
     requires { ⌜ (s .kind ≡ 1) × (i < s .entries) ⌝ }
     requires { ⌜ door.Tables (words (now image)) s ⌝ }
-    requires { ⌜ door.MaskedSlot (words (now image)) (s .variables) (mapMaxima (words (now image)) s) (at.entryAt s i) ⌝ }
+    requires { ⌜ door.MaskedSlot (words (now image)) (s .variables) (mapMaxima (words (now image)) s) (at.lmAt s i) ⌝ }
     ensures { λ r. ⌜ (r ≡ true) ↔ door.RatioOk (words (now (image .entry))) s i ⌝ }
 {
     let m = s.variables;
     let e = s.entry_at(i);
-    if words::get(image, e + (m + 2)) / 268435456 != 3 {
+    if words::get(image, e + (m + fields::INDEX)) / 268435456 != 3 {
         return false;
     }
-    if !masked_slot(image, 16 + m, m, e + (m + 3)) {
+    if !masked_slot(image, fields::HEADER + m, m, e + (m + fields::SIGN)) {
         return false;
     }
-    if words::get(image, s.labels_at() + 3) <= words::get(image, e + (2 * m + 5)) {
+    if words::get(image, s.labels_at() + fields::ROWS)
+        <= words::get(image, e + (2 * m + fields::ROW))
+    {
         return false;
     }
     has_ratio(image, s, i)
@@ -106,7 +109,7 @@ fn entry_ok(image: &[u8], s: Shape, i: usize) -> bool
     let m = s.variables;
     let k = s.kind;
     let e = s.entry_at(i);
-    if !masked_slot(image, 16 + m, m, e) {
+    if !masked_slot(image, fields::HEADER + m, m, e) {
         return false;
     }
     if k == 0 {

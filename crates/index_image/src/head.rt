@@ -1,5 +1,6 @@
 // The header of an image.
 use crate::Shape;
+use crate::fields;
 ghost use mathlib.Core.Path.{_≡_};
 ghost use mathlib.Core.Bool.{true};
 ghost use mathlib.Core.Logic.{_↔_};
@@ -48,20 +49,20 @@ fn in_range(s: Shape) -> bool
 pub fn read(image: &[u8]) -> Head
     ensures { λ r. ⌜ HeadIs (words (now (image .entry))) (length (now (image .entry))) r ⌝ }
 {
-    if image.len() < 64 {
+    if image.len() < 4 * fields::HEADER {
         return Head::Bad;
     }
-    if words::get(image, 0) != 1 {
+    if words::get(image, fields::LAYOUT) != 1 {
         return Head::Bad;
     }
     let s = Shape {
-        kind: words::get(image, 1) as usize,
-        variables: words::get(image, 2) as usize,
-        capacity: words::get(image, 3) as usize,
-        entries: words::get(image, 4) as usize,
-        nodes: words::get(image, 5) as usize,
+        kind: words::get(image, fields::KIND) as usize,
+        variables: words::get(image, fields::VARIABLES) as usize,
+        capacity: words::get(image, fields::CAPACITY) as usize,
+        entries: words::get(image, fields::LENGTH) as usize,
+        nodes: words::get(image, fields::NODES) as usize,
     };
-    if !words::runs::is_blank(image, 6, 10) {
+    if !words::runs::is_blank(image, fields::KEPT, fields::HEADER - fields::KEPT) {
         return Head::Bad;
     }
     if !in_range(s) {

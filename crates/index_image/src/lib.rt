@@ -1,5 +1,6 @@
 // The image of an index: where its tables are, and the door's question whether it is sound. docs/LAYOUT.md has the tables.
 pub mod entries;
+pub mod fields;
 pub mod head;
 pub mod marks;
 pub mod walk;
@@ -23,7 +24,7 @@ impl Shape {
         requires { ⌜ at.InRange self ⌝ }
         ensures { λ r. ⌜ r ≡ at.entryWidth self ⌝ }
     {
-        (self.kind + 1) * (self.variables + 2) + 2 * self.kind
+        (self.kind + 1) * (self.variables + fields::MASKED) + 2 * self.kind
     }
 
     // Entry i.
@@ -32,7 +33,7 @@ impl Shape {
         requires { ⌜ i ≤ self .capacity ⌝ }
         ensures { λ r. ⌜ r ≡ at.entryAt self i ⌝ }
     {
-        16 + 2 * self.variables + i * self.entry_width()
+        fields::HEADER + 2 * self.variables + i * self.entry_width()
     }
 
     // The permutation: the places of the entries, in the order of the leaves.
@@ -54,7 +55,10 @@ impl Shape {
         requires { ⌜ at.InRange self ⌝ }
         ensures { λ r. ⌜ r ≡ at.labelsSize self ⌝ }
     {
-        self.kind * (4 + self.capacity * (self.variables + 3) + self.capacity)
+        self.kind
+            * (fields::LABELS
+                + self.capacity * (self.variables + fields::LABEL_ROW)
+                + self.capacity)
     }
 
     // Node k, in preorder.
@@ -63,7 +67,7 @@ impl Shape {
         requires { ⌜ k ≤ 8191 ⌝ }
         ensures { λ r. ⌜ r ≡ at.nodeAt self k ⌝ }
     {
-        self.labels_at() + self.labels_size() + k * (self.variables + 6)
+        self.labels_at() + self.labels_size() + k * (self.variables + fields::NODE)
     }
 
     // The length of the image in words.

@@ -24,7 +24,7 @@ pub fn in_range(image: &[u8], at: usize, n: usize) -> bool
 
 // Marks the places that n words name, w words apart.
 fn mark(image: &[u8], at: usize, w: usize, n: usize, seen: &mut [u8])
-    requires { ⌜ (n ≤ 4096) × ((w ≤ 134) × (at ≤ 2097152)) ⌝ }
+    requires { ⌜ (n ≤ 4096) × ((w ≤ 136) × (at ≤ 2097152)) ⌝ }
     requires { ⌜ ((i : ℕ) → i < n → 4 * (at + i * w) + 4 ≤ length (now image)) ⌝ }
     requires { ⌜ ((i : ℕ) → i < n → nameAt (words (now image)) at w i < length (now seen)) ⌝ }
     requires { ⌜ ((j : ℕ) → getD (now seen) j 0 ≡ 0) ⌝ }
@@ -55,7 +55,7 @@ fn all_marked(seen: &[u8], n: usize) -> bool
 
 // Whether n words, w words apart, name every place below `places`.
 pub fn all_named(image: &[u8], at: usize, w: usize, n: usize, places: usize) -> bool
-    requires { ⌜ (n ≤ 4096) × ((w ≤ 134) × ((at ≤ 2097152) × (places ≤ 4096))) ⌝ }
+    requires { ⌜ (n ≤ 4096) × ((w ≤ 136) × ((at ≤ 2097152) × (places ≤ 4096))) ⌝ }
     requires { ⌜ ((i : ℕ) → i < n → 4 * (at + i * w) + 4 ≤ length (now image)) ⌝ }
     requires { ⌜ ((i : ℕ) → i < n → nameAt (words (now image)) at w i < 4096) ⌝ }
     ensures { λ r. ⌜ (r ≡ true) ↔ ((j : ℕ) → j < places → Named (words (now (image .entry))) at w n j) ⌝ }

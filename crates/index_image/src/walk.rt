@@ -1,6 +1,7 @@
 // The walk over the node rows: whether one tree stands there, in preorder, with its entries in the permutation.
 // Upper bounds of powers go down in `hi`, one word a variable, and the range of labels in two numbers; so each word is read a few times only.
 use crate::Shape;
+use crate::fields;
 ghost use mathlib.Core.Path.{_≡_};
 ghost use mathlib.Core.Bool.{true};
 ghost use mathlib.Core.Logic.{_↔_};
@@ -11,6 +12,7 @@ ghost use Rattle.words.specs.Tables.{part};
 ghost use Rattle.monomial.specs.Monomial.{Canonical, front, pow};
 ghost use Rattle.monomial.specs.Operations.{result};
 ghost use Rattle.monomial.specs.declared.ordered_ops.Op.the-variants.{Gcd};
+ghost use Rattle.index_image.specs.Layout.{gcdOf};
 ghost use Rattle.index_image.specs.Shape as shape;
 ghost use Rattle.index_image.specs.Walk.{Ready, Bounded, Walked};
 ghost use Rattle.index_image.specs.Walk as entry;
@@ -26,7 +28,7 @@ pub struct Limits {
 }
 
 // The part of the image that is the canonical monomial at word g, which is known to stand there.
-fn monomial_in(image: &[u8], s: Shape, g: usize) -> &[u8]
+pub fn monomial_in(image: &[u8], s: Shape, g: usize) -> &[u8]
     requires { ⌜ (front 1 (s .variables) 0 (drop g (words (now image))) ≡ 0 → ⊥) ⌝ }
     ensures { λ r. ⌜ row.Taken (now r) (row.monomialIn (words (now (image .entry))) (s .variables) g) ⌝ }
 {
@@ -54,15 +56,20 @@ fn powers_below(lm: &[u8], variables: usize, hi: &[u8]) -> bool
     }
 }
 
-// The label of the ratio of entry e.
-fn label_in(image: &[u8], s: Shape, e: usize) -> u64
-    requires { ⌜ Ready (words (now image)) s ⌝ }
-    requires { ⌜ (s .kind ≡ 1) × (e < s .entries) ⌝ }
+// The label of the ratio of the entry at place e.
+pub fn label_in(image: &[u8], s: Shape, e: usize) -> u64
+    requires { ⌜ shape.InRange s ⌝ }
+    requires { ⌜ 4 * shape.size s ≤ length (now image) ⌝ }
+    requires { ⌜ (s .kind ≡ 1) × (e < s .capacity) ⌝ }
+    requires { ⌜ entry.rowIn (words (now image)) s e < s .capacity ⌝ }
     ensures { λ r. ⌜ r ≡ entry.label (words (now (image .entry))) s e ⌝ }
 {
     let m = s.variables;
-    let r = words::get(image, s.entry_at(e) + (2 * m + 5)) as usize;
-    words::get(image, s.labels_at() + (4 + r * (m + 3) + (m + 2))) as u64
+    let r = words::get(image, s.entry_at(e) + (2 * m + fields::ROW)) as usize;
+    words::get(
+        image,
+        s.labels_at() + (fields::LABELS + r * (m + fields::LABEL_ROW) + (m + fields::LABEL)),
+    ) as u64
 }
 
 // Whether entry e is within the bounds.
@@ -143,7 +150,7 @@ fn gcd_of(image: &[u8], s: Shape, lo: usize, c: usize, acc: &mut [u8]) -> usize
     requires { ⌜ Ready (words (now image)) s ⌝ }
     requires { ⌜ lo + c ≤ s .entries ⌝ }
     requires { ⌜ length (now acc) ≡ 260 ⌝ }
-    ensures { λ r. ⌜ (r ≤ 65) × (part (words (now (acc .exit))) 0 r ≡ row.gcdOf (words (now (image .entry))) s (row.entriesFrom (words (now (image .entry))) s lo c)) ⌝ }
+    ensures { λ r. ⌜ (r ≤ 65) × (part (words (now (acc .exit))) 0 r ≡ gcdOf (entry.power (words (now (image .entry))) s) (row.entriesFrom (words (now (image .entry))) s lo c)) ⌝ }
 {
     if c == 0 {
         words::put(acc, 0, 0);
@@ -166,31 +173,31 @@ fn gcd_of(image: &[u8], s: Shape, lo: usize, c: usize, acc: &mut [u8]) -> usize
 // Whether the row at word `at` has this gcd and its mask.
 fn node_ok(image: &[u8], s: Shape, at: usize, gcd: &[u8]) -> bool
     requires { ⌜ Ready (words (now image)) s ⌝ }
-    requires { ⌜ 4 * (at + (s .variables + 6)) ≤ length (now image) ⌝ }
+    requires { ⌜ 4 * (at + shape.nodeWidth (s .variables)) ≤ length (now image) ⌝ }
     requires { ⌜ Canonical 1 (s .variables) (words (now gcd)) ⌝ }
     ensures { λ r. ⌜ (r ≡ true) ↔ row.NodeOk (words (now (image .entry))) s at (words (now (gcd .entry))) ⌝ }
 {
     let m = s.variables;
-    let x = 4 * (16 + m);
+    let x = 4 * (fields::HEADER + m);
     let y = x + 4 * m;
-    if words::get(image, at + 4) != divmask::map(&image[x..y], m as u32, gcd) {
+    if words::get(image, at + fields::NODE_MASK) != divmask::map(&image[x..y], m as u32, gcd) {
         return false;
     }
     let n = gcd.len() / 4;
-    let g = 4 * (at + 5);
+    let g = 4 * (at + fields::GCD);
     let h = g + 4 * n;
     if !monomial::eq(&image[g..h], gcd) {
         return false;
     }
-    words::runs::is_blank(image, at + 5 + n, m + 1 - n)
+    words::runs::is_blank(image, at + fields::GCD + n, m + fields::SLOT - n)
 }
 
 // Whether the row at word `at` has the gcd of the c entries from place lo on, and its mask.
 fn leaf_gcd_ok(image: &[u8], s: Shape, at: usize, lo: usize, c: usize) -> bool
     requires { ⌜ Ready (words (now image)) s ⌝ }
-    requires { ⌜ 4 * (at + (s .variables + 6)) ≤ length (now image) ⌝ }
+    requires { ⌜ 4 * (at + shape.nodeWidth (s .variables)) ≤ length (now image) ⌝ }
     requires { ⌜ lo + c ≤ s .entries ⌝ }
-    ensures { λ r. ⌜ (r ≡ true) ↔ row.NodeOk (words (now (image .entry))) s at (row.gcdOf (words (now (image .entry))) s (row.entriesFrom (words (now (image .entry))) s lo c)) ⌝ }
+    ensures { λ r. ⌜ (r ≡ true) ↔ row.NodeOk (words (now (image .entry))) s at (gcdOf (entry.power (words (now (image .entry))) s) (row.entriesFrom (words (now (image .entry))) s lo c)) ⌝ }
 {
     let mut acc = [0u8; 260];
     let e = 4 * gcd_of(image, s, lo, c, &mut acc);
@@ -210,14 +217,14 @@ fn leaf_ok(
 ) -> bool
     requires { ⌜ Ready (words (now image)) s ⌝ }
     requires { ⌜ row.Uppers (s .variables) (now hi) ⌝ }
-    requires { ⌜ 4 * (at + (s .variables + 6)) ≤ length (now image) ⌝ }
+    requires { ⌜ 4 * (at + shape.nodeWidth (s .variables)) ≤ length (now image) ⌝ }
     requires { ⌜ lo + c ≤ s .entries ⌝ }
     ensures { λ r. ⌜ (r ≡ true) ↔ row.LeafOk (words (now (image .entry))) s (words (now (hi .entry))) ll lh at lo c ⌝ }
 {
-    if words::get(image, at + 1) != 0 {
+    if words::get(image, at + fields::KEY) != 0 {
         return false;
     }
-    if words::get(image, at + 3) != 0 {
+    if words::get(image, at + fields::SKIP) != 0 {
         return false;
     }
     if !leaf_gcd_ok(image, s, at, lo, c) {
@@ -229,10 +236,10 @@ fn leaf_ok(
 // Whether the row at word `at` has a branch's dimension and key, and entries for two sides.
 fn key_ok(image: &[u8], s: Shape, at: usize) -> bool
     requires { ⌜ shape.InRange s ⌝ }
-    requires { ⌜ 4 * (at + 3) ≤ length (now image) ⌝ }
+    requires { ⌜ 4 * shape.skipAt at ≤ length (now image) ⌝ }
     ensures { λ r. ⌜ (r ≡ true) ↔ row.KeyIn (words (now (image .entry))) s at ⌝ }
 {
-    if words::get(image, at + 2) < 2 {
+    if words::get(image, at + fields::COUNT) < 2 {
         return false;
     }
     let tag = words::get(image, at) as usize;
@@ -242,7 +249,7 @@ fn key_ok(image: &[u8], s: Shape, at: usize) -> bool
     if s.variables + s.kind < tag {
         return false;
     }
-    let key = words::get(image, at + 1) as usize;
+    let key = words::get(image, at + fields::KEY) as usize;
     if tag == s.kind {
         return key < s.entries;
     }
@@ -265,12 +272,12 @@ fn greater(x: u64, y: u64) -> u64
 fn sides(image: &[u8], s: Shape, hi: &[u8], ll: u64, lh: u64, at: usize) -> Limits
     requires { ⌜ Ready (words (now image)) s ⌝ }
     requires { ⌜ row.Uppers (s .variables) (now hi) ⌝ }
-    requires { ⌜ 4 * (at + 3) ≤ length (now image) ⌝ }
+    requires { ⌜ 4 * shape.skipAt at ≤ length (now image) ⌝ }
     requires { ⌜ row.KeyIn (words (now image)) s at ⌝ }
     ensures { λ r. ⌜ row.Cut (words (now (image .entry))) s (words (now (hi .entry))) ll lh at r ⌝ }
 {
     let tag = words::get(image, at) as usize;
-    let key = words::get(image, at + 1);
+    let key = words::get(image, at + fields::KEY);
     if tag == s.kind {
         let l = label_in(image, s, key as usize);
         return Limits {
@@ -293,16 +300,16 @@ fn sides(image: &[u8], s: Shape, hi: &[u8], ll: u64, lh: u64, at: usize) -> Limi
 // Whether the row at word `at` has the gcd of those at words a and b, and its mask.
 fn branch_gcd_ok(image: &[u8], s: Shape, at: usize, a: usize, b: usize) -> bool
     requires { ⌜ Ready (words (now image)) s ⌝ }
-    requires { ⌜ 4 * (at + (s .variables + 6)) ≤ length (now image) ⌝ }
+    requires { ⌜ 4 * (at + shape.nodeWidth (s .variables)) ≤ length (now image) ⌝ }
     requires { ⌜ row.Slots (words (now image)) (s .variables) a b ⌝ }
-    requires { ⌜ (4 * (a + 6) ≤ length (now image)) × (4 * (b + 6) ≤ length (now image)) ⌝ }
-    ensures { λ r. ⌜ (r ≡ true) ↔ row.NodeOk (words (now (image .entry))) s at (result Gcd (row.monomialIn (words (now (image .entry))) (s .variables) (a + 5)) (row.monomialIn (words (now (image .entry))) (s .variables) (b + 5))) ⌝ }
+    requires { ⌜ (4 * shape.gcdAt a + 4 ≤ length (now image)) × (4 * shape.gcdAt b + 4 ≤ length (now image)) ⌝ }
+    ensures { λ r. ⌜ (r ≡ true) ↔ row.NodeOk (words (now (image .entry))) s at (result Gcd (row.monomialIn (words (now (image .entry))) (s .variables) (shape.gcdAt a)) (row.monomialIn (words (now (image .entry))) (s .variables) (shape.gcdAt b))) ⌝ }
 {
     let mut made = [0u8; 260];
     let e = 4
         * monomial::gcd(
-            monomial_in(image, s, a + 5),
-            monomial_in(image, s, b + 5),
+            monomial_in(image, s, a + fields::GCD),
+            monomial_in(image, s, b + fields::GCD),
             &mut made,
         );
     node_ok(image, s, at, &made[..e])
@@ -311,10 +318,10 @@ fn branch_gcd_ok(image: &[u8], s: Shape, at: usize, a: usize, b: usize) -> bool
 // Whether no power on the other side, whose row is at word b, is below the key of a variable.
 fn other_ok(image: &[u8], s: Shape, at: usize, b: usize) -> bool
     requires { ⌜ shape.InRange s ⌝ }
-    requires { ⌜ 4 * (at + 3) ≤ length (now image) ⌝ }
+    requires { ⌜ 4 * shape.skipAt at ≤ length (now image) ⌝ }
     requires { ⌜ row.KeyIn (words (now image)) s at ⌝ }
     requires { ⌜ row.Slots (words (now image)) (s .variables) b b ⌝ }
-    requires { ⌜ 4 * (b + 6) ≤ length (now image) ⌝ }
+    requires { ⌜ 4 * shape.gcdAt b + 4 ≤ length (now image) ⌝ }
     ensures { λ r. ⌜ (r ≡ true) ↔ row.OtherOk (words (now (image .entry))) s at b ⌝ }
 {
     let tag = words::get(image, at) as usize;
@@ -322,31 +329,31 @@ fn other_ok(image: &[u8], s: Shape, at: usize, b: usize) -> bool
         return true;
     }
     let v = tag - 1 - s.kind;
-    let p = monomial::power_of(monomial_in(image, s, b + 5), 1, v as u32);
-    words::get(image, at + 1) <= p
+    let p = monomial::power_of(monomial_in(image, s, b + fields::GCD), 1, v as u32);
+    words::get(image, at + fields::KEY) <= p
 }
 
 // Whether the row at word `at` is that of a branch over those at words a and b, the first of t rows.
 fn branch_ok(image: &[u8], s: Shape, at: usize, a: usize, b: usize, t: usize) -> bool
     requires { ⌜ Ready (words (now image)) s ⌝ }
-    requires { ⌜ 4 * (at + (s .variables + 6)) ≤ length (now image) ⌝ }
-    requires { ⌜ (4 * (a + 6) ≤ length (now image)) × (4 * (b + 6) ≤ length (now image)) ⌝ }
+    requires { ⌜ 4 * (at + shape.nodeWidth (s .variables)) ≤ length (now image) ⌝ }
+    requires { ⌜ (4 * shape.gcdAt a + 4 ≤ length (now image)) × (4 * shape.gcdAt b + 4 ≤ length (now image)) ⌝ }
     requires { ⌜ row.KeyIn (words (now image)) s at ⌝ }
     requires { ⌜ row.Slots (words (now image)) (s .variables) a b ⌝ }
     ensures { λ r. ⌜ (r ≡ true) ↔ row.BranchOk (words (now (image .entry))) s at a b t ⌝ }
 {
-    let x = words::get(image, a + 2) as u64;
+    let x = words::get(image, a + fields::COUNT) as u64;
     if x == 0 {
         return false;
     }
-    let y = words::get(image, b + 2) as u64;
+    let y = words::get(image, b + fields::COUNT) as u64;
     if y == 0 {
         return false;
     }
-    if words::get(image, at + 2) as u64 != x + y {
+    if words::get(image, at + fields::COUNT) as u64 != x + y {
         return false;
     }
-    if words::get(image, at + 3) as usize != t {
+    if words::get(image, at + fields::SKIP) as usize != t {
         return false;
     }
     if !other_ok(image, s, at, b) {
@@ -359,18 +366,18 @@ fn branch_ok(image: &[u8], s: Shape, at: usize, a: usize, b: usize, t: usize) ->
 fn count_at(image: &[u8], s: Shape, k: usize) -> usize
     requires { ⌜ Ready (words (now image)) s ⌝ }
     requires { ⌜ k < s .nodes ⌝ }
-    ensures { λ r. ⌜ r ≡ getD (words (now (image .entry))) (shape.nodeAt s k + 2) 0 ⌝ }
+    ensures { λ r. ⌜ r ≡ getD (words (now (image .entry))) (shape.countAt (shape.nodeAt s k)) 0 ⌝ }
 {
-    words::get(image, s.node_at(k) + 2) as usize
+    words::get(image, s.node_at(k) + fields::COUNT) as usize
 }
 
 // The number of entries of the row behind row k, which is found from row k's own word `at`.
 fn count_behind(image: &[u8], s: Shape, k: usize, at: usize) -> usize
     requires { ⌜ Ready (words (now image)) s ⌝ }
     requires { ⌜ (k + 1 < s .nodes) × (at ≡ shape.nodeAt s k) ⌝ }
-    ensures { λ r. ⌜ r ≡ getD (words (now (image .entry))) (shape.nodeAt s (k + 1) + 2) 0 ⌝ }
+    ensures { λ r. ⌜ r ≡ getD (words (now (image .entry))) (shape.countAt (shape.nodeAt s (k + 1))) 0 ⌝ }
 {
-    words::get(image, at + (s.variables + 8)) as usize
+    words::get(image, at + (s.variables + (fields::NODE + fields::COUNT))) as usize
 }
 
 // Whether row k is that of a branch over the rows k + 1 and k + 1 + t.
@@ -425,7 +432,7 @@ pub fn walk(
         return 0;
     }
     let at = s.node_at(k);
-    let c = words::get(image, at + 2) as usize;
+    let c = words::get(image, at + fields::COUNT) as usize;
     if avail < c {
         return 0;
     }
@@ -473,7 +480,7 @@ pub fn one_row(image: &[u8], s: Shape, hi: &[u8]) -> usize
     if words::get(image, at) != 0 {
         return 0;
     }
-    let c = words::get(image, at + 2) as usize;
+    let c = words::get(image, at + fields::COUNT) as usize;
     if s.entries < c {
         return 0;
     }

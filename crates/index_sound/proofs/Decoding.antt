@@ -1,7 +1,7 @@
 -- What passes the checks is the image of a valid state. Assumes nothing.
 use mathlib.Core.Path.{_≡_, refl, sym, ap, _∙_}
 use mathlib.Core.List.{List, []}
-use Prim.Native.Nat.{ℕ, _+_, _*_, _≤_, _<_}
+use Prim.Native.Nat.{ℕ, _+_, _-_, _*_, _≤_, _<_}
 use native.Mathlib.Omega.{arith}
 use native.Mathlib.Nat.{zero-mul}
 use lib.ListN.{length, getD}
@@ -11,13 +11,13 @@ use Rattle.words.proofs.Lists.{listed, length-listed, getD-listed}
 use Rattle.words.proofs.Laws.{length-words}
 use Rattle.words.proofs.Tables.{part-get, part-nil, table-iff, row-fits, split-rows}
 use Rattle.fast_compare.specs.Map as map
+use Rattle.fast_compare.specs.Layout as labels
 use Rattle.kd_theory.specs.Bag.{_∈_, Same}
 use Rattle.kd_theory.specs.Tree.{Tree, inorder, nodes, count, Ordered}
 use Rattle.index_theory.specs.Entries.{Entry, entryAt, one, ratioOf}
 use Rattle.index_theory.specs.State.{Kind, monomials, ratioed, State, Valid, GoodEntry, OfKind, LabelsOf, upTo, powerIn, labelOf, keysOf}
 use Rattle.index_theory.proofs.Orders.{labels-agree}
-use Rattle.index_image.specs.Layout as layout
-use Rattle.index_image.specs.Layout.{code, header, entryWords, labelWords, Sound}
+use Rattle.index_image.specs.Layout.{code, shapeOf, header, entryWords, labelWords, Sound}
 use Rattle.index_image.specs.Shape as at
 use Rattle.index_image.specs.Head.{HeadOk}
 use Rattle.index_image.specs.Walk.{lmIn, rowIn, mapMaxima, power, label}
@@ -25,12 +25,13 @@ use Rattle.index_image.specs.declared.Shape.{Shape}
 use Rattle.index_image.proofs.Encoding.{Pieces, entry-length, of-pieces}
 use Rattle.index_image.proofs.Lengths.{valid-fits}
 use Rattle.index_sound.specs.Checks.{LabelsOk, TablesOk}
-use Rattle.index_sound.proofs.Once.{get-in, places-once, once-below}
-use Rattle.index_sound.proofs.Keys.{tree-words-ext, by-keys}
-use Rattle.index_sound.proofs.EntryWords.{readEntry, EntryIs, no-ratio, of-entry}
-use Rattle.index_sound.proofs.Labels.{MapIs, map-of, rows-count, row-at, label-at}
-use Rattle.index_sound.proofs.Rows.{row-of, label-of}
-use Rattle.index_image.proofs.Shapes as shapes
+use Rattle.index_image.proofs.Once.{get-in, places-once, once-below}
+use Rattle.index_image.proofs.Keys.{tree-words-ext, by-keys}
+use Rattle.index_image.proofs.EntryWords.{readEntry, EntryIs, no-ratio, of-entry}
+use Rattle.index_image.proofs.Labels.{MapIs, map-of, rows-count, row-at, label-at}
+use Rattle.index_image.proofs.Rows.{row-of, label-of}
+use Rattle.index_image.proofs.Images.{labels-of-ratios}
+use Rattle.index_image.proofs.Shapes.{kind-of}
 use Rattle.words.proofs.Joined.{moved, moved-zeros}
 use Rattle.index_image.proofs.Heads.{words-of-head}
 
@@ -60,14 +61,11 @@ empty-valid s R = record {
 labels-are : (bs : List ℕ) (s : Shape) → at.InRange s → 4 * at.size s ≤ length bs → (k : Kind) → s .kind ≡ code k → LabelsOk bs s → (l : map.State) × LabelsAre (words bs) s k l
 unfolding labelWords
 labels-are bs s R room monomials e ok =
-    let z : at.labelsSize s ≡ 0 = rw e (zero-mul (4 + s .capacity * (s .variables + 3) + s .capacity)) in
+    let z : at.labelsSize s ≡ 0 = rw e (zero-mul (labels.size (s .variables) (s .capacity))) in
     (map.empty (s .variables) (s .capacity), record { valid = empty-valid s R; vars = refl; cap = refl; are = ap (part (words bs) (at.labelsAt s)) z ∙ part-nil (words bs) (at.labelsAt s); none = λ _. refl })
 labels-are bs s R room ratioed e ok =
     let q = map-of bs s R room e (ok e) in
     (ok e .state, record { valid = q .valid; vars = q .vars; cap = q .cap; are = q .is; none = λ z. no-ratio (sym z) })
-
-pub labels-of-ratios : (k : Kind) (es : List Entry) (l : map.State) → LabelsOf k es l → k ≡ ratioed → LabelsOf ratioed es l
-labels-of-ratios k es l h e = rw e at h
 
 module _ (bs : List ℕ) (s : Shape) (R : at.InRange s) (room : 4 * at.size s ≤ length bs) (T : TablesOk bs s) where
   abbrev W : List ℕ
@@ -159,7 +157,7 @@ module _ (bs : List ℕ) (s : Shape) (R : at.InRange s) (room : 4 * at.size s �
     λ j h.
         let o = T .named e j (rw (rows-count bs s R room e l (map-is l L)) h) in
         let r = ratio-row e l L (o .i) (o .below) in
-        let p : at.entryAt s 0 + (2 * m + 5) + o .i * at.entryWidth s ≡ at.entryAt s (o .i) + (2 * m + 5) = omega (arith, zero-mul (at.entryWidth s)) in
+        let p : at.rowAt s 0 + o .i * at.entryWidth s ≡ at.rowAt s (o .i) = omega (arith, zero-mul (at.entryWidth s)) in
         let q : rowIn W s (o .i) ≡ j = ap (λ (x : ℕ). getD W x 0) (sym p) ∙ o .is in
         (o .i, rw (count-is ratioed) (o .below), ap (map.value (l .rows)) (sym q) ∙ r .has ∙ rw (at-is ratioed (o .i) (o .below))),
   )
@@ -171,7 +169,7 @@ module _ (bs : List ℕ) (s : Shape) (R : at.InRange s) (room : 4 * at.size s �
   leaves-are : part W (at.permutationAt s) n ≡ inorder t
   leaves-are =
       let e : at.permutationAt s + 0 ≡ at.permutationAt s = omega arith in
-      ap (part W (at.permutationAt s)) (sym (T .nodes-ok .all)) ∙ ap (λ (x : ℕ). part W x (count t)) (sym e) ∙ T .nodes-ok .is .perm
+      ap (part W (at.permutationAt s)) (sym (T .nodes-ok .all)) ∙ ap (λ (x : ℕ). part W x (count t)) (sym e) ∙ T .nodes-ok .is .stands .perm
 
   once : Same (upTo n) (inorder t)
   once = places-once (inorder t) n (T .nodes-ok .all) small all
@@ -207,7 +205,7 @@ module _ (bs : List ℕ) (s : Shape) (R : at.InRange s) (room : 4 * at.size s �
       kind = k;
       variables = m;
       capacity = s .capacity;
-      maxima = part W 16 m;
+      maxima = part W at.maximaAt m;
       mapMaxima = mapMaxima W s;
       entries = entries k;
       tree = t;
@@ -237,29 +235,30 @@ module _ (bs : List ℕ) (s : Shape) (R : at.InRange s) (room : 4 * at.size s �
       labels-of = labels-of k ek l L;
     }
 
-    abbrev S : shapes.Same s k ek
-    S = shapes.same s k ek
-
     abbrev c : ℕ
     c = s .capacity
 
     abbrev w : ℕ
-    w = layout.entryWidth k m
+    w = at.entryWidth s
+
+    -- the header's numbers are those of the state
+    same : shapeOf decoded ≡ s
+    same = λ i. record { kind = sym ek i; variables = m; capacity = c; entries = count-is k i; nodes = T .nodes-ok .rows i }
 
     -- the entries stand as a table
-    entries-are : part W (layout.entriesAt m) (length (entries k) * w) ≡ table (length (entries k)) (λ i. entryWords k m (mapMaxima W s) l (entryAt (entries k) i))
-    entries-are = rw (count-is k) (table-iff W (layout.entriesAt m) n w _ fits lengths .1 each)
+    entries-are : part W (at.entriesAt m) (length (entries k) * w) ≡ table (length (entries k)) (λ i. entryWords k m (mapMaxima W s) l (entryAt (entries k) i))
+    entries-are = rw (count-is k) (table-iff W (at.entriesAt m) n w _ fits lengths .1 each)
       where
-        fits : layout.entriesAt m + n * w ≤ length W
-        fits = omega (arith, long, split-rows n c w (R .few), S .entry c)
+        fits : at.entriesAt m + n * w ≤ length W
+        fits = omega (arith, long, split-rows n c w (R .few))
 
         lengths : (i : ℕ) → i < n → length (entryWords k m (mapMaxima W s) l (entryAt (entries k) i)) ≡ w
-        lengths i h = entry-length k m (mapMaxima W s) l (entryAt (entries k) i) (R .vars-to) (rw (at-is k i h) (entry-words i h .1))
+        lengths i h = entry-length k m (mapMaxima W s) l (entryAt (entries k) i) (R .vars-to) (rw (at-is k i h) (entry-words i h .1)) ∙ rw ek
 
-        each : (i : ℕ) → i < n → part W (layout.entriesAt m + i * w) w ≡ entryWords k m (mapMaxima W s) l (entryAt (entries k) i)
-        each i h = rw (at-is k i h) (moved W (entry-words i h .0) (S .entry i) (S .width))
+        each : (i : ℕ) → i < n → part W (at.entriesAt m + i * w) w ≡ entryWords k m (mapMaxima W s) l (entryAt (entries k) i)
+        each i h = rw (at-is k i h) (entry-words i h .0)
 
-    head-is : HeadOk W (length bs) s → part W 0 16 ≡ header decoded
+    head-is : HeadOk W (length bs) s → part W 0 at.headerWidth ≡ header decoded
     unfolding header
     head-is H =
         words-of-head W (omega (arith, long))
@@ -270,13 +269,13 @@ module _ (bs : List ℕ) (s : Shape) (R : at.InRange s) (room : 4 * at.size s �
       head = head-is H;
       maxima = refl;
       map = refl;
-      entries = entries-are;
-      entries-rest = moved-zeros W (T .entries .rest) (S .entry n ∙ rw (count-is k)) (rw (count-is k, S .width));
-      permutation = moved W leaves-are (S .permutation) (sym (count-is k));
-      permutation-rest = moved-zeros W (T .permutation .rest) (rw (S .permutation, count-is k)) (rw (count-is k));
-      labels = moved W (L .are) (S .labels) (S .labels-long);
-      nodes-are = moved W (T .nodes-ok .is .rows ∙ tree-words-ext m (mapMaxima W s) (power W s) (powerIn (entries k)) t powers) (S .node 0 ∙ omega arith) refl;
-      nodes-rest = moved-zeros W (T .nodes-ok .rest) (S .node (s .nodes) ∙ rw (T .nodes-ok .rows)) (rw (T .nodes-ok .rows));
+      entries = moved W entries-are refl (ap (λ (x : ℕ). length (entries k) * at.widthOf x m) ek);
+      entries-rest = moved-zeros W (T .entries .rest) (ap (λ (x : Shape). at.entryAt x (x .entries)) (sym same)) (ap (λ (x : Shape). (x .capacity - x .entries) * at.entryWidth x) (sym same));
+      permutation = moved W leaves-are (ap at.permutationAt (sym same)) (sym (count-is k));
+      permutation-rest = moved-zeros W (T .permutation .rest) (ap (λ (x : Shape). at.permutationAt x + x .entries) (sym same)) (rw (count-is k));
+      labels = moved W (L .are) (ap at.labelsAt (sym same)) (ap at.labelsSize (sym same));
+      nodes-are = moved W (T .nodes-ok .is .stands .rows ∙ tree-words-ext m (mapMaxima W s) (power W s) (powerIn (entries k)) t powers) (let z : at.nodeAt s 0 ≡ at.nodesAt s = omega arith in z ∙ ap at.nodesAt (sym same)) refl;
+      nodes-rest = moved-zeros W (T .nodes-ok .rest) (ap (λ (x : Shape). at.nodeAt x (x .nodes)) (sym same)) (rw (T .nodes-ok .rows));
     }
       where
         powers : (v e : ℕ) → e ∈ inorder t → power W s v e ≡ powerIn (entries k) v e
@@ -287,12 +286,12 @@ pub decode : (bs : List ℕ) (s : Shape) → HeadOk (words bs) (length bs) s →
 decode bs s H T =
     let R = H .range in
     let room = H .room in
-    let K = shapes.kind-of (s .kind) (R .kind-to) in
+    let K = kind-of (s .kind) (R .kind-to) in
     let k = K .kind in
     let L = labels-are bs s R room k (K .is) (T .labels) in
     let st = decoded bs s R room T k (K .is) (L .0) (L .1) in
     let val = decoded-valid bs s R room T k (K .is) (L .0) (L .1) in
-    let z : layout.size k (s .variables) (s .capacity) ≡ at.size s = sym (shapes.same s k (K .is) .whole) in
+    let z : at.size (shapeOf st) ≡ at.size s = ap at.size (same bs s R room T k (K .is) (L .0) (L .1)) in
     record {
       state = st;
       is = record {

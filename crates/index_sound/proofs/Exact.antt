@@ -4,15 +4,15 @@ use mathlib.Core.Logic.{_↔_}
 use Prim.Native.Nat.{ℕ}
 use lib.ListN.{length}
 use Rattle.words.specs.Words.{words}
-use Rattle.index_image.specs.Layout.{Sound}
+use Rattle.index_image.specs.Layout.{shapeOf, Sound}
 use Rattle.index_image.specs.Head.{HeadOk, HeadIs}
 use Rattle.index_image.specs.declared.Shape.{Shape}
 use Rattle.index_image.specs.declared.head.Head.the-variants.{Bad}
 use Rattle.index_image.proofs.Heads.{same-shape}
 use Rattle.index_sound.specs.Checks.{TablesOk}
-use Rattle.index_image.proofs.Shapes.{shapeOf}
 use Rattle.index_sound.proofs.Decoding.{decode}
-use Rattle.index_sound.proofs.Checking.{head-ok, tables-ok}
+use Rattle.index_image.proofs.Images.{head-ok}
+use Rattle.index_sound.proofs.Checking.{tables-ok}
 
 pub tables-sound : (bs : List ℕ) (s : Shape) → HeadOk (words bs) (length bs) s → TablesOk bs s ↔ Sound bs
 tables-sound bs s h = (

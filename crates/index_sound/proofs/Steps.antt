@@ -21,7 +21,7 @@ use Rattle.kd_theory.specs.Tree.{Tree, inorder, nodes, count}
 use Rattle.index_image.specs.Shape as at
 use Rattle.index_image.specs.Layout.{Sound}
 use Rattle.index_image.specs.Head.{HeadOk, HeadIs}
-use Rattle.index_image.specs.Walk.{label, Ready, Bounded, Walked}
+use Rattle.index_image.specs.Walk.{power, label, mapMaxima, Ready, Bounded, Walked}
 use Rattle.index_image.specs.Door.{rowsIn, Tables, EntriesOk}
 use Rattle.index_image.specs.Marks.{nameAt, Named}
 use Rattle.index_image.specs.Rows.{Uppers}
@@ -29,12 +29,12 @@ use Rattle.index_image.specs.declared.Shape.{Shape}
 use Rattle.index_image.specs.declared.head.Head.{Head}
 use Rattle.index_image.specs.declared.head.Head.the-variants.{Image}
 use Rattle.index_image.proofs.Bounds.{width-small, size-small, nodes-small, ratio-width, entry-inside}
-use Rattle.index_image.proofs.Gcds.{power-small}
+use Rattle.index_image.proofs.Gcds.{power-small, image-powers}
 use Rattle.index_image.proofs.Places.{node-fits}
 use Rattle.index_image.proofs.Slots.{range-words}
 use Rattle.index_image.proofs.Trees.{tree-head}
 use Rattle.index_sound.specs.Checks.{MaximaOk, LabelsOk, RowsNamed, PermutationOk, NodesOk, Root, Rooted, Judged}
-use Rattle.index_sound.proofs.Labels.{map-of, rows-count, row-at}
+use Rattle.index_image.proofs.Labels.{map-of, rows-count, row-at}
 
 -- what is asked of a ratio index holds in a monomial index
 pub monomial-holds : {P : Type 0} (s : Shape) → s .kind ≡ 0 → (true ≡ true) ↔ (s .kind ≡ 1 → P)
@@ -63,7 +63,7 @@ labels-is bs s a n r k ea en e =
 -- n words, w words apart from word `at` on, can be marked: their numbers are small, they are there, and they name places
 abbrev pub CanMark : List ℕ → ℕ → ℕ → ℕ → ℕ → Type 0
 CanMark bs at w n places =
-    ((n ≤ 4096) × ((w ≤ 134) × ((at ≤ 2097152) × (places ≤ 4096))))
+    ((n ≤ 4096) × ((w ≤ 136) × ((at ≤ 2097152) × (places ≤ 4096))))
     × (((i : ℕ) → i < n → 4 * (at + i * w) + 4 ≤ length bs) × ((i : ℕ) → i < n → nameAt (words bs) at w i < 4096))
 
 -- ---- what is known once some tables have passed
@@ -101,20 +101,20 @@ module _ (bs : List ℕ) (s : Shape) (R : at.InRange s) (room : 4 * at.size s �
   )
 
   pub rows-can : s .kind ≡ 1 → Tables (words bs) s → EntriesOk (words bs) s
-      → (e w rows : ℕ) → e ≡ at.entryAt s 0 → w ≡ at.entryWidth s → rows ≡ rowsIn (words bs) s → CanMark bs (e + (2 * s .variables + 5)) w (s .entries) rows
+      → (e w rows : ℕ) → e ≡ at.entryAt s 0 → w ≡ at.entryWidth s → rows ≡ rowsIn (words bs) s → CanMark bs (e + (2 * s .variables + 7)) w (s .entries) rows
   rows-can k t es e w rows ee ew er = (
     (omega (arith, R .few, R .cap-to), (omega (arith, width-small s R), (omega (arith, R .vars-to), omega (arith, t .few k, R .cap-to)))),
     (
       λ i h. rw (ee, ew) (omega (arith, entry-inside s R i (omega (arith, R .few)), ratio-width s R k)),
       λ i h.
-          let ei : at.entryAt s 0 + (2 * s .variables + 5) + i * at.entryWidth s ≡ at.entryAt s i + (2 * s .variables + 5) = omega arith in
+          let ei : at.rowAt s 0 + i * at.entryWidth s ≡ at.rowAt s i = omega arith in
           rw (ee, ew, ei) (omega (arith, es .each i h .ratio k .row, t .few k, R .cap-to)),
     ),
   )
 
 -- each row of the label map is named
 pub rows-is : (W : List ℕ) (s : Shape) (e w rows : ℕ) (r : Bool) → s .kind ≡ 1 → e ≡ at.entryAt s 0 → w ≡ at.entryWidth s → rows ≡ rowsIn W s
-    → (r ≡ true) ↔ ((j : ℕ) → j < rows → Named W (e + (2 * s .variables + 5)) w (s .entries) j) → (r ≡ true) ↔ RowsNamed W s
+    → (r ≡ true) ↔ ((j : ℕ) → j < rows → Named W (e + (2 * s .variables + 7)) w (s .entries) j) → (r ≡ true) ↔ RowsNamed W s
 rows-is W s e w rows r k ee ew er h = last r (rw (ee, ew, er) at h) (λ x q. x) (λ f. f k)
 
 -- ---- the bounds at the root are above everything
@@ -153,19 +153,21 @@ module _ (bs : List ℕ) (s : Shape) (by : Bytes bs) (H : List ℕ) (high : (v :
 -- ---- the tree of the nodes
 module _ (W : List ℕ) (s : Shape) (R : Ready W s) where
   -- the count of the first row is that of the tree there
-  root-count : (t : Tree) → Root W s t → getD W (at.nodeAt s 0 + 2) 0 ≡ count t
-  root-count t o = tree-head W s R 0 0 t (o .is) (omega (arith, o .inside)) (omega (arith, o .few)) .count
+  root-count : (t : Tree) → Root W s t → getD W (at.countAt (at.nodeAt s 0)) 0 ≡ count t
+  root-count t o =
+      tree-head W s (R .range) (R .room) (mapMaxima W s) (power W s) (image-powers W s (R .range .vars-to)) 0 0 t (o .is .stands)
+      (omega (arith, o .inside, R .range .nodes-to)) (omega (arith, o .few, R .range .few)) .count
 
   root-of : (n : NodesOk W s) → Root W s (n .tree)
   root-of n = record { is = n .is; inside = omega (arith, n .rows); few = omega (arith, n .all) }
 
   -- a count that is not the number of entries
-  pub no-tree : (g : ℕ) → g ≡ getD W (at.nodeAt s 0 + 2) 0 → (g ≡ s .entries → ⊥) → (false ≡ true) ↔ NodesOk W s
+  pub no-tree : (g : ℕ) → g ≡ getD W (at.countAt (at.nodeAt s 0)) 0 → (g ≡ s .entries → ⊥) → (false ≡ true) ↔ NodesOk W s
   no-tree g e h = refuse (λ n. h (e ∙ root-count (n .tree) (root-of n) ∙ n .all))
 
   -- the count is, and what is behind the rows is 0: the number of rows decides
-  pub tree-is : (r g : ℕ) → Rooted W s r → g ≡ getD W (at.nodeAt s 0 + 2) 0 → g ≡ s .entries
-      → part W (at.nodeAt s (s .nodes)) ((2 * s .capacity - 1 - s .nodes) * (s .variables + 6)) ≡ zeros ((2 * s .capacity - 1 - s .nodes) * (s .variables + 6))
+  pub tree-is : (r g : ℕ) → Rooted W s r → g ≡ getD W (at.countAt (at.nodeAt s 0)) 0 → g ≡ s .entries
+      → part W (at.nodeAt s (s .nodes)) ((2 * s .capacity - 1 - s .nodes) * at.nodeWidth (s .variables)) ≡ zeros ((2 * s .capacity - 1 - s .nodes) * at.nodeWidth (s .variables))
       → (eqb r (s .nodes) ≡ true) ↔ NodesOk W s
   tree-is r g o e all rest = test r (s .nodes) to (λ n. o .only (n .tree) (root-of n) ∙ n .rows)
     where
@@ -182,14 +184,14 @@ module _ (W : List ℕ) (s : Shape) (R : Ready W s) where
 
 -- the first row of the nodes and the unused ones lie within the image
 pub record NodesRest (s : Shape) (len : ℕ) : Type 0 where
-  pub fits : (2 * s .capacity - 1 - s .nodes) * (s .variables + 6) ≤ 573370
-  pub room : 4 * (at.nodeAt s (s .nodes) + (2 * s .capacity - 1 - s .nodes) * (s .variables + 6)) ≤ len
-  pub small : at.size s ≤ 1405008
-  pub first : 4 * (at.nodeAt s 0 + 2) + 4 ≤ len
+  pub fits : (2 * s .capacity - 1 - s .nodes) * at.nodeWidth (s .variables) ≤ 573370
+  pub room : 4 * (at.nodeAt s (s .nodes) + (2 * s .capacity - 1 - s .nodes) * at.nodeWidth (s .variables)) ≤ len
+  pub small : at.size s ≤ 1413206
+  pub first : 4 * at.countAt (at.nodeAt s 0) + 4 ≤ len
 
 pub nodes-rest : (bs : List ℕ) (s : Shape) → Ready (words bs) s → NodesRest s (length bs)
 nodes-rest bs s R =
-    let e = split-rows (s .nodes) (2 * s .capacity - 1) (s .variables + 6) (R .range .nodes-to) in
+    let e = split-rows (s .nodes) (2 * s .capacity - 1) (at.nodeWidth (s .variables)) (R .range .nodes-to) in
     record {
       fits = nodes-small s (R .range) (2 * s .capacity - 1 - s .nodes) (omega (arith, R .range .cap-to));
       room = omega (arith, R .room, length-words bs);

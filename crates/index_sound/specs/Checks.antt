@@ -3,7 +3,7 @@ use mathlib.Core.Path.{_≡_}
 use mathlib.Core.List.{List}
 use mathlib.Core.Logic.{_↔_, _⊎_}
 use Prim.Native.Nat.{ℕ, _+_, _-_, _*_, _≤_, _<_}
-use lib.ListN.{getD, take, drop}
+use lib.ListN.{getD}
 use Rattle.words.specs.Words.{words}
 use Rattle.words.specs.Tables.{part, zeros}
 use Rattle.divmask.specs.Tracker.{Maxima}
@@ -12,18 +12,14 @@ use Rattle.kd_theory.specs.Tree.{Tree, count, nodes}
 use Rattle.index_image.specs.Layout.{Sound}
 use Rattle.index_image.specs.Shape as at
 use Rattle.index_image.specs.Walk.{mapMaxima, TreeAt}
-use Rattle.index_image.specs.Door.{rowsIn, EntriesOk}
+use Rattle.index_image.specs.Door.{labelBytes, rowsIn, EntriesOk}
 use Rattle.index_image.specs.Marks.{Named}
 use Rattle.index_image.specs.declared.Shape.{Shape}
 
 -- the present maxima, and those that the masks were made from
 pub record MaximaOk (W : List ℕ) (s : Shape) : Type 0 where
-  pub present : Maxima (s .variables) (part W 16 (s .variables))
+  pub present : Maxima (s .variables) (part W at.maximaAt (s .variables))
   pub map : Maxima (s .variables) (mapMaxima W s)
-
--- the bytes of the label map
-abbrev pub labelBytes : List ℕ → Shape → List ℕ
-labelBytes bs s = take (4 * at.labelsSize s) (drop (4 * at.labelsAt s) bs)
 
 -- a ratio index has a sound label map
 abbrev pub LabelsOk : List ℕ → Shape → Type 0
@@ -31,7 +27,7 @@ LabelsOk bs s = s .kind ≡ 1 → labels.SoundFor (s .variables) (s .capacity) (
 
 -- each row of it is the ratio of an entry
 abbrev pub RowsNamed : List ℕ → Shape → Type 0
-RowsNamed W s = s .kind ≡ 1 → (j : ℕ) → j < rowsIn W s → Named W (at.entryAt s 0 + (2 * s .variables + 5)) (at.entryWidth s) (s .entries) j
+RowsNamed W s = s .kind ≡ 1 → (j : ℕ) → j < rowsIn W s → Named W (at.rowAt s 0) (at.entryWidth s) (s .entries) j
 
 -- the permutation names each entry
 pub record PermutationOk (W : List ℕ) (s : Shape) : Type 0 where
@@ -45,7 +41,7 @@ pub record NodesOk (W : List ℕ) (s : Shape) : Type 0 where
   pub is : TreeAt W s 0 0 tree
   pub rows : nodes tree ≡ s .nodes
   pub all : count tree ≡ s .entries
-  pub rest : part W (at.nodeAt s (s .nodes)) ((2 * s .capacity - 1 - s .nodes) * (s .variables + 6)) ≡ zeros ((2 * s .capacity - 1 - s .nodes) * (s .variables + 6))
+  pub rest : part W (at.nodeAt s (s .nodes)) ((2 * s .capacity - 1 - s .nodes) * at.nodeWidth (s .variables)) ≡ zeros ((2 * s .capacity - 1 - s .nodes) * at.nodeWidth (s .variables))
 
 pub record TablesOk (bs : List ℕ) (s : Shape) : Type 0 where
   pub maxima : MaximaOk (words bs) s

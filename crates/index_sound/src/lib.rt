@@ -1,6 +1,7 @@
 // The door's question 3: whether the bytes lent begin with the image of a valid index.
 // Each table is judged by the ones before it, and what follows from other words is made again and compared.
 use index_image::Shape;
+use index_image::fields;
 use index_image::head::Head;
 ghost use mathlib.Core.Path.{_≡_};
 ghost use mathlib.Core.Bool.{true};
@@ -34,10 +35,10 @@ fn maxima_ok(image: &[u8], s: Shape) -> bool
     ensures { λ r. ⌜ (r ≡ true) ↔ check.MaximaOk (words (now (image .entry))) s ⌝ }
 {
     let m = s.variables;
-    if !maxima_at(image, m, 16) {
+    if !maxima_at(image, m, fields::HEADER) {
         return false;
     }
-    maxima_at(image, m, 16 + m)
+    maxima_at(image, m, fields::HEADER + m)
 }
 
 // Whether a ratio index has a sound label map.
@@ -82,8 +83,8 @@ fn rows_named(image: &[u8], s: Shape) -> bool
     if s.kind == 0 {
         return true;
     }
-    let e = s.entry_at(0) + (2 * s.variables + 5);
-    let rows = words::get(image, s.labels_at() + 3) as usize;
+    let e = s.entry_at(0) + (2 * s.variables + fields::ROW);
+    let rows = words::get(image, s.labels_at() + fields::ROWS) as usize;
     index_image::marks::all_named(image, e, s.entry_width(), s.entries, rows)
 }
 
@@ -128,10 +129,10 @@ fn nodes_ok(image: &[u8], s: Shape) -> bool
     requires { ⌜ Ready (words (now image)) s ⌝ }
     ensures { λ r. ⌜ (r ≡ true) ↔ check.NodesOk (words (now (image .entry))) s ⌝ }
 {
-    if words::get(image, s.node_at(0) + 2) as usize != s.entries {
+    if words::get(image, s.node_at(0) + fields::COUNT) as usize != s.entries {
         return false;
     }
-    let rest = (2 * s.capacity - 1 - s.nodes) * (s.variables + 6);
+    let rest = (2 * s.capacity - 1 - s.nodes) * (s.variables + fields::NODE);
     if !words::runs::is_blank(image, s.node_at(s.nodes), rest) {
         return false;
     }

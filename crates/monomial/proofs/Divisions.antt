@@ -18,7 +18,7 @@ use Rattle.monomial.specs.declared.Power.{Power}
 use Rattle.monomial.specs.declared.Power.the-variants.{Found, Absent}
 use Rattle.monomial.proofs.Canon.{IsVar, IsEnd, Canon, canon-of, both-true, false-not-true}
 use Rattle.monomial.proofs.Powers.{pow-ids, pow-here, pow-past, pow-end}
-use Rattle.monomial.proofs.Walks.{Rest, start, Last, Next, word-at, Turn, turn, at-yes, at-no}
+use Rattle.monomial.proofs.Walks.{Rest, Last, Next, word-at, Turn, turn, at-yes, at-no}
 
 -- ---- a test of every variable
 pub all-true : (n : ℕ) (f : ℕ → Bool) → ((v : ℕ) → v < n → f v ≡ true) → allBelow n f ≡ true
@@ -72,10 +72,10 @@ pub record Dividing (A B : List ℕ) (i j : ℕ) : Type 0 where
   pub rb : Rest 1 B j b
   pub passed : (v : ℕ) → b ≤ v → pow 1 A v ≤ pow 1 B v
 
-pub begin : {m : ℕ} (A B : List ℕ) → Canonical 1 m A → Canonical 1 m B → Dividing A B 0 0
-begin A B ca cb = record { b = 4096; ra = start ca; rb = start cb; passed = λ v h. omega (arith, pow-ids 1 A v h) }
+pub begin : {A B : List ℕ} → Rest 1 A 0 4096 → Rest 1 B 0 4096 → Dividing A B 0 0
+begin {A} {B} ra rb = record { b = 4096; ra = ra; rb = rb; passed = λ v h. omega (arith, pow-ids 1 A v h) }
 
-module _ (A B : List ℕ) (i j : ℕ) (s : Dividing A B i j) (x y : ℕ) (ex : x ≡ getD A i 0) (ey : y ≡ getD B j 0) where
+module _ {A B : List ℕ} {i j : ℕ} (s : Dividing A B i j) {x : ℕ} (ex : x ≡ getD A i 0) where
   pub all-passed : x / 65536 ≡ 0 → true ≡ divides A B
   all-passed h = sym (divides-true A B (divides-by A B (go (word-at (omega arith) x (s .ra) ex))))
     where
@@ -83,6 +83,7 @@ module _ (A B : List ℕ) (i j : ℕ) (s : Dividing A B i j) (x y : ℕ) (ex : x
       go (inl z) v = elim (decLe (s .b) v) [ yes l ↦ s .passed v l | no l ↦ omega (arith, z .none v (omega arith)) ]
       go (inr z) v = absurd (omega (arith, z .upper))
 
+module _ {A B : List ℕ} {i j : ℕ} (s : Dividing A B i j) {x y : ℕ} (ex : x ≡ getD A i 0) (ey : y ≡ getD B j 0) where
   pub exceeds : (x / 65536 ≡ 0 → ⊥) → y < x → false ≡ divides A B
   exceeds h l = sym (go (word-at (omega arith) x (s .ra) ex) (word-at (omega arith) y (s .rb) ey))
     where
@@ -146,7 +147,7 @@ pub record Finding (k : ℕ) (A : List ℕ) (v i : ℕ) : Type 0 where
   pub below : v < b
   pub ra : Rest k A i b
 
-module _ (k : ℕ) (pos : 0 < k) (A : List ℕ) (ca : Canonical k 4096 A) (v i : ℕ) (s : Finding k A v i) (w : ℕ) (e : w ≡ getD A i 0) where
+module _ {k : ℕ} (pos : 0 < k) {A : List ℕ} (ca : Canonical k 4096 A) {v i : ℕ} (s : Finding k A v i) {w : ℕ} (e : w ≡ getD A i 0) where
   pub absent-here : w / 65536 < 4096 * k + v → Absent ≡ find k A v
   absent-here h = sym (absent (find-cases k 4096 0 A v pos (canon-of ca)) (zero (word-at pos w (s .ra) e)))
     where

@@ -8,3 +8,4 @@ pub mod Orders
 pub mod Divisions
 pub mod Lawful
 pub mod Laws
+pub mod Firsts

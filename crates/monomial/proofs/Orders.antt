@@ -14,7 +14,7 @@ use Rattle.monomial.specs.Walk.{powerAt, past}
 use Rattle.monomial.specs.declared.monomial_ordering.CmpOrd.{CmpOrd}
 use Rattle.monomial.specs.declared.monomial_ordering.CmpOrd.the-variants.{Less, Equal, Greater}
 use Rattle.monomial.proofs.Powers.{InRange, powers-in-range, pow-ids, canonical-unique}
-use Rattle.monomial.proofs.Walks.{Rest, start, within, Turn, turn, Top, top, done-a, done-b}
+use Rattle.monomial.proofs.Walks.{Rest, within, Turn, turn, Top, top, done-a, done-b}
 
 -- ---- comparing numbers
 pub compare-less : (x y : ℕ) → x < y → compare x y ≡ Less
@@ -124,11 +124,11 @@ pub record Comparing (k : ℕ) (A B : List ℕ) (last : CmpOrd) (s t i j : ℕ) 
   pub s-small : s + 65535 * b ≤ 268431360
   pub t-small : t + 65535 * b ≤ 268431360
 
-pub begin : {k m : ℕ} (A B : List ℕ) → Canonical k m A → Canonical k m B → Comparing k A B Equal 0 0 0 0
-begin {k} A B ca cb = record {
+pub begin : {k : ℕ} {A B : List ℕ} → Rest k A 0 4096 → Rest k B 0 4096 → Comparing k A B Equal 0 0 0 0
+begin {k} {A} {B} ra rb = record {
   b = 4096;
-  ra = start ca;
-  rb = start cb;
+  ra = ra;
+  rb = rb;
   d = 0;
   tie = sym (then-equal (revlex 4096 (pow k A) (pow k B)));
   left = omega arith;
@@ -137,8 +137,8 @@ begin {k} A B ca cb = record {
   t-small = omega arith;
 }
 
-module _ {k : ℕ} (pos : 0 < k) (two : k ≤ 2) (A B : List ℕ) (last : CmpOrd) (s t i j : ℕ) (r : Comparing k A B last s t i j)
-    (x y up : ℕ) (ex : x ≡ getD A i 0) (ey : y ≡ getD B j 0) (et : up ≡ max (x / 65536) (y / 65536)) where
+module _ {k : ℕ} (pos : 0 < k) (two : k ≤ 2) {A B : List ℕ} {last : CmpOrd} {s t i j : ℕ} (r : Comparing k A B last s t i j)
+    {x y up : ℕ} (ex : x ≡ getD A i 0) (ey : y ≡ getD B j 0) (et : up ≡ max (x / 65536) (y / 65536)) where
   pub compared : up ≡ 0 → andThen (compare s t) last ≡ order k A B
   unfolding order grevlex
   compared h =
@@ -163,9 +163,9 @@ module _ {k : ℕ} (pos : 0 < k) (two : k ≤ 2) (A B : List ℕ) (last : CmpOrd
     tb : Turn k B j (r .b) y (next .u) up
     tb = turn pos y (next .u) up (r .rb) ey (next .below) (next .is) (omega arith)
 
-    pub again : (p q : ℕ) → Canonical k 4096 A → Canonical k 4096 B → p ≡ powerAt x up (bias k) → q ≡ powerAt y up (bias k)
+    pub again : {p q : ℕ} → Canonical k 4096 A → Canonical k 4096 B → p ≡ powerAt x up (bias k) → q ≡ powerAt y up (bias k)
         → Comparing k A B (andThen (compare q p) last) (s + p) (t + q) (past i x up) (past j y up)
-    again p q ca cb ep eq =
+    again {p} {q} ca cb ep eq =
         let u = next .u in
         let hp : pow k A u ≡ p = ta .power-is ∙ sym ep in
         let hq : pow k B u ≡ q = tb .power-is ∙ sym eq in

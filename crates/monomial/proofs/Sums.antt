@@ -17,7 +17,7 @@ use Rattle.monomial.specs.Walk.{powerAt, past}
 use Rattle.monomial.specs.declared.ordered_ops.Op.{Op}
 use Rattle.monomial.specs.declared.ordered_ops.Op.the-variants.{Gcd, Product, Quotient, Ratio}
 use Rattle.monomial.proofs.Powers.{InRange, powers-in-range, vars-none, vars-some, vars-skip, vars-nil, vars-length}
-use Rattle.monomial.proofs.Walks.{Rest, start, within, Turn, turn, Top, top, done-a, done-b}
+use Rattle.monomial.proofs.Walks.{Rest, within, Turn, turn, Top, top, done-a, done-b}
 
 -- two absent variables meet in an absent one
 pub met-zero : (o : Op) → met o 0 0 ≡ bias (kindOf o)
@@ -47,18 +47,18 @@ pub record Summing (o : Op) (A B out₀ out : List ℕ) (i j n : ℕ) : Type 0 w
   pub now : out ≡ pasteW out₀ 0 done
   pub split : varsOf (kindOf o) 4096 (powers o A B) ≡ done ++ varsOf (kindOf o) b (powers o A B)
 
-pub begin : {m : ℕ} (o : Op) (A B out : List ℕ) → Canonical 1 m A → Canonical 1 m B → Summing o A B out out 0 0 0
-begin o A B out ca cb = record {
+pub begin : {A B : List ℕ} (o : Op) (out : List ℕ) → Rest 1 A 0 4096 → Rest 1 B 0 4096 → Summing o A B out out 0 0 0
+begin o out ra rb = record {
   b = 4096;
-  ra = start ca;
-  rb = start cb;
+  ra = ra;
+  rb = rb;
   done = [];
   count = refl;
   now = sym (pasteW-nil out 0);
   split = refl;
 }
 
-module _ (o : Op) (A B out₀ out : List ℕ) (i j n : ℕ) (s : Summing o A B out₀ out i j n) (room : 4 * length (result o A B) ≤ length out₀) where
+module _ {o : Op} {A B out₀ out : List ℕ} {i j n : ℕ} (s : Summing o A B out₀ out i j n) (room : 4 * length (result o A B) ≤ length out₀) where
   pub record Fits : Type 0 where
     pub ia : i < length A
     pub jb : j < length B
@@ -81,7 +81,7 @@ module _ (o : Op) (A B out₀ out : List ℕ) (i j n : ℕ) (s : Summing o A B o
         kept = ap length (s .now) ∙ length-pasteW out₀ 0 (s .done) (omega (arith, s .count));
       }
 
-  module _ (x y t : ℕ) (ex : x ≡ getD A i 0) (ey : y ≡ getD B j 0) (et : t ≡ max (x / 65536) (y / 65536)) where
+  module _ {x y t : ℕ} (ex : x ≡ getD A i 0) (ey : y ≡ getD B j 0) (et : t ≡ max (x / 65536) (y / 65536)) where
     pub finished : t ≡ 0 → (n + 1 ≡ length (result o A B)) × (putW out n n ≡ pasteW out₀ 0 (result o A B))
     unfolding result monomialOf powers
     finished h =
@@ -112,7 +112,7 @@ module _ (o : Op) (A B out₀ out : List ℕ) (i j n : ℕ) (s : Summing o A B o
           let pb : powerAt y t 0 ≤ 32767 = rw (← tb .power-is) (powers-in-range 1 4096 B (next .u) (omega arith) (omega arith) cb .high) in
           record { a-small = pa; b-small = pb; p-small = met-small o _ _ pa pb }
 
-      module _ (p : ℕ) (out′ : List ℕ) (n′ : ℕ) (ep : p ≡ met o (powerAt x t 0) (powerAt y t 0))
+      module _ {p : ℕ} {out′ : List ℕ} {n′ : ℕ} (ep : p ≡ met o (powerAt x t 0) (powerAt y t 0))
           (en : n′ ≡ cond (eqb p (bias (kindOf o))) n (n + 1)) (eo : out′ ≡ cond (eqb p (bias (kindOf o))) out (putW out n (varWord (kindOf o) (t % 4096) p))) where
         here : powers o A B (next .u) ≡ p
         unfolding powers

@@ -31,6 +31,14 @@ pub record Canonical (k m : ℕ) (ws : List ℕ) : Type 0 where
   pub some : 0 < length ws
   pub whole : front k m 0 ws ≡ length ws
 
+-- a canonical monomial or ratio in m variables stands at the front of a list, whatever follows it
+pub record Starts (k m : ℕ) (ws : List ℕ) : Type 0 where
+  pub some : front k m 0 ws ≡ 0 → ⊥
+
+-- the canonical monomial or ratio at the front of a list. An id has 12 bits.
+unfoldable pub first : ℕ → List ℕ → List ℕ
+first k ws = take (front k 4096 0 ws) ws
+
 -- the bytes lent are exactly one canonical monomial or ratio in m variables
 unfoldable pub lent : ℕ → ℕ → List ℕ → Bool
 lent k m s = ltb 0 (length s) && eqb (4 * front k m 0 (words s)) (length s)

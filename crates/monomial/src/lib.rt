@@ -9,7 +9,7 @@ ghost use mathlib.Core.Bool.{cond};
 ghost use Prim.Native.Nat.{_+_, _*_, _<_, _≤_};
 ghost use lib.ListN.{length, drop};
 ghost use Rattle.words.specs.Words.{words, pasteW};
-ghost use Rattle.monomial.specs.Monomial.{Canonical, isVar, front, lent, found, toEnd, ended, find, pow};
+ghost use Rattle.monomial.specs.Monomial.{Starts, first, isVar, front, lent, found, toEnd, ended, find, pow};
 ghost use Rattle.monomial.specs.Operations as ops;
 
 // What a monomial says of a variable.
@@ -144,8 +144,8 @@ pub fn known_at(s: &[u8], at: usize) -> &[u8]
 // What m says of variable v. Ids fall, so the walk stops at the first that is not above v.
 pub fn find_power(m: &[u8], kind: u32, v: u32) -> Power
     requires { ⌜ (1 ≤ kind) × ((kind ≤ 2) × (v < 4096)) ⌝ }
-    requires { ⌜ Canonical kind 4096 (words (now m)) ⌝ }
-    ensures { λ r. ⌜ r ≡ find kind (words (now (m .entry))) v ⌝ }
+    requires { ⌜ Starts kind 4096 (words (now m)) ⌝ }
+    ensures { λ r. ⌜ r ≡ find kind (first kind (words (now (m .entry)))) v ⌝ }
 {
     let upper = 4096 * kind + v;
     let mut i: usize = 0;
@@ -164,8 +164,8 @@ pub fn find_power(m: &[u8], kind: u32, v: u32) -> Power
 // The power of variable v, absent being 0; in a ratio with 32,768 added.
 pub fn power_of(m: &[u8], kind: u32, v: u32) -> u32
     requires { ⌜ (1 ≤ kind) × ((kind ≤ 2) × (v < 4096)) ⌝ }
-    requires { ⌜ Canonical kind 4096 (words (now m)) ⌝ }
-    ensures { λ r. ⌜ r ≡ pow kind (words (now (m .entry))) v ⌝ }
+    requires { ⌜ Starts kind 4096 (words (now m)) ⌝ }
+    ensures { λ r. ⌜ r ≡ pow kind (first kind (words (now (m .entry)))) v ⌝ }
 {
     let Power::Found(p) = find_power(m, kind, v) else {
         return 32768 * (kind - 1);
@@ -175,9 +175,9 @@ pub fn power_of(m: &[u8], kind: u32, v: u32) -> u32
 
 // Whether a divides b, each a part of some longer list. A word of b below that of a lacks its variable or has the lower power.
 pub fn divides(a: &[u8], b: &[u8]) -> bool
-    requires { ⌜ Canonical 1 4096 (words (now a)) ⌝ }
-    requires { ⌜ Canonical 1 4096 (words (now b)) ⌝ }
-    ensures { λ r. ⌜ r ≡ ops.divides (words (now (a .entry))) (words (now (b .entry))) ⌝ }
+    requires { ⌜ Starts 1 4096 (words (now a)) ⌝ }
+    requires { ⌜ Starts 1 4096 (words (now b)) ⌝ }
+    ensures { λ r. ⌜ r ≡ ops.divides (first 1 (words (now (a .entry)))) (first 1 (words (now (b .entry)))) ⌝ }
 {
     let mut i: usize = 0;
     let mut j: usize = 0;
@@ -215,44 +215,44 @@ pub fn eq(a: &[u8], b: &[u8]) -> bool
 
 // Writes the greatest common divisor, and returns its length in words.
 pub fn gcd(a: &[u8], b: &[u8], out: &mut [u8]) -> usize
-    requires { ⌜ Canonical 1 4096 (words (now a)) ⌝ }
-    requires { ⌜ Canonical 1 4096 (words (now b)) ⌝ }
-    requires { ⌜ 4 * length (ops.result Op.Gcd (words (now a)) (words (now b))) ≤ length (now out) ⌝ }
-    ensures { λ r. ⌜ r ≡ length (ops.result Op.Gcd (words (now (a .entry))) (words (now (b .entry)))) ⌝ }
-    ensures { λ _. ⌜ now (out .exit) ≡ pasteW (now (out .entry)) 0 (ops.result Op.Gcd (words (now (a .entry))) (words (now (b .entry)))) ⌝ }
+    requires { ⌜ Starts 1 4096 (words (now a)) ⌝ }
+    requires { ⌜ Starts 1 4096 (words (now b)) ⌝ }
+    requires { ⌜ 4 * length (ops.result Op.Gcd (first 1 (words (now a))) (first 1 (words (now b)))) ≤ length (now out) ⌝ }
+    ensures { λ r. ⌜ r ≡ length (ops.result Op.Gcd (first 1 (words (now (a .entry)))) (first 1 (words (now (b .entry))))) ⌝ }
+    ensures { λ _. ⌜ now (out .exit) ≡ pasteW (now (out .entry)) 0 (ops.result Op.Gcd (first 1 (words (now (a .entry)))) (first 1 (words (now (b .entry))))) ⌝ }
 {
     ordered_ops::sum(a, b, Op::Gcd, out)
 }
 
 // Writes the product, and returns its length in words. Its powers can be up to 65,534.
 pub fn mul(a: &[u8], b: &[u8], out: &mut [u8]) -> usize
-    requires { ⌜ Canonical 1 4096 (words (now a)) ⌝ }
-    requires { ⌜ Canonical 1 4096 (words (now b)) ⌝ }
-    requires { ⌜ 4 * length (ops.result Op.Product (words (now a)) (words (now b))) ≤ length (now out) ⌝ }
-    ensures { λ r. ⌜ r ≡ length (ops.result Op.Product (words (now (a .entry))) (words (now (b .entry)))) ⌝ }
-    ensures { λ _. ⌜ now (out .exit) ≡ pasteW (now (out .entry)) 0 (ops.result Op.Product (words (now (a .entry))) (words (now (b .entry)))) ⌝ }
+    requires { ⌜ Starts 1 4096 (words (now a)) ⌝ }
+    requires { ⌜ Starts 1 4096 (words (now b)) ⌝ }
+    requires { ⌜ 4 * length (ops.result Op.Product (first 1 (words (now a))) (first 1 (words (now b)))) ≤ length (now out) ⌝ }
+    ensures { λ r. ⌜ r ≡ length (ops.result Op.Product (first 1 (words (now (a .entry)))) (first 1 (words (now (b .entry))))) ⌝ }
+    ensures { λ _. ⌜ now (out .exit) ≡ pasteW (now (out .entry)) 0 (ops.result Op.Product (first 1 (words (now (a .entry)))) (first 1 (words (now (b .entry))))) ⌝ }
 {
     ordered_ops::sum(a, b, Op::Product, out)
 }
 
 // Writes the ratio a / b with its signed powers, and returns its length in words.
 pub fn fraction_division(a: &[u8], b: &[u8], out: &mut [u8]) -> usize
-    requires { ⌜ Canonical 1 4096 (words (now a)) ⌝ }
-    requires { ⌜ Canonical 1 4096 (words (now b)) ⌝ }
-    requires { ⌜ 4 * length (ops.result Op.Ratio (words (now a)) (words (now b))) ≤ length (now out) ⌝ }
-    ensures { λ r. ⌜ r ≡ length (ops.result Op.Ratio (words (now (a .entry))) (words (now (b .entry)))) ⌝ }
-    ensures { λ _. ⌜ now (out .exit) ≡ pasteW (now (out .entry)) 0 (ops.result Op.Ratio (words (now (a .entry))) (words (now (b .entry)))) ⌝ }
+    requires { ⌜ Starts 1 4096 (words (now a)) ⌝ }
+    requires { ⌜ Starts 1 4096 (words (now b)) ⌝ }
+    requires { ⌜ 4 * length (ops.result Op.Ratio (first 1 (words (now a))) (first 1 (words (now b)))) ≤ length (now out) ⌝ }
+    ensures { λ r. ⌜ r ≡ length (ops.result Op.Ratio (first 1 (words (now (a .entry)))) (first 1 (words (now (b .entry))))) ⌝ }
+    ensures { λ _. ⌜ now (out .exit) ≡ pasteW (now (out .entry)) 0 (ops.result Op.Ratio (first 1 (words (now (a .entry)))) (first 1 (words (now (b .entry))))) ⌝ }
 {
     ordered_ops::sum(a, b, Op::Ratio, out)
 }
 
 // Writes the quotient a / b where b divides a; else nothing.
 pub fn whole_division(a: &[u8], b: &[u8], out: &mut [u8]) -> Division
-    requires { ⌜ Canonical 1 4096 (words (now a)) ⌝ }
-    requires { ⌜ Canonical 1 4096 (words (now b)) ⌝ }
-    requires { ⌜ 4 * length (ops.result Op.Quotient (words (now a)) (words (now b))) ≤ length (now out) ⌝ }
-    ensures { λ r. ⌜ r ≡ ops.divided (words (now (a .entry))) (words (now (b .entry))) ⌝ }
-    ensures { λ _. ⌜ now (out .exit) ≡ cond (ops.divides (words (now (b .entry))) (words (now (a .entry)))) (pasteW (now (out .entry)) 0 (ops.result Op.Quotient (words (now (a .entry))) (words (now (b .entry))))) (now (out .entry)) ⌝ }
+    requires { ⌜ Starts 1 4096 (words (now a)) ⌝ }
+    requires { ⌜ Starts 1 4096 (words (now b)) ⌝ }
+    requires { ⌜ 4 * length (ops.result Op.Quotient (first 1 (words (now a))) (first 1 (words (now b)))) ≤ length (now out) ⌝ }
+    ensures { λ r. ⌜ r ≡ ops.divided (first 1 (words (now (a .entry)))) (first 1 (words (now (b .entry)))) ⌝ }
+    ensures { λ _. ⌜ now (out .exit) ≡ cond (ops.divides (first 1 (words (now (b .entry)))) (first 1 (words (now (a .entry))))) (pasteW (now (out .entry)) 0 (ops.result Op.Quotient (first 1 (words (now (a .entry)))) (first 1 (words (now (b .entry)))))) (now (out .entry)) ⌝ }
 {
     if divides(b, a) {
         Division::Whole(ordered_ops::sum(a, b, Op::Quotient, out))

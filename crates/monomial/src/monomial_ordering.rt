@@ -3,7 +3,7 @@ ghost use mathlib.Core.Path.{_≡_};
 ghost use mathlib.Core.Logic.{_⊎_};
 ghost use Prim.Native.Nat.{_+_, _*_, _<_, _≤_};
 ghost use Rattle.words.specs.Words.{words};
-ghost use Rattle.monomial.specs.Monomial.{bias, Canonical};
+ghost use Rattle.monomial.specs.Monomial.{Starts, first};
 ghost use Rattle.monomial.specs.Order.{compare, andThen, order};
 
 pub enum CmpOrd {
@@ -38,9 +38,9 @@ pub fn then(c: CmpOrd, d: CmpOrd) -> CmpOrd
 // Compares two monomials (kind 1) or two ratios (kind 2). Ids fall, so the last difference met is the one at the smallest id.
 pub fn ord(a: &[u8], b: &[u8], kind: u32) -> CmpOrd
     requires { ⌜ (1 ≤ kind) × (kind ≤ 2) ⌝ }
-    requires { ⌜ Canonical kind 4096 (words (now a)) ⌝ }
-    requires { ⌜ Canonical kind 4096 (words (now b)) ⌝ }
-    ensures { λ r. ⌜ r ≡ order kind (words (now (a .entry))) (words (now (b .entry))) ⌝ }
+    requires { ⌜ Starts kind 4096 (words (now a)) ⌝ }
+    requires { ⌜ Starts kind 4096 (words (now b)) ⌝ }
+    ensures { λ r. ⌜ r ≡ order kind (first kind (words (now (a .entry)))) (first kind (words (now (b .entry)))) ⌝ }
 {
     let absent = 32768 * (kind - 1);
     let mut last = CmpOrd::Equal;

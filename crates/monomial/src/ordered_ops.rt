@@ -6,7 +6,7 @@ ghost use lib.Dec.{eqb};
 ghost use lib.ListN.{length};
 ghost use Rattle.words.specs.Kinds.{varWord};
 ghost use Rattle.words.specs.Words.{words, putW, pasteW};
-ghost use Rattle.monomial.specs.Monomial.{bias, Canonical};
+ghost use Rattle.monomial.specs.Monomial.{bias, Starts, first};
 ghost use Rattle.monomial.specs.Operations.{met, kindOf, result};
 ghost use Rattle.monomial.specs.Walk.{powerAt, past};
 
@@ -90,11 +90,11 @@ fn finish(out: &mut [u8], n: usize) -> usize
 
 // Writes what a and b make, and returns its length in words.
 pub fn sum(a: &[u8], b: &[u8], op: Op, out: &mut [u8]) -> usize
-    requires { ⌜ Canonical 1 4096 (words (now a)) ⌝ }
-    requires { ⌜ Canonical 1 4096 (words (now b)) ⌝ }
-    requires { ⌜ 4 * length (result op (words (now a)) (words (now b))) ≤ length (now out) ⌝ }
-    ensures { λ r. ⌜ r ≡ length (result op (words (now (a .entry))) (words (now (b .entry)))) ⌝ }
-    ensures { λ _. ⌜ now (out .exit) ≡ pasteW (now (out .entry)) 0 (result op (words (now (a .entry))) (words (now (b .entry)))) ⌝ }
+    requires { ⌜ Starts 1 4096 (words (now a)) ⌝ }
+    requires { ⌜ Starts 1 4096 (words (now b)) ⌝ }
+    requires { ⌜ 4 * length (result op (first 1 (words (now a))) (first 1 (words (now b)))) ≤ length (now out) ⌝ }
+    ensures { λ r. ⌜ r ≡ length (result op (first 1 (words (now (a .entry)))) (first 1 (words (now (b .entry))))) ⌝ }
+    ensures { λ _. ⌜ now (out .exit) ≡ pasteW (now (out .entry)) 0 (result op (first 1 (words (now (a .entry)))) (first 1 (words (now (b .entry))))) ⌝ }
 {
     let kind = kind_of(op);
     let mut i: usize = 0;

@@ -8,26 +8,27 @@ use native.Mathlib.Omega.{arith}
 use lib.Dec.{eqb, leb}
 use lib.ListN.{length, take, drop}
 use Rattle.words.specs.Words.{words, pasteW}
-use Rattle.monomial.specs.Monomial.{Canonical, lent, pow}
+use Rattle.monomial.specs.Monomial.{Canonical, Starts, first, lent, pow}
 use Rattle.monomial.specs.Operations.{result, divides, divided}
 use Rattle.monomial.specs.declared.Division.{Division}
 use Rattle.monomial.specs.declared.Division.the-variants.{Whole, NotDivisible}
 use Rattle.monomial.specs.declared.monomial_ordering.CmpOrd.{CmpOrd}
 use Rattle.monomial.specs.declared.monomial_ordering.CmpOrd.the-variants.{Less, Equal, Greater}
 use Rattle.monomial.specs.declared.ordered_ops.Op.{Op}
-use Rattle.monomial.proofs.Laws.{canonical-more, length-result}
+use Rattle.monomial.proofs.Laws.{length-result}
+use Rattle.monomial.proofs.Firsts.{starts-wide, starts-whole, first-whole}
 use Rattle.monomial_work.specs.Served.{lentKind, yes, number, answer, small, powersFit, variablesFit, verdict, Served}
 use Rattle.monomial_work.specs.declared.Work.{Work}
 use Rattle.monomial_work.specs.declared.Work.the-variants.{Gcd, Mul, WholeDivision, FractionDivision, Divides, Eq, Cmp, RatioEq, RatioCmp}
 
-pub wide : {k : ℕ} {a : List ℕ} → 0 < k → Canonical k 64 a → Canonical k 4096 a
-wide pos c = canonical-more pos (omega arith) c
+pub starts : {k : ℕ} {a : List ℕ} → Canonical k 64 a → Starts k 4096 a
+starts c = starts-wide (starts-whole c)
 
 -- what each operation asks, for two monomials in at most 64 variables and room for 65 words
 pub ready : (o : Op) (a b out : List ℕ) → Canonical 1 64 a → Canonical 1 64 b → 260 ≤ length out
-    → Canonical 1 4096 a × (Canonical 1 4096 b × (4 * length (result o a b) ≤ length out))
+    → Starts 1 4096 a × (Starts 1 4096 b × (4 * length (result o (first 1 a) (first 1 b)) ≤ length out))
 ready o a b out ca cb h =
-    (wide (omega arith) ca, (wide (omega arith) cb, omega (arith, length-result 64 a b ca cb o (omega arith))))
+    (starts ca, (starts cb, rw (first-whole ca, first-whole cb) (omega (arith, length-result 64 a b ca cb o (omega arith)))))
 
 pub answer-length : (w : Work) (a b : List ℕ) → Canonical (lentKind w) 64 a → Canonical (lentKind w) 64 b → length (answer w a b) ≤ 65
 unfolding answer

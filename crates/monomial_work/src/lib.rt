@@ -5,7 +5,7 @@ ghost use mathlib.Core.Path.{_≡_};
 ghost use Prim.Native.Nat.{_*_, _<_, _≤_};
 ghost use lib.ListN.{length};
 ghost use Rattle.words.specs.Words.{words, pasteW};
-ghost use Rattle.monomial.specs.Monomial.{Canonical};
+ghost use Rattle.monomial.specs.Monomial.{Canonical, Starts, first};
 ghost use Rattle.monomial.specs.Operations.{result};
 ghost use Rattle.monomial.specs.declared.ordered_ops.Op.{Op};
 ghost use Rattle.monomial_work.specs.Served as spec;
@@ -67,10 +67,10 @@ fn put_answer(out: &mut [u8], p: u32) -> usize
 
 // Writes the quotient, or that there is none, and returns the length in words.
 fn quotient(a: &[u8], b: &[u8], out: &mut [u8]) -> usize
-    requires { ⌜ Canonical 1 4096 (words (now a)) ⌝ }
-    requires { ⌜ Canonical 1 4096 (words (now b)) ⌝ }
-    requires { ⌜ (4 ≤ length (now out)) × (4 * length (result Op.Quotient (words (now a)) (words (now b))) ≤ length (now out)) ⌝ }
-    ensures { λ r. ⌜ (r ≡ length (spec.answer Work.WholeDivision (words (now (a .entry))) (words (now (b .entry))))) × (now (out .exit) ≡ pasteW (now (out .entry)) 0 (spec.answer Work.WholeDivision (words (now (a .entry))) (words (now (b .entry))))) ⌝ }
+    requires { ⌜ Starts 1 4096 (words (now a)) ⌝ }
+    requires { ⌜ Starts 1 4096 (words (now b)) ⌝ }
+    requires { ⌜ (4 ≤ length (now out)) × (4 * length (result Op.Quotient (first 1 (words (now a))) (first 1 (words (now b)))) ≤ length (now out)) ⌝ }
+    ensures { λ r. ⌜ (r ≡ length (spec.answer Work.WholeDivision (first 1 (words (now (a .entry)))) (first 1 (words (now (b .entry)))))) × (now (out .exit) ≡ pasteW (now (out .entry)) 0 (spec.answer Work.WholeDivision (first 1 (words (now (a .entry)))) (first 1 (words (now (b .entry)))))) ⌝ }
 {
     let Division::Whole(n) = monomial::whole_division(a, b, out) else {
         return put_answer(out, 0);

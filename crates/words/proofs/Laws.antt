@@ -6,7 +6,7 @@ use mathlib.Core.List.{List, [], _∷_, _++_, append-assoc}
 use native.Mathlib.Nat.{add-zero, zero-add}
 use lib.ListN.{length, getD, set, take, drop, take-append-drop, length-append, length-set, length-take, length-drop}
 use native.Mathlib.Numerals.{add-one}
-use lib.Seq.{drop-cons, take-at, drop-at, drop-append-add, drop-append-le, drop-drop, take-add, take-take, getD-take, length-take-le}
+use lib.Seq.{drop-cons, take-all, take-at, drop-at, drop-append-add, drop-append-le, drop-drop, take-add, take-take, getD-take, length-take-le}
 use Rattle.words.specs.Words.{word, words, bytes, putW, pasteW}
 
 -- 4 * (i + 1) + k, as a list's clauses see it
@@ -187,6 +187,10 @@ words-pasteW bs at ws h k =
 -- ---- parts. The words of a part `&s[4 * a..e]`, with e = 4 * (a + m): k is what the borrow checker says, e - 4 * a
 pub words-part : (bs : List ℕ) (a m k : ℕ) → k ≡ 4 * m → words (take k (drop (4 * a) bs)) ≡ take m (drop a (words bs))
 words-part bs a m k e = rw (e, words-take, words-drop)
+
+-- what is lent from word `at` on, up to the last byte
+pub words-rest : (bs : List ℕ) (at k : ℕ) → length bs ≤ 4 * at + k → words (take k (drop (4 * at) bs)) ≡ drop at (words bs)
+words-rest bs at k h = rw (take-all k (drop (4 * at) bs) (omega (arith, length-drop (4 * at) bs))) (words-drop bs at)
 
 -- a part `&mut s[4 * o..]` that came back with words pasted: they are pasted into the whole
 pub pasteW-part : (bs : List ℕ) (o k at : ℕ) (ws : List ℕ) → 4 * o + k ≤ length bs → 4 * at + 4 * length ws ≤ k

@@ -1,3 +1,4 @@
+use Rattle.monomial.proofs.Firsts.{seen, first-bytes, first-canonical}
 use native.Mathlib.Omega.{arith}
 use lib.ListN.{length}
 use native.Mathlib.Nat.{div-le-self}
@@ -5,7 +6,7 @@ use Rattle.words.specs.Words.{words}
 use Rattle.words.proofs.Laws.{length-words}
 use Rattle.monomial.proofs.Walks.{within}
 use Rattle.divmask.proofs.Masks.{mask-small, Mapping, begin, mapped, step, bits-are, stepped}
-use Rattle.monomial.specs.Monomial.{pow}
+use Rattle.monomial.specs.Monomial.{pow, first}
 use Prim.Native.Nat.{_%_, _-_, _/_}
 use Rattle.divmask.proofs.map.Statement.{statement}
 use Rattle.divmask.proofs.map.Tie as tie
@@ -17,10 +18,10 @@ use Rattle.divmask.proofs.first_bit.Reads as first-bit-reads
 use Rattle.words.proofs.get.Reads as get-reads
 
 abbrev Inv-loop : tie.InvT-loop
-Inv-loop maxima variables monomial whole extra mask₀ i₀ mask i = Mapping variables (words maxima) (words monomial) i mask
+Inv-loop maxima variables monomial whole extra mask₀ i₀ mask i = Mapping variables (words maxima) (first 1 (words monomial)) i mask
 
 abbrev μ-loop : tie.MeasureT-loop
-μ-loop maxima variables monomial whole extra mask₀ i₀ mask i = length (words monomial) - i
+μ-loop maxima variables monomial whole extra mask₀ i₀ mask i = length (first 1 (words monomial)) - i
 
 -- src/lib.rt:53:17
 div-whole : tie.Need-div-whole Inv-loop μ-loop
@@ -32,19 +33,19 @@ rem-extra c = omega (arith, c .before .before .pre .0 .some)
 
 -- src/lib.rt:57:5
 loop-holds : tie.Need-loop-holds Inv-loop μ-loop
-loop-holds c = begin (words (c .before .before .args .maxima .now)) (words (c .before .before .args .monomial .now)) (c .before .before .pre .0 .few) (c .before .before .pre .1)
+loop-holds c = begin (words (c .before .before .args .maxima .now)) (c .before .before .pre .0 .few) (first-canonical (omega arith) (c .before .before .pre .1))
 
 -- src/lib.rt:58:13
 get-requires : tie.Need-get-requires Inv-loop μ-loop
-get-requires c κs = omega (arith, length-words (c .before .before .before .args .monomial .now), within (c .loop .inv .ra))
+get-requires c κs = omega (arith, first-bytes 1 (c .before .before .before .args .monomial .now), within (c .loop .inv .ra))
 
 -- src/lib.rt:60:20
 cast-result : tie.Need-cast-result Inv-loop μ-loop
-cast-result c = let e = mapped (c .before .before .before .before .before .args .variables) (words (c .before .before .before .before .before .args .maxima .now)) (words (c .before .before .before .before .before .args .monomial .now)) (c .before .before .loop .i) (c .before .before .loop .mask) (c .before .before .loop .inv) (c .before .get .result) (c .before .get .ensures) (c .if1 .taken) in omega (arith, mask-small (c .before .before .before .before .before .args .variables) (words (c .before .before .before .before .before .args .maxima .now)) (pow 1 (words (c .before .before .before .before .before .args .monomial .now))))
+cast-result c = let e = mapped (c .before .before .loop .inv) (seen _ (c .before .before .loop .inv .ra) (c .before .get .ensures)) (c .if1 .taken) in omega (arith, mask-small (c .before .before .before .before .before .args .variables) (words (c .before .before .before .before .before .args .maxima .now)) (pow 1 (first 1 (words (c .before .before .before .before .before .args .monomial .now)))))
 
 -- src/lib.rt:60:13
 returns : tie.Need-returns Inv-loop μ-loop
-returns c = mapped (c .before .before .before .before .before .args .variables) (words (c .before .before .before .before .before .args .maxima .now)) (words (c .before .before .before .before .before .args .monomial .now)) (c .before .before .loop .i) (c .before .before .loop .mask) (c .before .before .loop .inv) (c .before .get .result) (c .before .get .ensures) (c .if1 .taken)
+returns c = mapped (c .before .before .loop .inv) (seen _ (c .before .before .loop .inv .ra) (c .before .get .ensures)) (c .if1 .taken)
 
 -- src/lib.rt:63:36
 cast-get : tie.Need-cast-get Inv-loop μ-loop
@@ -52,7 +53,7 @@ cast-get c = omega arith
 
 -- src/lib.rt:63:13
 get-requires-2 : tie.Need-get-requires-2 Inv-loop μ-loop
-get-requires-2 c κs = omega (arith, step (c .before .before .before .before .before .args .variables) (words (c .before .before .before .before .before .args .maxima .now)) (words (c .before .before .before .before .before .args .monomial .now)) (c .before .before .loop .i) (c .before .before .loop .mask) (c .before .before .loop .inv) (c .before .get .result) (c .before .get .ensures) (c .if1 .left) .known, length-words (c .before .before .before .before .before .args .maxima .now), c .before .before .before .before .before .pre .0 .one-each)
+get-requires-2 c κs = let k = step (c .before .before .loop .inv) (seen _ (c .before .before .loop .inv .ra) (c .before .get .ensures)) (c .if1 .left) in omega (arith, k .known, length-words (c .before .before .before .before .before .args .maxima .now), c .before .before .before .before .before .pre .0 .one-each)
 
 -- src/lib.rt:64:23
 bits-of-requires : tie.Need-bits-of-requires Inv-loop μ-loop
@@ -60,13 +61,12 @@ bits-of-requires c κs = div-le-self 32 (c .before .before .before .before .befo
 
 -- src/lib.rt:64:13
 field-requires : tie.Need-field-requires Inv-loop μ-loop
-field-requires c κs = let k = step (c .before .before .before .before .before .before .before .args .variables) (words (c .before .before .before .before .before .before .before .args .maxima .now)) (words (c .before .before .before .before .before .before .before .args .monomial .now)) (c .before .before .before .before .loop .i) (c .before .before .before .before .loop .mask) (c .before .before .before .before .loop .inv) (c .before .before .before .get .result) (c .before .before .before .get .ensures) (c .before .before .if1 .left) in
-    let e = bits-are (c .before .before .before .before .before .before .before .args .variables) (words (c .before .before .before .before .before .before .before .args .maxima .now)) (words (c .before .before .before .before .before .before .before .args .monomial .now)) (c .before .before .before .before .loop .i) (c .before .before .before .before .loop .mask) (c .before .before .before .before .loop .inv) (c .before .before .before .get .result) (c .before .before .before .get .ensures) ((c .before .before .before .get .result) / 65536 % 4096) (c .bits-of .result) (c .bits-of .ensures) in
-    (omega (arith, k .few), (omega (arith, c .before .get2 .ensures, (c .before .before .before .before .before .before .before .pre .0 .low) ((c .before .before .before .get .result) / 65536 % 4096) (k .known)), (k .low, k .high)))
+field-requires c κs = let k = step (c .before .before .before .before .loop .inv) (seen _ (c .before .before .before .before .loop .inv .ra) (c .before .before .before .get .ensures)) (c .before .before .if1 .left) in let v = (c .before .before .before .get .result) / 65536 % 4096 in let e = bits-are (c .before .before .before .before .before .before .before .args .variables) v (c .bits-of .result) (c .bits-of .ensures) in
+    (omega (arith, k .few), (omega (arith, c .before .get2 .ensures, (c .before .before .before .before .before .before .before .pre .0 .low) v (k .known)), (k .low, k .high)))
 
 -- src/lib.rt:65:22
 first-bit-requires : tie.Need-first-bit-requires Inv-loop μ-loop
-first-bit-requires c κs = let k = step (c .before .before .before .before .before .before .before .before .args .variables) (words (c .before .before .before .before .before .before .before .before .args .maxima .now)) (words (c .before .before .before .before .before .before .before .before .args .monomial .now)) (c .before .before .before .before .before .loop .i) (c .before .before .before .before .before .loop .mask) (c .before .before .before .before .before .loop .inv) (c .before .before .before .before .get .result) (c .before .before .before .before .get .ensures) (c .before .before .before .if1 .left) in (div-le-self 32 (c .before .before .before .before .before .before .before .before .args .variables), omega (arith, k .known, c .before .before .before .before .before .before .before .before .pre .0 .few))
+first-bit-requires c κs = let k = step (c .before .before .before .before .before .loop .inv) (seen _ (c .before .before .before .before .before .loop .inv .ra) (c .before .before .before .before .get .ensures)) (c .before .before .before .if1 .left) in (div-le-self 32 (c .before .before .before .before .before .before .before .before .args .variables), omega (arith, k .known, c .before .before .before .before .before .before .before .before .pre .0 .few))
 
 -- src/lib.rt:65:22
 cast-mask : tie.Need-cast-mask Inv-loop μ-loop
@@ -74,23 +74,23 @@ cast-mask c = omega arith
 
 -- src/lib.rt:65:17
 shl-mask : tie.Need-shl-mask Inv-loop μ-loop
-shl-mask c = omega (arith, stepped (c .before .before .before .before .before .before .before .before .before .args .variables) (words (c .before .before .before .before .before .before .before .before .before .args .maxima .now)) (words (c .before .before .before .before .before .before .before .before .before .args .monomial .now)) (c .before .before .before .before .before .before .loop .i) (c .before .before .before .before .before .before .loop .mask) (c .before .before .before .before .before .before .loop .inv) (c .before .before .before .before .before .get .result) (c .before .before .before .before .before .get .ensures) (c .before .before .before .before .if1 .left) (c .before .before .before .get2 .result) (c .before .before .bits-of .result) (c .before .field .result) (c .first-bit .result) (c .before .before .before .get2 .ensures) (c .before .before .bits-of .ensures) (c .before .field .ensures) (c .first-bit .ensures) .shift)
+shl-mask c = omega (arith, stepped (c .before .before .before .before .before .before .loop .inv) (seen _ (c .before .before .before .before .before .before .loop .inv .ra) (c .before .before .before .before .before .get .ensures)) (c .before .before .before .before .if1 .left) (c .before .before .before .get2 .ensures) (c .before .before .bits-of .ensures) (c .before .field .ensures) (c .first-bit .ensures) .shift)
 
 -- src/lib.rt:65:9
 add-mask : tie.Need-add-mask Inv-loop μ-loop
-add-mask c = omega (arith, stepped (c .before .before .before .before .before .before .before .before .before .args .variables) (words (c .before .before .before .before .before .before .before .before .before .args .maxima .now)) (words (c .before .before .before .before .before .before .before .before .before .args .monomial .now)) (c .before .before .before .before .before .before .loop .i) (c .before .before .before .before .before .before .loop .mask) (c .before .before .before .before .before .before .loop .inv) (c .before .before .before .before .before .get .result) (c .before .before .before .before .before .get .ensures) (c .before .before .before .before .if1 .left) (c .before .before .before .get2 .result) (c .before .before .bits-of .result) (c .before .field .result) (c .first-bit .result) (c .before .before .before .get2 .ensures) (c .before .before .bits-of .ensures) (c .before .field .ensures) (c .first-bit .ensures) .fits)
+add-mask c = omega (arith, stepped (c .before .before .before .before .before .before .loop .inv) (seen _ (c .before .before .before .before .before .before .loop .inv .ra) (c .before .before .before .before .before .get .ensures)) (c .before .before .before .before .if1 .left) (c .before .before .before .get2 .ensures) (c .before .before .bits-of .ensures) (c .before .field .ensures) (c .first-bit .ensures) .fits)
 
 -- src/lib.rt:66:9
 add-i : tie.Need-add-i Inv-loop μ-loop
-add-i c = omega (arith, length-words (c .before .before .before .before .before .before .before .before .before .args .monomial .now), within (c .before .before .before .before .before .before .loop .inv .ra))
+add-i c = omega (arith, first-bytes 1 (c .before .before .before .before .before .before .before .before .before .args .monomial .now), within (c .before .before .before .before .before .before .loop .inv .ra))
 
 -- src/lib.rt:57:5
 loop-less : tie.Need-loop-less Inv-loop μ-loop
-loop-less c = omega (arith, length-words (c .before .before .before .before .before .before .before .before .before .args .monomial .now), within (c .before .before .before .before .before .before .loop .inv .ra))
+loop-less c = omega (arith, within (c .before .before .before .before .before .before .loop .inv .ra))
 
 -- src/lib.rt:57:5
 loop-again : tie.Need-loop-again Inv-loop μ-loop
-loop-again c = stepped (c .before .before .before .before .before .before .before .before .before .args .variables) (words (c .before .before .before .before .before .before .before .before .before .args .maxima .now)) (words (c .before .before .before .before .before .before .before .before .before .args .monomial .now)) (c .before .before .before .before .before .before .loop .i) (c .before .before .before .before .before .before .loop .mask) (c .before .before .before .before .before .before .loop .inv) (c .before .before .before .before .before .get .result) (c .before .before .before .before .before .get .ensures) (c .before .before .before .before .if1 .left) (c .before .before .before .get2 .result) (c .before .before .bits-of .result) (c .before .field .result) (c .first-bit .result) (c .before .before .before .get2 .ensures) (c .before .before .bits-of .ensures) (c .before .field .ensures) (c .first-bit .ensures) .rest
+loop-again c = stepped (c .before .before .before .before .before .before .loop .inv) (seen _ (c .before .before .before .before .before .before .loop .inv .ra) (c .before .before .before .before .before .get .ensures)) (c .before .before .before .before .if1 .left) (c .before .before .before .get2 .ensures) (c .before .before .bits-of .ensures) (c .before .field .ensures) (c .first-bit .ensures) .rest
 
 pub map-spec : {M : Type 1} → statement M
 map-spec =

@@ -5,7 +5,7 @@ use lib.ListN.{getD}
 use Rattle.words.specs.Words.{words}
 use Rattle.fast_compare.specs.Map as Map
 use Rattle.fast_compare.specs.Map.{valueOf}
-use Rattle.fast_compare.proofs.Scans.{widen}
+use Rattle.monomial.proofs.Firsts.{canonical-wide}
 use Rattle.fast_compare.proofs.Exact.{count-of}
 use Rattle.fast_compare.proofs.Giving.{at-place, before-place, known-row, place-few, gave-known}
 use borrow.Author.Needs.{needs}
@@ -20,7 +20,7 @@ use Rattle.fast_compare.proofs.search.Reads as search-reads
 
 -- src/lib.rt:199:9
 search-requires : tie.Need-search-requires
-search-requires c κs = (c .before .before .before .pre .0, widen (getD (words (c .before .before .before .args .map .now)) 1 0) (words (c .before .before .before .args .ratio .now)) (c .before .before .before .pre .1 .canonical))
+search-requires c κs = (c .before .before .before .pre .0, canonical-wide (c .before .before .before .pre .1 .canonical))
 
 -- src/lib.rt:201:19
 enum-known-place : tie.Need-enum-known-place

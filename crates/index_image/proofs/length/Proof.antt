@@ -17,7 +17,7 @@ mul-result c = omega (arith, c .size .ensures, size-small _ (empty-range _ _ _ (
 
 -- src/lib.rt:79:1
 returns : tie.Need-returns
-returns c = is-length _ _ _ _ (c .size .ensures)
+returns c = is-length _ _ _ _ (c .before .pre) (c .size .ensures)
 
 pub length-spec : {M : Type 1} → statement M
 length-spec = tie.close (tie.spec size-requires mul-result returns)

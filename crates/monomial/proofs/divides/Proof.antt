@@ -1,3 +1,5 @@
+use Rattle.monomial.specs.Monomial.{first}
+use Rattle.monomial.proofs.Firsts.{begins, seen, first-bytes}
 use native.Mathlib.Omega.{arith}
 use Prim.Native.Nat.{_-_}
 use mathlib.Core.Path.{refl}
@@ -14,38 +16,38 @@ use Rattle.monomial.proofs.ordered_ops.step.Reads as step-reads
 use Rattle.words.proofs.get.Reads as get-reads
 
 abbrev Inv-loop : tie.InvT-loop
-Inv-loop a b i₀ j₀ i j = Dividing (words a) (words b) i j
+Inv-loop a b i₀ j₀ i j = Dividing (first 1 (words a)) (first 1 (words b)) i j
 
 abbrev μ-loop : tie.MeasureT-loop
-μ-loop a b i₀ j₀ i j = length (words b) - j
+μ-loop a b i₀ j₀ i j = length (first 1 (words b)) - j
 
 -- src/lib.rt:156:5
 loop-holds : tie.Need-loop-holds Inv-loop μ-loop
-loop-holds c = begin (words (c .before .before .args .a .now)) (words (c .before .before .args .b .now)) (c .before .before .pre .0) (c .before .before .pre .1)
+loop-holds c = begin (begins (omega arith) (c .before .before .pre .0)) (begins (omega arith) (c .before .before .pre .1))
 
 -- src/lib.rt:157:13
 get-requires : tie.Need-get-requires Inv-loop μ-loop
-get-requires c κs = omega (arith, within (c .loop .inv .ra), length-words (c .before .before .before .args .a .now))
+get-requires c κs = omega (arith, within (c .loop .inv .ra), first-bytes 1 (c .before .before .before .args .a .now))
 
 -- src/lib.rt:159:13
 returns : tie.Need-returns Inv-loop μ-loop
-returns c = all-passed (words (c .before .before .before .before .before .args .a .now)) (words (c .before .before .before .before .before .args .b .now)) (c .before .before .loop .i) (c .before .before .loop .j) (c .before .before .loop .inv) (c .before .get .result) (getD (words (c .before .before .before .before .before .args .b .now)) (c .before .before .loop .j) 0) (c .before .get .ensures) refl (c .if1 .taken)
+returns c = all-passed (c .before .before .loop .inv) (seen _ (c .before .before .loop .inv .ra) (c .before .get .ensures)) (c .if1 .taken)
 
 -- src/lib.rt:161:13
 get-requires-2 : tie.Need-get-requires-2 Inv-loop μ-loop
-get-requires-2 c κs = omega (arith, within (c .before .before .loop .inv .rb), length-words (c .before .before .before .before .before .args .b .now))
+get-requires-2 c κs = omega (arith, within (c .before .before .loop .inv .rb), first-bytes 1 (c .before .before .before .before .before .args .b .now))
 
 -- src/lib.rt:163:13
 returns-2 : tie.Need-returns-2 Inv-loop μ-loop
-returns-2 c = exceeds (words (c .before .before .before .before .before .before .before .args .a .now)) (words (c .before .before .before .before .before .before .before .args .b .now)) (c .before .before .before .before .loop .i) (c .before .before .before .before .loop .j) (c .before .before .before .before .loop .inv) (c .before .before .before .get .result) (c .before .get2 .result) (c .before .before .before .get .ensures) (c .before .get2 .ensures) (c .before .before .if1 .left) (c .if2 .taken)
+returns-2 c = exceeds (c .before .before .before .before .loop .inv) (seen _ (c .before .before .before .before .loop .inv .ra) (c .before .before .before .get .ensures)) (seen _ (c .before .before .before .before .loop .inv .rb) (c .before .get2 .ensures)) (c .before .before .if1 .left) (c .if2 .taken)
 
 -- src/lib.rt:165:9
 step-requires : tie.Need-step-requires Inv-loop μ-loop
-step-requires c κs = omega (arith, within (c .before .before .before .before .loop .inv .ra), length-words (c .before .before .before .before .before .before .before .args .a .now))
+step-requires c κs = omega (arith, within (c .before .before .before .before .loop .inv .ra), first-bytes 1 (c .before .before .before .before .before .before .before .args .a .now))
 
 -- src/lib.rt:166:9
 add-j : tie.Need-add-j Inv-loop μ-loop
-add-j c = omega (arith, within (c .before .before .before .before .before .loop .inv .rb), length-words (c .before .before .before .before .before .before .before .before .args .b .now))
+add-j c = omega (arith, within (c .before .before .before .before .before .loop .inv .rb), first-bytes 1 (c .before .before .before .before .before .before .before .before .args .b .now))
 
 -- src/lib.rt:156:5
 loop-less : tie.Need-loop-less Inv-loop μ-loop
@@ -53,7 +55,7 @@ loop-less c = omega (arith, within (c .before .before .before .before .before .l
 
 -- src/lib.rt:156:5
 loop-again : tie.Need-loop-again Inv-loop μ-loop
-loop-again c = rw (c .step .ensures) (goes-on (words (c .before .before .before .before .before .before .before .before .args .a .now)) (words (c .before .before .before .before .before .before .before .before .args .b .now)) (c .before .before .before .before .before .loop .i) (c .before .before .before .before .before .loop .j) (c .before .before .before .before .before .loop .inv) (c .before .before .before .before .get .result) (c .before .before .get2 .result) (c .before .before .before .before .get .ensures) (c .before .before .get2 .ensures) (c .before .before .before .if1 .left) (c .before .if2 .left))
+loop-again c = rw (c .step .ensures) (goes-on (c .before .before .before .before .before .loop .inv) (seen _ (c .before .before .before .before .before .loop .inv .ra) (c .before .before .before .before .get .ensures)) (seen _ (c .before .before .before .before .before .loop .inv .rb) (c .before .before .get2 .ensures)) (c .before .before .before .if1 .left) (c .before .if2 .left))
 
 pub divides-spec : {M : Type 1} → statement M
 divides-spec =

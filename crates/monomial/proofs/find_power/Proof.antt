@@ -1,3 +1,5 @@
+use Rattle.monomial.specs.Monomial.{first}
+use Rattle.monomial.proofs.Firsts.{begins, seen, first-bytes, first-canonical}
 use native.Mathlib.Omega.{arith}
 use borrow.Author.Needs.{needs}
 use Prim.Native.Nat.{_-_}
@@ -13,10 +15,10 @@ use Rattle.monomial.proofs.find_power.Lts as lts
 use Rattle.words.proofs.get.Reads as get-reads
 
 abbrev Inv-loop : tie.InvT-loop
-Inv-loop m kind v upper i₀ i = Finding kind (words m) v i
+Inv-loop m kind v upper i₀ i = Finding kind (first kind (words m)) v i
 
 abbrev μ-loop : tie.MeasureT-loop
-μ-loop m kind v upper i₀ i = length (words m) - i
+μ-loop m kind v upper i₀ i = length (first kind (words m)) - i
 
 -- src/lib.rt:122:17
 mul-upper : tie.Need-mul-upper Inv-loop μ-loop
@@ -28,23 +30,23 @@ add-upper c = search needs
 
 -- src/lib.rt:124:5
 loop-holds : tie.Need-loop-holds Inv-loop μ-loop
-loop-holds c = record { b = 4096; below = c .before .pre .0 .1 .1; ra = start (c .before .pre .1) }
+loop-holds c = record { b = 4096; below = c .before .pre .0 .1 .1; ra = begins (c .before .pre .0 .0) (c .before .pre .1) }
 
 -- src/lib.rt:125:13
 get-requires : tie.Need-get-requires Inv-loop μ-loop
-get-requires c κs = omega (arith, within (c .loop .inv .ra), length-words (c .before .before .args .m .now))
+get-requires c κs = omega (arith, within (c .loop .inv .ra), first-bytes (c .before .before .args .kind) (c .before .before .args .m .now))
 
 -- src/lib.rt:127:13
 returns : tie.Need-returns Inv-loop μ-loop
-returns c = absent-here (c .before .before .before .before .args .kind) (c .before .before .before .before .pre .0 .0) (words (c .before .before .before .before .args .m .now)) (c .before .before .before .before .pre .1) (c .before .before .before .before .args .v) (c .before .before .loop .i) (c .before .before .loop .inv) (c .before .get .result) (c .before .get .ensures) (c .if1 .taken)
+returns c = let k = (c .before .before .before .before .pre .0 .0) in absent-here k (first-canonical k (c .before .before .before .before .pre .1)) (c .before .before .loop .inv) (seen _ (c .before .before .loop .inv .ra) (c .before .get .ensures)) (c .if1 .taken)
 
 -- src/lib.rt:130:13
 returns-2 : tie.Need-returns-2 Inv-loop μ-loop
-returns-2 c = found-here (c .before .before .before .before .before .args .kind) (c .before .before .before .before .before .pre .0 .0) (words (c .before .before .before .before .before .args .m .now)) (c .before .before .before .before .before .pre .1) (c .before .before .before .before .before .args .v) (c .before .before .before .loop .i) (c .before .before .before .loop .inv) (c .before .before .get .result) (c .before .before .get .ensures) (c .if2 .taken)
+returns-2 c = let k = (c .before .before .before .before .before .pre .0 .0) in found-here k (first-canonical k (c .before .before .before .before .before .pre .1)) (c .before .before .before .loop .inv) (seen _ (c .before .before .before .loop .inv .ra) (c .before .before .get .ensures)) (c .if2 .taken)
 
 -- src/lib.rt:132:9
 add-i : tie.Need-add-i Inv-loop μ-loop
-add-i c = omega (arith, within (c .before .before .before .loop .inv .ra), length-words (c .before .before .before .before .before .args .m .now))
+add-i c = omega (arith, within (c .before .before .before .loop .inv .ra), first-bytes (c .before .before .before .before .before .args .kind) (c .before .before .before .before .before .args .m .now))
 
 -- src/lib.rt:124:5
 loop-less : tie.Need-loop-less Inv-loop μ-loop
@@ -52,7 +54,7 @@ loop-less c = omega (arith, within (c .before .before .before .loop .inv .ra))
 
 -- src/lib.rt:124:5
 loop-again : tie.Need-loop-again Inv-loop μ-loop
-loop-again c = found-later (c .before .before .before .before .before .args .kind) (c .before .before .before .before .before .pre .0 .0) (words (c .before .before .before .before .before .args .m .now)) (c .before .before .before .before .before .pre .1) (c .before .before .before .before .before .args .v) (c .before .before .before .loop .i) (c .before .before .before .loop .inv) (c .before .before .get .result) (c .before .before .get .ensures) (omega arith)
+loop-again c = let k = (c .before .before .before .before .before .pre .0 .0) in found-later k (first-canonical k (c .before .before .before .before .before .pre .1)) (c .before .before .before .loop .inv) (seen _ (c .before .before .before .loop .inv .ra) (c .before .before .get .ensures)) (omega arith)
 
 pub find-power-spec : {M : Type 1} → statement M
 find-power-spec =

@@ -1,3 +1,4 @@
+use Rattle.monomial.proofs.Firsts.{first-whole}
 use native.Mathlib.Omega.{arith}
 use mathlib.Core.Path.{_≡_, refl, sym, ap, _∙_}
 use mathlib.Core.List.{List, [], _∷_}
@@ -7,7 +8,7 @@ use Rattle.words.specs.Words.{words, pasteW}
 use Rattle.monomial.specs.Monomial.{Canonical}
 use Rattle.monomial.specs.declared.ordered_ops.Op.{Op}
 use Rattle.monomial_work.specs.Served.{answer, lentKind}
-use Rattle.monomial_work.proofs.Laws.{ready, wide, yes-small, number-small}
+use Rattle.monomial_work.proofs.Laws.{ready, starts, yes-small, number-small}
 use borrow.Author.Needs.{needs}
 use Rattle.monomial_work.proofs.answer.Statement.{statement}
 use Rattle.monomial_work.proofs.answer.Tie as tie
@@ -62,7 +63,7 @@ enum-told-5 c = search needs
 
 -- src/lib.rt:97:46
 divides-requires : tie.Need-divides-requires
-divides-requires c κs = (wide {k = 1} (omega arith) (rw (c .before .enum-told5 .given .1) at (c .before .before .before .before .before .before .pre .0)), wide {k = 1} (omega arith) (rw (c .before .enum-told5 .given .1) at (c .before .before .before .before .before .before .pre .1 .0)))
+divides-requires c κs = (starts {k = 1} (rw (c .before .enum-told5 .given .1) at (c .before .before .before .before .before .before .pre .0)), starts {k = 1} (rw (c .before .enum-told5 .given .1) at (c .before .before .before .before .before .before .pre .1 .0)))
 
 -- src/lib.rt:97:42
 yes-requires : tie.Need-yes-requires
@@ -94,7 +95,7 @@ enum-told-7 c = search needs
 
 -- src/lib.rt:99:45
 ord-requires : tie.Need-ord-requires
-ord-requires c κs = ((omega arith, omega arith), (wide {k = 1} (omega arith) (rw (c .before .enum-told7 .given .1) at (c .before .before .before .before .before .before .pre .0)), wide {k = 1} (omega arith) (rw (c .before .enum-told7 .given .1) at (c .before .before .before .before .before .before .pre .1 .0))))
+ord-requires c κs = ((omega arith, omega arith), (starts {k = 1} (rw (c .before .enum-told7 .given .1) at (c .before .before .before .before .before .before .pre .0)), starts {k = 1} (rw (c .before .enum-told7 .given .1) at (c .before .before .before .before .before .before .pre .1 .0))))
 
 -- src/lib.rt:99:38
 number-requires : tie.Need-number-requires
@@ -126,7 +127,7 @@ enum-told-9 c = search needs
 
 -- src/lib.rt:101:50
 ord-requires-2 : tie.Need-ord-requires-2
-ord-requires-2 c κs = ((omega arith, omega arith), (wide {k = 2} (omega arith) (rw (c .before .enum-told9 .given .1) at (c .before .before .before .before .before .before .pre .0)), wide {k = 2} (omega arith) (rw (c .before .enum-told9 .given .1) at (c .before .before .before .before .before .before .pre .1 .0))))
+ord-requires-2 c κs = ((omega arith, omega arith), (starts {k = 2} (rw (c .before .enum-told9 .given .1) at (c .before .before .before .before .before .before .pre .0)), starts {k = 2} (rw (c .before .enum-told9 .given .1) at (c .before .before .before .before .before .before .pre .1 .0))))
 
 -- src/lib.rt:101:43
 number-requires-2 : tie.Need-number-requires-2
@@ -143,7 +144,7 @@ same-length c = search needs
 -- src/lib.rt:85:1
 returns : tie.Need-returns
 unfolding answer
-returns c = rw (c .before .before .before .before .enum-told .given .1) (c .before .before .gcd .ensures .0, c .before .before .gcd .ensures .1)
+returns c = rw (c .before .before .before .before .enum-told .given .1) (rw (first-whole {k = 1} (rw (c .before .before .before .before .enum-told .given .1) at (c .before .before .before .before .before .before .before .before .before .pre .0)), first-whole {k = 1} (rw (c .before .before .before .before .enum-told .given .1) at (c .before .before .before .before .before .before .before .before .before .pre .1 .0))) at (c .before .before .gcd .ensures))
 
 -- src/lib.rt:85:1
 same-length-2 : tie.Need-same-length-2
@@ -152,7 +153,7 @@ same-length-2 c = search needs
 -- src/lib.rt:85:1
 returns-2 : tie.Need-returns-2
 unfolding answer
-returns-2 c = rw (c .before .before .before .before .enum-told2 .given .1) (c .before .before .mul .ensures .0, c .before .before .mul .ensures .1)
+returns-2 c = rw (c .before .before .before .before .enum-told2 .given .1) (rw (first-whole {k = 1} (rw (c .before .before .before .before .enum-told2 .given .1) at (c .before .before .before .before .before .before .before .before .before .pre .0)), first-whole {k = 1} (rw (c .before .before .before .before .enum-told2 .given .1) at (c .before .before .before .before .before .before .before .before .before .pre .1 .0))) at (c .before .before .mul .ensures))
 
 -- src/lib.rt:85:1
 same-length-3 : tie.Need-same-length-3
@@ -161,7 +162,7 @@ same-length-3 c = search needs
 -- src/lib.rt:85:1
 returns-3 : tie.Need-returns-3
 unfolding answer
-returns-3 c = rw (c .before .before .before .before .enum-told3 .given .1) (c .before .before .quotient .ensures .0, c .before .before .quotient .ensures .1)
+returns-3 c = rw (c .before .before .before .before .enum-told3 .given .1) (rw (first-whole {k = 1} (rw (c .before .before .before .before .enum-told3 .given .1) at (c .before .before .before .before .before .before .before .before .before .pre .0)), first-whole {k = 1} (rw (c .before .before .before .before .enum-told3 .given .1) at (c .before .before .before .before .before .before .before .before .before .pre .1 .0))) at (c .before .before .quotient .ensures))
 
 -- src/lib.rt:85:1
 same-length-4 : tie.Need-same-length-4
@@ -170,7 +171,7 @@ same-length-4 c = search needs
 -- src/lib.rt:85:1
 returns-4 : tie.Need-returns-4
 unfolding answer
-returns-4 c = rw (c .before .before .before .before .enum-told4 .given .1) (c .before .before .fraction-division .ensures .0, c .before .before .fraction-division .ensures .1)
+returns-4 c = rw (c .before .before .before .before .enum-told4 .given .1) (rw (first-whole {k = 1} (rw (c .before .before .before .before .enum-told4 .given .1) at (c .before .before .before .before .before .before .before .before .before .pre .0)), first-whole {k = 1} (rw (c .before .before .before .before .enum-told4 .given .1) at (c .before .before .before .before .before .before .before .before .before .pre .1 .0))) at (c .before .before .fraction-division .ensures))
 
 -- src/lib.rt:85:1
 same-length-5 : tie.Need-same-length-5
@@ -179,7 +180,7 @@ same-length-5 c = search needs
 -- src/lib.rt:85:1
 returns-5 : tie.Need-returns-5
 unfolding answer
-returns-5 c = rw (c .before .before .before .before .before .before .enum-told5 .given .1, ← (c .before .before .before .before .divides .ensures), ← (c .before .before .before .yes .ensures)) (c .before .before .put-answer .ensures .0, c .before .before .put-answer .ensures .1)
+returns-5 c = let d = rw (first-whole {k = 1} (rw (c .before .before .before .before .before .before .enum-told5 .given .1) at (c .before .before .before .before .before .before .before .before .before .before .before .pre .0)), first-whole {k = 1} (rw (c .before .before .before .before .before .before .enum-told5 .given .1) at (c .before .before .before .before .before .before .before .before .before .before .before .pre .1 .0))) at (c .before .before .before .before .divides .ensures) in rw (c .before .before .before .before .before .before .enum-told5 .given .1, ← d, ← (c .before .before .before .yes .ensures)) (c .before .before .put-answer .ensures)
 
 -- src/lib.rt:85:1
 same-length-6 : tie.Need-same-length-6
@@ -197,7 +198,7 @@ same-length-7 c = search needs
 -- src/lib.rt:85:1
 returns-7 : tie.Need-returns-7
 unfolding answer
-returns-7 c = rw (c .before .before .before .before .before .before .enum-told7 .given .1, ← (c .before .before .before .before .ord .ensures), ← (c .before .before .before .number .ensures)) (c .before .before .put-answer3 .ensures .0, c .before .before .put-answer3 .ensures .1)
+returns-7 c = let d = rw (first-whole {k = 1} (rw (c .before .before .before .before .before .before .enum-told7 .given .1) at (c .before .before .before .before .before .before .before .before .before .before .before .pre .0)), first-whole {k = 1} (rw (c .before .before .before .before .before .before .enum-told7 .given .1) at (c .before .before .before .before .before .before .before .before .before .before .before .pre .1 .0))) at (c .before .before .before .before .ord .ensures) in rw (c .before .before .before .before .before .before .enum-told7 .given .1, ← d, ← (c .before .before .before .number .ensures)) (c .before .before .put-answer3 .ensures)
 
 -- src/lib.rt:85:1
 same-length-8 : tie.Need-same-length-8
@@ -215,7 +216,7 @@ same-length-9 c = search needs
 -- src/lib.rt:85:1
 returns-9 : tie.Need-returns-9
 unfolding answer
-returns-9 c = rw (c .before .before .before .before .before .before .enum-told9 .given .1, ← (c .before .before .before .before .ord2 .ensures), ← (c .before .before .before .number2 .ensures)) (c .before .before .put-answer5 .ensures .0, c .before .before .put-answer5 .ensures .1)
+returns-9 c = let d = rw (first-whole {k = 2} (rw (c .before .before .before .before .before .before .enum-told9 .given .1) at (c .before .before .before .before .before .before .before .before .before .before .before .pre .0)), first-whole {k = 2} (rw (c .before .before .before .before .before .before .enum-told9 .given .1) at (c .before .before .before .before .before .before .before .before .before .before .before .pre .1 .0))) at (c .before .before .before .before .ord2 .ensures) in rw (c .before .before .before .before .before .before .enum-told9 .given .1, ← d, ← (c .before .before .before .number2 .ensures)) (c .before .before .put-answer5 .ensures)
 
 pub answer-spec : {M : Type 1} → statement M
 answer-spec =

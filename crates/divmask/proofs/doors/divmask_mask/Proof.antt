@@ -1,3 +1,6 @@
+use Rattle.monomial.proofs.Firsts.{starts-whole}
+use Rattle.divmask.proofs.Masks.{mask-whole}
+use Rattle.words.specs.Words.{words}
 use native.Mathlib.Omega.{arith}
 use mathlib.Core.Path.{refl, sym, _∙_}
 use borrow.Author.Tests.{not-true, not-false, le-leb, lt-leb}
@@ -41,7 +44,7 @@ returns-3 c = rw (sym (c .before .before .before .before .maxima-good .ensures) 
 
 -- src/doors.rt:24:24
 map-requires : tie.Need-map-requires
-map-requires c κs = (lent-maxima (c .before .before .before .before .before .before .before .before .before .args .variables) (c .before .before .before .before .before .before .before .before .before .args .maxima .now) .0 (sym (c .before .before .before .before .before .maxima-good .ensures) ∙ not-false _ (c .before .before .before .before .if1 .left)) .1, lent-canonical 1 (c .before .before .before .before .before .before .before .before .before .args .variables) (c .before .before .before .before .before .before .before .before .before .args .monomial .now) .0 (sym (c .before .before .before .is-canonical .ensures) ∙ not-false _ (c .before .before .if2 .left)) .1)
+map-requires c κs = (lent-maxima (c .before .before .before .before .before .before .before .before .before .args .variables) (c .before .before .before .before .before .before .before .before .before .args .maxima .now) .0 (sym (c .before .before .before .before .before .maxima-good .ensures) ∙ not-false _ (c .before .before .before .before .if1 .left)) .1, starts-whole (lent-canonical 1 (c .before .before .before .before .before .before .before .before .before .args .variables) (c .before .before .before .before .before .before .before .before .before .args .monomial .now) .0 (sym (c .before .before .before .is-canonical .ensures) ∙ not-false _ (c .before .before .if2 .left)) .1))
 
 -- src/doors.rt:24:5
 put-requires : tie.Need-put-requires
@@ -54,7 +57,7 @@ same-length c = search needs
 -- src/doors.rt:10:1
 returns-4 : tie.Need-returns-4
 unfolding maskNumber maskBytes
-returns-4 c = rw (sym (c .before .before .before .before .before .before .before .before .before .maxima-good .ensures) ∙ not-false _ (c .before .before .before .before .before .before .before .before .if1 .left), sym (c .before .before .before .before .before .before .before .is-canonical .ensures) ∙ not-false _ (c .before .before .before .before .before .before .if2 .left), le-leb 4 (length (c .before .before .before .before .before .before .before .before .before .before .before .before .before .args .out .now)) (omega arith), ← (c .before .before .before .map .ensures)) (refl, c .before .before .put .ensures ∙ put-one (c .before .before .before .before .before .before .before .before .before .before .before .before .before .args .out .now) (c .before .before .before .map .result) (omega arith))
+returns-4 c = let w = c .before .before .before .map .ensures ∙ mask-whole (words (c .before .before .before .before .before .before .before .before .before .before .before .before .before .args .maxima .now)) (lent-canonical 1 (c .before .before .before .before .before .before .before .before .before .before .before .before .before .args .variables) (c .before .before .before .before .before .before .before .before .before .before .before .before .before .args .monomial .now) .0 (sym (c .before .before .before .before .before .before .before .is-canonical .ensures) ∙ not-false _ (c .before .before .before .before .before .before .if2 .left)) .1) in rw (sym (c .before .before .before .before .before .before .before .before .before .maxima-good .ensures) ∙ not-false _ (c .before .before .before .before .before .before .before .before .if1 .left), sym (c .before .before .before .before .before .before .before .is-canonical .ensures) ∙ not-false _ (c .before .before .before .before .before .before .if2 .left), le-leb 4 (length (c .before .before .before .before .before .before .before .before .before .before .before .before .before .args .out .now)) (omega arith), ← w) (refl, c .before .before .put .ensures ∙ put-one (c .before .before .before .before .before .before .before .before .before .before .before .before .before .args .out .now) (c .before .before .before .map .result) (omega arith))
 
 pub divmask-mask-spec : {M : Type 1} → statement M
 divmask-mask-spec =

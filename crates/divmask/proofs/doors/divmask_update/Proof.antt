@@ -1,3 +1,4 @@
+use Rattle.monomial.proofs.Firsts.{starts-whole, first-whole}
 use mathlib.Core.Path.{refl, sym, _∙_}
 use borrow.Author.Tests.{not-true, not-false}
 use Rattle.divmask.proofs.Growth.{lent-maxima}
@@ -40,7 +41,7 @@ returns-2 c = rw (sym (c .before .before .before .maxima-good .ensures) ∙ not-
 
 -- src/doors.rt:51:5
 update-requires : tie.Need-update-requires
-update-requires c κs = let g = lent-maxima (c .before .before .before .before .before .before .before .before .args .variables) (c .before .before .before .before .before .before .before .before .args .maxima .now) .0 (sym (c .before .before .before .before .maxima-good .ensures) ∙ not-false _ (c .before .before .before .if1 .left)) in (g .0, (g .1, lent-canonical 1 (c .before .before .before .before .before .before .before .before .args .variables) (c .before .before .before .before .before .before .before .before .args .monomial .now) .0 (sym (c .before .before .is-canonical .ensures) ∙ not-false _ (c .before .if2 .left)) .1))
+update-requires c κs = let g = lent-maxima (c .before .before .before .before .before .before .before .before .args .variables) (c .before .before .before .before .before .before .before .before .args .maxima .now) .0 (sym (c .before .before .before .before .maxima-good .ensures) ∙ not-false _ (c .before .before .before .if1 .left)) in (g .0, (g .1, starts-whole (lent-canonical 1 (c .before .before .before .before .before .before .before .before .args .variables) (c .before .before .before .before .before .before .before .before .args .monomial .now) .0 (sym (c .before .before .is-canonical .ensures) ∙ not-false _ (c .before .if2 .left)) .1)))
 
 -- src/doors.rt:40:1
 same-length-3 : tie.Need-same-length-3
@@ -49,7 +50,7 @@ same-length-3 c = search needs
 -- src/doors.rt:40:1
 returns-3 : tie.Need-returns-3
 unfolding updateNumber updateBytes
-returns-3 c = rw (sym (c .before .before .before .before .before .before .before .maxima-good .ensures) ∙ not-false _ (c .before .before .before .before .before .before .if1 .left), sym (c .before .before .before .before .before .is-canonical .ensures) ∙ not-false _ (c .before .before .before .before .if2 .left)) (refl, c .before .before .update .ensures)
+returns-3 c = rw (sym (c .before .before .before .before .before .before .before .maxima-good .ensures) ∙ not-false _ (c .before .before .before .before .before .before .if1 .left), sym (c .before .before .before .before .before .is-canonical .ensures) ∙ not-false _ (c .before .before .before .before .if2 .left)) (refl, rw (first-whole (lent-canonical 1 (c .before .before .before .before .before .before .before .before .before .before .before .args .variables) (c .before .before .before .before .before .before .before .before .before .before .before .args .monomial .now) .0 (sym (c .before .before .before .before .before .is-canonical .ensures) ∙ not-false _ (c .before .before .before .before .if2 .left)) .1)) at (c .before .before .update .ensures))
 
 pub divmask-update-spec : {M : Type 1} → statement M
 divmask-update-spec =

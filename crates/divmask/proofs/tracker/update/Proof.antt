@@ -1,3 +1,5 @@
+use Rattle.monomial.specs.Monomial.{first}
+use Rattle.monomial.proofs.Firsts.{seen, first-bytes, first-canonical}
 use native.Mathlib.Omega.{arith}
 use lib.ListN.{length}
 use Prim.Native.Nat.{_-_}
@@ -13,18 +15,18 @@ use Rattle.words.proofs.get.Reads as get-reads
 use Rattle.words.proofs.put.Reads as put-reads
 
 abbrev Inv-loop : tie.InvT-loop
-Inv-loop maxima₀ variables monomial i₀ maxima i = Updating variables (words monomial) maxima₀ maxima i
+Inv-loop maxima₀ variables monomial i₀ maxima i = Updating variables (first 1 (words monomial)) maxima₀ maxima i
 
 abbrev μ-loop : tie.MeasureT-loop
-μ-loop maxima₀ variables monomial i₀ maxima i = length (words monomial) - i
+μ-loop maxima₀ variables monomial i₀ maxima i = length (first 1 (words monomial)) - i
 
 -- src/tracker.rt:49:5
 loop-holds : tie.Need-loop-holds Inv-loop μ-loop
-loop-holds c = begin (c .before .before .args .variables) (words (c .before .before .args .monomial .now)) (c .before .before .args .maxima .now) (c .before .before .pre .1 .1) (c .before .before .pre .1 .0) (c .before .before .pre .0) (λ k. omega (arith, (c .before .slice-known .given) k))
+loop-holds c = begin (c .before .before .args .maxima .now) (first-canonical (omega arith) (c .before .before .pre .1 .1)) (c .before .before .pre .1 .0) (c .before .before .pre .0) (λ k. omega (arith, (c .before .slice-known .given) k))
 
 -- src/tracker.rt:50:13
 get-requires : tie.Need-get-requires Inv-loop μ-loop
-get-requires c κs = omega (arith, length-words (c .before .before .before .args .monomial .now), within (c .loop .inv .ra))
+get-requires c κs = omega (arith, first-bytes 1 (c .before .before .before .args .monomial .now), within (c .loop .inv .ra))
 
 -- src/tracker.rt:52:13
 same-length : tie.Need-same-length Inv-loop μ-loop
@@ -32,7 +34,7 @@ same-length c = c .before .before .loop .inv .kept
 
 -- src/tracker.rt:52:13
 returns : tie.Need-returns Inv-loop μ-loop
-returns c = at-end (c .before .before .before .before .before .args .variables) (words (c .before .before .before .before .before .args .monomial .now)) (c .before .before .before .before .before .args .maxima .now) (c .before .before .loop .maxima) (c .before .before .loop .i) (c .before .before .loop .inv) (c .before .get .result) (c .before .get .ensures) (c .if1 .taken)
+returns c = at-end (c .before .before .loop .inv) (seen _ (c .before .before .loop .inv .ra) (c .before .get .ensures)) (c .if1 .taken)
 
 -- src/tracker.rt:54:17
 cast-v : tie.Need-cast-v Inv-loop μ-loop
@@ -40,7 +42,7 @@ cast-v c = omega arith
 
 -- src/tracker.rt:56:17
 get-requires-2 : tie.Need-get-requires-2 Inv-loop μ-loop
-get-requires-2 c κs = omega (arith, variable (c .before .before .before .before .before .before .args .variables) (words (c .before .before .before .before .before .before .args .monomial .now)) (c .before .before .before .before .before .before .args .maxima .now) (c .before .before .before .loop .maxima) (c .before .before .before .loop .i) (c .before .before .before .loop .inv) (c .before .before .get .result) (c .before .before .get .ensures) (c .before .if1 .left) .known, c .before .before .before .loop .inv .kept, c .before .before .before .loop .inv .whole)
+get-requires-2 c κs = omega (arith, variable (c .before .before .before .loop .inv) (seen _ (c .before .before .before .loop .inv .ra) (c .before .before .get .ensures)) (c .before .if1 .left) .known, c .before .before .before .loop .inv .kept, c .before .before .before .loop .inv .whole)
 
 -- src/tracker.rt:57:13
 same-length-2 : tie.Need-same-length-2 Inv-loop μ-loop
@@ -48,23 +50,23 @@ same-length-2 c = c .before .before .before .before .before .loop .inv .kept
 
 -- src/tracker.rt:57:13
 returns-2 : tie.Need-returns-2 Inv-loop μ-loop
-returns-2 c = not-above (c .before .before .before .before .before .before .before .before .args .variables) (words (c .before .before .before .before .before .before .before .before .args .monomial .now)) (c .before .before .before .before .before .before .before .before .args .maxima .now) (c .before .before .before .before .before .loop .maxima) (c .before .before .before .before .before .loop .i) (c .before .before .before .before .before .loop .inv) (c .before .before .before .before .get .result) (c .before .before .before .before .get .ensures) (c .before .before .before .if1 .left) (omega (arith, c .before .get2 .ensures))
+returns-2 c = not-above (c .before .before .before .before .before .loop .inv) (seen _ (c .before .before .before .before .before .loop .inv .ra) (c .before .before .before .before .get .ensures)) (c .before .before .before .if1 .left) (omega (arith, c .before .get2 .ensures))
 
 -- src/tracker.rt:59:9
 put-requires : tie.Need-put-requires Inv-loop μ-loop
-put-requires c κs = omega (arith, variable (c .before .before .before .before .before .before .before .before .before .args .variables) (words (c .before .before .before .before .before .before .before .before .before .args .monomial .now)) (c .before .before .before .before .before .before .before .before .before .args .maxima .now) (c .before .before .before .before .before .before .loop .maxima) (c .before .before .before .before .before .before .loop .i) (c .before .before .before .before .before .before .loop .inv) (c .before .before .before .before .before .get .result) (c .before .before .before .before .before .get .ensures) (c .before .before .before .before .if1 .left) .known, c .before .before .before .before .before .before .loop .inv .kept, c .before .before .before .before .before .before .loop .inv .whole)
+put-requires c κs = omega (arith, variable (c .before .before .before .before .before .before .loop .inv) (seen _ (c .before .before .before .before .before .before .loop .inv .ra) (c .before .before .before .before .before .get .ensures)) (c .before .before .before .before .if1 .left) .known, c .before .before .before .before .before .before .loop .inv .kept, c .before .before .before .before .before .before .loop .inv .whole)
 
 -- src/tracker.rt:60:9
 add-i : tie.Need-add-i Inv-loop μ-loop
-add-i c = omega (arith, length-words (c .before .before .before .before .before .before .before .before .before .before .before .before .args .monomial .now), within (c .before .before .before .before .before .before .before .before .before .loop .inv .ra))
+add-i c = omega (arith, first-bytes 1 (c .before .before .before .before .before .before .before .before .before .before .before .before .args .monomial .now), within (c .before .before .before .before .before .before .before .before .before .loop .inv .ra))
 
 -- src/tracker.rt:49:5
 loop-less : tie.Need-loop-less Inv-loop μ-loop
-loop-less c = omega (arith, length-words (c .before .before .before .before .before .before .before .before .before .before .before .before .args .monomial .now), within (c .before .before .before .before .before .before .before .before .before .loop .inv .ra))
+loop-less c = omega (arith, within (c .before .before .before .before .before .before .before .before .before .loop .inv .ra))
 
 -- src/tracker.rt:49:5
 loop-again : tie.Need-loop-again Inv-loop μ-loop
-loop-again c = raises (c .before .before .before .before .before .before .before .before .before .before .before .before .args .variables) (words (c .before .before .before .before .before .before .before .before .before .before .before .before .args .monomial .now)) (c .before .before .before .before .before .before .before .before .before .before .before .before .args .maxima .now) (c .before .before .before .before .before .before .before .before .before .loop .maxima) (c .before .before .before .before .before .before .before .before .before .loop .i) (c .before .before .before .before .before .before .before .before .before .loop .inv) (c .before .before .before .before .before .before .before .before .get .result) (c .before .before .before .before .before .before .before .before .get .ensures) (c .before .before .before .before .before .before .before .if1 .left) (omega (arith, c .before .before .before .before .before .get2 .ensures)) (c .before .before .put .last .0) (c .before .before .put .ensures) (λ k. omega (arith, (c .slice-known2 .given) k))
+loop-again c = raises (c .before .before .before .before .before .before .before .before .before .loop .inv) (seen _ (c .before .before .before .before .before .before .before .before .before .loop .inv .ra) (c .before .before .before .before .before .before .before .before .get .ensures)) (c .before .before .before .before .before .before .before .if1 .left) (omega (arith, c .before .before .before .before .before .get2 .ensures)) (c .before .before .put .ensures) (λ k. omega (arith, (c .slice-known2 .given) k))
 
 pub update-spec : {M : Type 1} → statement M
 update-spec =

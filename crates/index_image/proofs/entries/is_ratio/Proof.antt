@@ -5,7 +5,8 @@ use lib.ListN.{length}
 use Rattle.words.specs.Words.{words}
 use Rattle.monomial.specs.Operations.{result, equal}
 use Rattle.monomial.specs.declared.ordered_ops.Op.{Op}
-use Rattle.monomial.proofs.Laws.{canonical-more, length-result}
+use Rattle.monomial.proofs.Laws.{length-result}
+use Rattle.monomial.proofs.Firsts.{starts-wide, starts-whole, first-whole}
 use Rattle.index_image.proofs.Slots.{MadeAside, made-aside}
 use borrow.Author.Needs.{needs}
 use Rattle.index_image.proofs.entries.is_ratio.Statement.{statement}
@@ -21,19 +22,19 @@ slice-aggregate-fraction-division c = search needs
 
 -- src/entries.rt:45:9
 fraction-division-requires : tie.Need-fraction-division-requires
-fraction-division-requires c κs = (canonical-more (omega arith) (omega arith) (c .before .before .before .before .pre .0), (canonical-more (omega arith) (omega arith) (c .before .before .before .before .pre .1), omega (arith, length-result 64 (words (c .before .before .before .before .args .a .now)) (words (c .before .before .before .before .args .b .now)) (c .before .before .before .before .pre .0) (c .before .before .before .before .pre .1) Op.Ratio (omega arith))))
+fraction-division-requires c κs = let ca = c .before .before .before .before .pre .0 in let cb = c .before .before .before .before .pre .1 in (starts-wide (starts-whole ca), (starts-wide (starts-whole cb), rw (first-whole ca, first-whole cb) (omega (arith, length-result 64 (words (c .before .before .before .before .args .a .now)) (words (c .before .before .before .before .args .b .now)) ca cb Op.Ratio (omega arith)))))
 
 -- src/entries.rt:46:13
 mul-e : tie.Need-mul-e
-mul-e c = omega (arith, c .before .fraction-division .ensures .0, length-result 64 (words (c .before .before .before .before .before .before .args .a .now)) (words (c .before .before .before .before .before .before .args .b .now)) (c .before .before .before .before .before .before .pre .0) (c .before .before .before .before .before .before .pre .1) Op.Ratio (omega arith))
+mul-e c = omega (arith, rw (first-whole (c .before .before .before .before .before .before .pre .0), first-whole (c .before .before .before .before .before .before .pre .1)) at (c .before .fraction-division .ensures .0), length-result 64 (words (c .before .before .before .before .before .before .args .a .now)) (words (c .before .before .before .before .before .before .args .b .now)) (c .before .before .before .before .before .before .pre .0) (c .before .before .before .before .before .before .pre .1) Op.Ratio (omega arith))
 
 -- src/entries.rt:47:18
 array-share-prefix-made : tie.Need-array-share-prefix-made
-array-share-prefix-made c = (made-aside Op.Ratio (words (c .before .before .before .before .before .before .args .a .now)) (words (c .before .before .before .before .before .before .args .b .now)) _ (c .before .fraction-division .last .1 .1 .0) (c .before .fraction-division .result) (c .before .before .before .before .before .before .pre .0) (c .before .before .before .before .before .before .pre .1) refl (c .before .fraction-division .ensures .0) (c .before .fraction-division .ensures .1)) .room
+array-share-prefix-made c = (made-aside Op.Ratio (words (c .before .before .before .before .before .before .args .a .now)) (words (c .before .before .before .before .before .before .args .b .now)) _ (c .before .fraction-division .last .1 .1 .0) (c .before .fraction-division .result) (c .before .before .before .before .before .before .pre .0) (c .before .before .before .before .before .before .pre .1) refl (rw (first-whole (c .before .before .before .before .before .before .pre .0), first-whole (c .before .before .before .before .before .before .pre .1)) at (c .before .fraction-division .ensures .0)) (rw (first-whole (c .before .before .before .before .before .before .pre .0), first-whole (c .before .before .before .before .before .before .pre .1)) at (c .before .fraction-division .ensures .1))) .room
 
 -- src/entries.rt:47:18
 slice-aggregate-eq : tie.Need-slice-aggregate-eq
-slice-aggregate-eq c = sym ((made-aside Op.Ratio (words (c .before .before .before .before .before .before .before .args .a .now)) (words (c .before .before .before .before .before .before .before .args .b .now)) _ (c .before .before .fraction-division .last .1 .1 .0) (c .before .before .fraction-division .result) (c .before .before .before .before .before .before .before .pre .0) (c .before .before .before .before .before .before .before .pre .1) refl (c .before .before .fraction-division .ensures .0) (c .before .before .fraction-division .ensures .1)) .size)
+slice-aggregate-eq c = sym ((made-aside Op.Ratio (words (c .before .before .before .before .before .before .before .args .a .now)) (words (c .before .before .before .before .before .before .before .args .b .now)) _ (c .before .before .fraction-division .last .1 .1 .0) (c .before .before .fraction-division .result) (c .before .before .before .before .before .before .before .pre .0) (c .before .before .before .before .before .before .before .pre .1) refl (rw (first-whole (c .before .before .before .before .before .before .before .pre .0), first-whole (c .before .before .before .before .before .before .before .pre .1)) at (c .before .before .fraction-division .ensures .0)) (rw (first-whole (c .before .before .before .before .before .before .before .pre .0), first-whole (c .before .before .before .before .before .before .before .pre .1)) at (c .before .before .fraction-division .ensures .1))) .size)
 
 -- src/entries.rt:47:5
 eq-requires : tie.Need-eq-requires
@@ -41,7 +42,7 @@ eq-requires c κs = search needs
 
 -- src/entries.rt:39:1
 returns : tie.Need-returns
-returns c = c .eq .ensures ∙ rw ((made-aside Op.Ratio (words (c .before .before .before .before .before .before .before .before .args .a .now)) (words (c .before .before .before .before .before .before .before .before .args .b .now)) _ (c .before .before .before .fraction-division .last .1 .1 .0) (c .before .before .before .fraction-division .result) (c .before .before .before .before .before .before .before .before .pre .0) (c .before .before .before .before .before .before .before .before .pre .1) refl (c .before .before .before .fraction-division .ensures .0) (c .before .before .before .fraction-division .ensures .1)) .are)
+returns c = c .eq .ensures ∙ rw ((made-aside Op.Ratio (words (c .before .before .before .before .before .before .before .before .args .a .now)) (words (c .before .before .before .before .before .before .before .before .args .b .now)) _ (c .before .before .before .fraction-division .last .1 .1 .0) (c .before .before .before .fraction-division .result) (c .before .before .before .before .before .before .before .before .pre .0) (c .before .before .before .before .before .before .before .before .pre .1) refl (rw (first-whole (c .before .before .before .before .before .before .before .before .pre .0), first-whole (c .before .before .before .before .before .before .before .before .pre .1)) at (c .before .before .before .fraction-division .ensures .0)) (rw (first-whole (c .before .before .before .before .before .before .before .before .pre .0), first-whole (c .before .before .before .before .before .before .before .before .pre .1)) at (c .before .before .before .fraction-division .ensures .1))) .are)
 
 pub is-ratio-spec : {M : Type 1} → statement M
 is-ratio-spec =

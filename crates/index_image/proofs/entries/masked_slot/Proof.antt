@@ -1,3 +1,5 @@
+use Rattle.monomial.proofs.Firsts.{starts-whole, first-whole}
+use Rattle.words.proofs.Laws.{words-small}
 use native.Mathlib.Omega.{arith}
 use mathlib.Core.Path.{sym, _∙_}
 use borrow.Author.Tests.{not-true, not-false}
@@ -98,7 +100,7 @@ part-map-end-2 c = omega (arith, (found-slot (c .before .before .before .before 
 
 -- src/entries.rt:31:9
 map-requires : tie.Need-map-requires
-map-requires c κs = (rw (range-words (c .before .before .before .before .before .before .before .args .image .now) (c .before .before .before .before .before .before .before .args .map) (c .before .before .before .before .before .before .before .args .variables)) (c .before .before .before .before .before .before .before .pre .0), rw (range-words (c .before .before .before .before .before .before .before .args .image .now) (c .before .before .before .before .before .before .before .args .i) (c .before .before .before .before .before .canonical-words .result)) ((found-slot (c .before .before .before .before .before .before .before .args .image .now) (c .before .before .before .before .before .before .before .args .variables) (c .before .before .before .before .before .before .before .args .i) (c .before .before .before .before .before .canonical-words .result) (c .before .before .before .before .before .before .before .pre .0 .few) (c .before .before .before .before .before .canonical-words .ensures) (c .before .before .before .before .if1 .left)) .canonical))
+map-requires c κs = (rw (range-words (c .before .before .before .before .before .before .before .args .image .now) (c .before .before .before .before .before .before .before .args .map) (c .before .before .before .before .before .before .before .args .variables)) (c .before .before .before .before .before .before .before .pre .0), rw (range-words (c .before .before .before .before .before .before .before .args .image .now) (c .before .before .before .before .before .before .before .args .i) (c .before .before .before .before .before .canonical-words .result)) (starts-whole (found-slot (c .before .before .before .before .before .before .before .args .image .now) (c .before .before .before .before .before .before .before .args .variables) (c .before .before .before .before .before .before .before .args .i) (c .before .before .before .before .before .canonical-words .result) (c .before .before .before .before .before .before .before .pre .0 .few) (c .before .before .before .before .before .canonical-words .ensures) (c .before .before .before .before .if1 .left) .canonical)))
 
 -- src/entries.rt:32:28
 add-get : tie.Need-add-get
@@ -114,7 +116,7 @@ get-requires c κs = search needs
 
 -- src/entries.rt:13:1
 returns-3 : tie.Need-returns-3
-returns-3 c = masked-iff (words (c .before .before .before .before .before .before .before .before .before .args .image .now)) (c .before .before .before .before .before .before .before .before .before .args .variables) (part (words (c .before .before .before .before .before .before .before .before .before .args .image .now)) (c .before .before .before .before .before .before .before .before .before .args .map) (c .before .before .before .before .before .before .before .before .before .args .variables)) (c .before .before .before .before .before .before .before .before .before .args .i) (c .before .before .before .before .before .before .before .canonical-words .result) (c .get .result) (c .before .map .result) (c .before .before .before .before .before .before .before .canonical-words .ensures) (c .before .before .before .before .before .before .if1 .left) ((c .before .before .before .before .before .is-blank .ensures .0) (not-false _ (c .before .before .before .before .if2 .left))) (c .get .ensures) (rw (range-words (c .before .before .before .before .before .before .before .before .before .args .image .now) (c .before .before .before .before .before .before .before .before .before .args .map) (c .before .before .before .before .before .before .before .before .before .args .variables), range-words (c .before .before .before .before .before .before .before .before .before .args .image .now) (c .before .before .before .before .before .before .before .before .before .args .i) (c .before .before .before .before .before .before .before .canonical-words .result)) at (c .before .map .ensures))
+returns-3 c = masked-iff (words (c .before .before .before .before .before .before .before .before .before .args .image .now)) (c .before .before .before .before .before .before .before .before .before .args .variables) (part (words (c .before .before .before .before .before .before .before .before .before .args .image .now)) (c .before .before .before .before .before .before .before .before .before .args .map) (c .before .before .before .before .before .before .before .before .before .args .variables)) (c .before .before .before .before .before .before .before .before .before .args .i) (c .before .before .before .before .before .before .before .canonical-words .result) (c .get .result) (c .before .map .result) (c .before .before .before .before .before .before .before .canonical-words .ensures) (c .before .before .before .before .before .before .if1 .left) ((c .before .before .before .before .before .is-blank .ensures .0) (not-false _ (c .before .before .before .before .if2 .left))) (words-small (c .before .before .before .before .before .before .before .before .before .args .image .now) (λ j. (c .before .before .before .before .before .before .before .before .shared-slice-known .given) j .fits) _) (c .get .ensures) (rw (range-words (c .before .before .before .before .before .before .before .before .before .args .image .now) (c .before .before .before .before .before .before .before .before .before .args .map) (c .before .before .before .before .before .before .before .before .before .args .variables), range-words (c .before .before .before .before .before .before .before .before .before .args .image .now) (c .before .before .before .before .before .before .before .before .before .args .i) (c .before .before .before .before .before .before .before .canonical-words .result), first-whole (found-slot (c .before .before .before .before .before .before .before .before .before .args .image .now) (c .before .before .before .before .before .before .before .before .before .args .variables) (c .before .before .before .before .before .before .before .before .before .args .i) (c .before .before .before .before .before .before .before .canonical-words .result) (c .before .before .before .before .before .before .before .before .before .pre .0 .few) (c .before .before .before .before .before .before .before .canonical-words .ensures) (c .before .before .before .before .before .before .if1 .left) .canonical)) at (c .before .map .ensures))
 
 pub masked-slot-spec : {M : Type 1} → statement M
 masked-slot-spec =

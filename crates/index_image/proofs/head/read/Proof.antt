@@ -1,9 +1,9 @@
 use native.Mathlib.Omega.{arith}
-use mathlib.Core.Path.{_≡_, sym, _∙_}
-use borrow.Author.Tests.{not-true, not-false}
+use mathlib.Core.Path.{sym, _∙_}
+use lib.ListN.{length}
 use Rattle.words.specs.Words.{words}
 use Rattle.words.proofs.Tables.{never}
-use lib.ListN.{length}
+use borrow.Author.Tests.{not-true, not-false}
 use Rattle.index_image.proofs.Bounds.{size-small}
 use Rattle.index_image.proofs.Heads.{long-enough, bad, out-of-range, too-short, good}
 use borrow.Author.Needs.{needs}
@@ -16,87 +16,95 @@ use Rattle.index_image.proofs.head.in_range.Reads as in-range-reads
 use Rattle.words.proofs.get.Reads as get-reads
 use Rattle.words.proofs.runs.is_blank.Reads as is-blank-reads
 
--- src/head.rt:52:9
+-- src/head.rt:52:22
+mul-if1 : tie.Need-mul-if1
+mul-if1 c = search needs
+
+-- src/head.rt:53:9
 returns : tie.Need-returns
 returns c = bad (words (c .before .before .args .image .now)) (length (c .before .before .args .image .now)) (λ s h. omega (arith, long-enough (words (c .before .before .args .image .now)) (length (c .before .before .args .image .now)) s h, c .if1 .taken))
 
--- src/head.rt:54:8
+-- src/head.rt:55:8
 get-requires : tie.Need-get-requires
 get-requires c κs = search needs
 
--- src/head.rt:55:9
+-- src/head.rt:56:9
 returns-2 : tie.Need-returns-2
 returns-2 c = bad (words (c .before .before .before .before .args .image .now)) (length (c .before .before .before .before .args .image .now)) (λ s h. (c .if2 .taken) (c .before .get .ensures ∙ h .layout))
 
--- src/head.rt:58:15
+-- src/head.rt:59:15
 get-requires-2 : tie.Need-get-requires-2
 get-requires-2 c κs = search needs
 
--- src/head.rt:58:15
+-- src/head.rt:59:15
 cast-if5 : tie.Need-cast-if5
 cast-if5 c = search needs
 
--- src/head.rt:59:20
+-- src/head.rt:60:20
 get-requires-3 : tie.Need-get-requires-3
 get-requires-3 c κs = search needs
 
--- src/head.rt:59:20
+-- src/head.rt:60:20
 cast-if5-2 : tie.Need-cast-if5-2
 cast-if5-2 c = search needs
 
--- src/head.rt:60:19
+-- src/head.rt:61:19
 get-requires-4 : tie.Need-get-requires-4
 get-requires-4 c κs = search needs
 
--- src/head.rt:60:19
-cast-t9 : tie.Need-cast-t9
-cast-t9 c = search needs
-
--- src/head.rt:61:18
-get-requires-5 : tie.Need-get-requires-5
-get-requires-5 c κs = search needs
-
--- src/head.rt:61:18
-cast-t11 : tie.Need-cast-t11
-cast-t11 c = search needs
-
--- src/head.rt:62:16
-get-requires-6 : tie.Need-get-requires-6
-get-requires-6 c κs = search needs
-
--- src/head.rt:62:16
+-- src/head.rt:61:19
 cast-if5-3 : tie.Need-cast-if5-3
 cast-if5-3 c = search needs
 
--- src/head.rt:64:9
+-- src/head.rt:62:18
+get-requires-5 : tie.Need-get-requires-5
+get-requires-5 c κs = search needs
+
+-- src/head.rt:62:18
+cast-t11 : tie.Need-cast-t11
+cast-t11 c = search needs
+
+-- src/head.rt:63:16
+get-requires-6 : tie.Need-get-requires-6
+get-requires-6 c κs = search needs
+
+-- src/head.rt:63:16
+cast-is-blank : tie.Need-cast-is-blank
+cast-is-blank c = search needs
+
+-- src/head.rt:65:52
+sub-is-blank : tie.Need-sub-is-blank
+sub-is-blank c = search needs
+
+-- src/head.rt:65:9
 is-blank-requires : tie.Need-is-blank-requires
 is-blank-requires c κs = search needs
 
--- src/head.rt:65:9
+-- src/head.rt:66:9
 returns-3 : tie.Need-returns-3
 returns-3 c = bad (words (c .before .before .before .before .before .before .before .before .before .before .before .args .image .now)) (length (c .before .before .before .before .before .before .before .before .before .before .before .args .image .now)) (λ s h. never (sym (not-true _ (c .if3 .taken)) ∙ (c .before .is-blank .ensures .1) (h .kept)))
 
--- src/head.rt:67:9
+-- src/head.rt:68:9
 in-range-requires : tie.Need-in-range-requires
 in-range-requires c κs = search needs
 
--- src/head.rt:68:9
+-- src/head.rt:69:9
 returns-4 : tie.Need-returns-4
 returns-4 c = out-of-range (words (c .before .before .before .before .before .before .before .before .before .before .before .before .before .args .image .now)) (length (c .before .before .before .before .before .before .before .before .before .before .before .before .before .args .image .now)) (c .before .before .before .before .before .before .before .before .get2 .result) (c .before .before .before .before .before .before .before .get3 .result) (c .before .before .before .before .before .before .get4 .result) (c .before .before .before .before .before .get5 .result) (c .before .before .before .before .get6 .result) (c .before .before .before .before .before .before .before .before .get2 .ensures) (c .before .before .before .before .before .before .before .get3 .ensures) (c .before .before .before .before .before .before .get4 .ensures) (c .before .before .before .before .before .get5 .ensures) (c .before .before .before .before .get6 .ensures) (λ r. never (sym (not-true _ (c .if4 .taken)) ∙ (c .before .in-range .ensures .1) r))
 
--- src/head.rt:70:26
+-- src/head.rt:71:26
 size-requires : tie.Need-size-requires
 size-requires c κs = ((c .before .in-range .ensures .0) (not-false _ (c .if4 .left)))
 
--- src/head.rt:70:22
+-- src/head.rt:71:22
 mul-if5 : tie.Need-mul-if5
 mul-if5 c = omega (arith, c .size .ensures, size-small _ ((c .before .before .in-range .ensures .0) (not-false _ (c .before .if4 .left))))
 
--- src/head.rt:71:9
+-- src/head.rt:72:9
 returns-5 : tie.Need-returns-5
 returns-5 c = too-short (words (c .before .before .before .before .before .before .before .before .before .before .before .before .before .before .before .args .image .now)) (length (c .before .before .before .before .before .before .before .before .before .before .before .before .before .before .before .args .image .now)) (c .before .before .before .before .before .before .before .before .before .before .get2 .result) (c .before .before .before .before .before .before .before .before .before .get3 .result) (c .before .before .before .before .before .before .before .before .get4 .result) (c .before .before .before .before .before .before .before .get5 .result) (c .before .before .before .before .before .before .get6 .result) (c .before .before .before .before .before .before .before .before .before .before .get2 .ensures) (c .before .before .before .before .before .before .before .before .before .get3 .ensures) (c .before .before .before .before .before .before .before .before .get4 .ensures) (c .before .before .before .before .before .before .before .get5 .ensures) (c .before .before .before .before .before .before .get6 .ensures) (omega (arith, c .before .size .ensures, c .if5 .taken))
 
--- src/head.rt:48:1
+-- src/head.rt:49:1
 returns-6 : tie.Need-returns-6
 returns-6 c = good (words (c .before .before .before .before .before .before .before .before .before .before .before .before .before .before .before .args .image .now)) (length (c .before .before .before .before .before .before .before .before .before .before .before .before .before .before .before .args .image .now)) (c .before .before .before .before .before .before .before .before .before .before .get2 .result) (c .before .before .before .before .before .before .before .before .before .get3 .result) (c .before .before .before .before .before .before .before .before .get4 .result) (c .before .before .before .before .before .before .before .get5 .result) (c .before .before .before .before .before .before .get6 .result) (c .before .before .before .before .before .before .before .before .before .before .get2 .ensures) (c .before .before .before .before .before .before .before .before .before .get3 .ensures) (c .before .before .before .before .before .before .before .before .get4 .ensures) (c .before .before .before .before .before .before .before .get5 .ensures) (c .before .before .before .before .before .before .get6 .ensures) (sym (c .before .before .before .before .before .before .before .before .before .before .before .before .get .ensures) ∙ c .before .before .before .before .before .before .before .before .before .before .before .if2 .left) ((c .before .before .before .before .before .is-blank .ensures .0) (not-false _ (c .before .before .before .before .if3 .left))) ((c .before .before .before .in-range .ensures .0) (not-false _ (c .before .before .if4 .left))) (omega (arith, c .before .size .ensures, c .if5 .left))
 
@@ -104,6 +112,7 @@ pub read-spec : {M : Type 1} → statement M
 read-spec =
     tie.close
     (tie.spec
+    mul-if1
     returns
     get-requires
     returns-2
@@ -112,11 +121,12 @@ read-spec =
     get-requires-3
     cast-if5-2
     get-requires-4
-    cast-t9
+    cast-if5-3
     get-requires-5
     cast-t11
     get-requires-6
-    cast-if5-3
+    cast-is-blank
+    sub-is-blank
     is-blank-requires
     returns-3
     in-range-requires

@@ -26,11 +26,11 @@ loop-holds c = (omega arith, (refl, none-marked (words (c .before .before .args 
 
 -- src/marks.rt:35:40
 mul-get : tie.Need-mul-get Inv-loop μ-loop
-mul-get c = omega (arith, times (c .before .loop .i) (c .before .before .before .before .args .w) 4096 134 (omega (arith, c .before .before .before .before .pre .0 .0)) (c .before .before .before .before .pre .0 .1 .0))
+mul-get c = omega (arith, times (c .before .loop .i) (c .before .before .before .before .args .w) 4096 136 (omega (arith, c .before .before .before .before .pre .0 .0)) (c .before .before .before .before .pre .0 .1 .0))
 
 -- src/marks.rt:35:35
 add-get : tie.Need-add-get Inv-loop μ-loop
-add-get c = omega (arith, times (c .before .loop .i) (c .before .before .before .before .args .w) 4096 134 (omega (arith, c .before .before .before .before .pre .0 .0)) (c .before .before .before .before .pre .0 .1 .0), c .before .before .before .before .pre .0 .1 .1)
+add-get c = omega (arith, times (c .before .loop .i) (c .before .before .before .before .args .w) 4096 136 (omega (arith, c .before .before .before .before .pre .0 .0)) (c .before .before .before .before .pre .0 .1 .0), c .before .before .before .before .pre .0 .1 .1)
 
 -- src/marks.rt:35:17
 get-requires : tie.Need-get-requires Inv-loop μ-loop

@@ -8,6 +8,7 @@ use Rattle.words.specs.Words.{words}
 use Rattle.monomial.specs.Operations.{result}
 use Rattle.monomial.specs.declared.ordered_ops.Op.the-variants.{Gcd}
 use Rattle.monomial.proofs.Laws.{canonical-more}
+use Rattle.monomial.proofs.Firsts.{starts-wide, starts-whole, first-whole}
 use Rattle.index_image.specs.Rows.{monomialIn}
 use Rattle.index_image.proofs.Gcds.{in-canonical}
 use Rattle.index_image.proofs.Reading.{front-pasted, gcd-fits, gcd-small, slots-gcd}
@@ -42,27 +43,27 @@ slice-aggregate-gcd c = search needs
 
 -- src/walk.rt:287:11
 gcd-requires : tie.Need-gcd-requires
-gcd-requires c κs = rw (c .before .before .monomial-in .ensures .is, c .before .monomial-in2 .ensures .is) (canonical-more (omega arith) (omega arith) (canonical-more (omega arith) (c .before .before .before .before .pre .0 .range .vars-to) (in-canonical (words (c .before .before .before .before .args .image .now)) (c .before .before .before .before .args .s .variables) ((c .before .before .before .before .args .a) + 5) (c .before .before .before .before .pre .1 .1 .0 .one))), (canonical-more (omega arith) (omega arith) (canonical-more (omega arith) (c .before .before .before .before .pre .0 .range .vars-to) (in-canonical (words (c .before .before .before .before .args .image .now)) (c .before .before .before .before .args .s .variables) ((c .before .before .before .before .args .b) + 5) (c .before .before .before .before .pre .1 .1 .0 .two))), omega (arith, gcd-fits (monomialIn (words (c .before .before .before .before .args .image .now)) (c .before .before .before .before .args .s .variables) ((c .before .before .before .before .args .a) + 5)) (monomialIn (words (c .before .before .before .before .args .image .now)) (c .before .before .before .before .args .s .variables) ((c .before .before .before .before .args .b) + 5)) (canonical-more (omega arith) (c .before .before .before .before .pre .0 .range .vars-to) (in-canonical (words (c .before .before .before .before .args .image .now)) (c .before .before .before .before .args .s .variables) ((c .before .before .before .before .args .a) + 5) (c .before .before .before .before .pre .1 .1 .0 .one))) (canonical-more (omega arith) (c .before .before .before .before .pre .0 .range .vars-to) (in-canonical (words (c .before .before .before .before .args .image .now)) (c .before .before .before .before .args .s .variables) ((c .before .before .before .before .args .b) + 5) (c .before .before .before .before .pre .1 .1 .0 .two))))))
+gcd-requires c κs = let ca = canonical-more (omega arith) (c .before .before .before .before .pre .0 .range .vars-to) (in-canonical (words (c .before .before .before .before .args .image .now)) (c .before .before .before .before .args .s .variables) ((c .before .before .before .before .args .a) + 5) (c .before .before .before .before .pre .1 .1 .0 .one)) in let cb = canonical-more (omega arith) (c .before .before .before .before .pre .0 .range .vars-to) (in-canonical (words (c .before .before .before .before .args .image .now)) (c .before .before .before .before .args .s .variables) ((c .before .before .before .before .args .b) + 5) (c .before .before .before .before .pre .1 .1 .0 .two)) in rw (c .before .before .monomial-in .ensures .is, c .before .monomial-in2 .ensures .is) (starts-wide (starts-whole ca), (starts-wide (starts-whole cb), rw (first-whole ca, first-whole cb) (omega (arith, gcd-fits (monomialIn (words (c .before .before .before .before .args .image .now)) (c .before .before .before .before .args .s .variables) ((c .before .before .before .before .args .a) + 5)) (monomialIn (words (c .before .before .before .before .args .image .now)) (c .before .before .before .before .args .s .variables) ((c .before .before .before .before .args .b) + 5)) ca cb))))
 
 -- src/walk.rt:286:13
 mul-e : tie.Need-mul-e
-mul-e c = omega (arith, gcd-fits (monomialIn (words (c .before .before .before .before .before .before .args .image .now)) (c .before .before .before .before .before .before .args .s .variables) ((c .before .before .before .before .before .before .args .a) + 5)) (monomialIn (words (c .before .before .before .before .before .before .args .image .now)) (c .before .before .before .before .before .before .args .s .variables) ((c .before .before .before .before .before .before .args .b) + 5)) (canonical-more (omega arith) (c .before .before .before .before .before .before .pre .0 .range .vars-to) (in-canonical (words (c .before .before .before .before .before .before .args .image .now)) (c .before .before .before .before .before .before .args .s .variables) ((c .before .before .before .before .before .before .args .a) + 5) (c .before .before .before .before .before .before .pre .1 .1 .0 .one))) (canonical-more (omega arith) (c .before .before .before .before .before .before .pre .0 .range .vars-to) (in-canonical (words (c .before .before .before .before .before .before .args .image .now)) (c .before .before .before .before .before .before .args .s .variables) ((c .before .before .before .before .before .before .args .b) + 5) (c .before .before .before .before .before .before .pre .1 .1 .0 .two))), (rw (c .before .before .before .before .monomial-in .ensures .is, c .before .before .before .monomial-in2 .ensures .is) at (c .before .gcd .ensures .0)))
+mul-e c = omega (arith, gcd-fits (monomialIn (words (c .before .before .before .before .before .before .args .image .now)) (c .before .before .before .before .before .before .args .s .variables) ((c .before .before .before .before .before .before .args .a) + 5)) (monomialIn (words (c .before .before .before .before .before .before .args .image .now)) (c .before .before .before .before .before .before .args .s .variables) ((c .before .before .before .before .before .before .args .b) + 5)) (canonical-more (omega arith) (c .before .before .before .before .before .before .pre .0 .range .vars-to) (in-canonical (words (c .before .before .before .before .before .before .args .image .now)) (c .before .before .before .before .before .before .args .s .variables) ((c .before .before .before .before .before .before .args .a) + 5) (c .before .before .before .before .before .before .pre .1 .1 .0 .one))) (canonical-more (omega arith) (c .before .before .before .before .before .before .pre .0 .range .vars-to) (in-canonical (words (c .before .before .before .before .before .before .args .image .now)) (c .before .before .before .before .before .before .args .s .variables) ((c .before .before .before .before .before .before .args .b) + 5) (c .before .before .before .before .before .before .pre .1 .1 .0 .two))), (rw (c .before .before .before .before .monomial-in .ensures .is, c .before .before .before .monomial-in2 .ensures .is, first-whole (canonical-more (omega arith) (c .before .before .before .before .before .before .pre .0 .range .vars-to) (in-canonical (words (c .before .before .before .before .before .before .args .image .now)) (c .before .before .before .before .before .before .args .s .variables) ((c .before .before .before .before .before .before .args .a) + 5) (c .before .before .before .before .before .before .pre .1 .1 .0 .one))), first-whole (canonical-more (omega arith) (c .before .before .before .before .before .before .pre .0 .range .vars-to) (in-canonical (words (c .before .before .before .before .before .before .args .image .now)) (c .before .before .before .before .before .before .args .s .variables) ((c .before .before .before .before .before .before .args .b) + 5) (c .before .before .before .before .before .before .pre .1 .1 .0 .two)))) at (c .before .gcd .ensures .0)))
 
 -- src/walk.rt:292:27
 array-share-prefix-made : tie.Need-array-share-prefix-made
-array-share-prefix-made c = omega (arith, gcd-fits (monomialIn (words (c .before .before .before .before .before .before .args .image .now)) (c .before .before .before .before .before .before .args .s .variables) ((c .before .before .before .before .before .before .args .a) + 5)) (monomialIn (words (c .before .before .before .before .before .before .args .image .now)) (c .before .before .before .before .before .before .args .s .variables) ((c .before .before .before .before .before .before .args .b) + 5)) (canonical-more (omega arith) (c .before .before .before .before .before .before .pre .0 .range .vars-to) (in-canonical (words (c .before .before .before .before .before .before .args .image .now)) (c .before .before .before .before .before .before .args .s .variables) ((c .before .before .before .before .before .before .args .a) + 5) (c .before .before .before .before .before .before .pre .1 .1 .0 .one))) (canonical-more (omega arith) (c .before .before .before .before .before .before .pre .0 .range .vars-to) (in-canonical (words (c .before .before .before .before .before .before .args .image .now)) (c .before .before .before .before .before .before .args .s .variables) ((c .before .before .before .before .before .before .args .b) + 5) (c .before .before .before .before .before .before .pre .1 .1 .0 .two))), (rw (c .before .before .before .before .monomial-in .ensures .is, c .before .before .before .monomial-in2 .ensures .is) at (c .before .gcd .ensures .0)), c .before .gcd .kept .1 .1 .0)
+array-share-prefix-made c = omega (arith, gcd-fits (monomialIn (words (c .before .before .before .before .before .before .args .image .now)) (c .before .before .before .before .before .before .args .s .variables) ((c .before .before .before .before .before .before .args .a) + 5)) (monomialIn (words (c .before .before .before .before .before .before .args .image .now)) (c .before .before .before .before .before .before .args .s .variables) ((c .before .before .before .before .before .before .args .b) + 5)) (canonical-more (omega arith) (c .before .before .before .before .before .before .pre .0 .range .vars-to) (in-canonical (words (c .before .before .before .before .before .before .args .image .now)) (c .before .before .before .before .before .before .args .s .variables) ((c .before .before .before .before .before .before .args .a) + 5) (c .before .before .before .before .before .before .pre .1 .1 .0 .one))) (canonical-more (omega arith) (c .before .before .before .before .before .before .pre .0 .range .vars-to) (in-canonical (words (c .before .before .before .before .before .before .args .image .now)) (c .before .before .before .before .before .before .args .s .variables) ((c .before .before .before .before .before .before .args .b) + 5) (c .before .before .before .before .before .before .pre .1 .1 .0 .two))), (rw (c .before .before .before .before .monomial-in .ensures .is, c .before .before .before .monomial-in2 .ensures .is, first-whole (canonical-more (omega arith) (c .before .before .before .before .before .before .pre .0 .range .vars-to) (in-canonical (words (c .before .before .before .before .before .before .args .image .now)) (c .before .before .before .before .before .before .args .s .variables) ((c .before .before .before .before .before .before .args .a) + 5) (c .before .before .before .before .before .before .pre .1 .1 .0 .one))), first-whole (canonical-more (omega arith) (c .before .before .before .before .before .before .pre .0 .range .vars-to) (in-canonical (words (c .before .before .before .before .before .before .args .image .now)) (c .before .before .before .before .before .before .args .s .variables) ((c .before .before .before .before .before .before .args .b) + 5) (c .before .before .before .before .before .before .pre .1 .1 .0 .two)))) at (c .before .gcd .ensures .0)), c .before .gcd .kept .1 .1 .0)
 
 -- src/walk.rt:292:27
 slice-aggregate-node-ok : tie.Need-slice-aggregate-node-ok
-slice-aggregate-node-ok c = sym (length-take-le (4 * (c .before .before .gcd .result)) (c .before .before .gcd .last .1 .1 .0) (omega (arith, gcd-fits (monomialIn (words (c .before .before .before .before .before .before .before .args .image .now)) (c .before .before .before .before .before .before .before .args .s .variables) ((c .before .before .before .before .before .before .before .args .a) + 5)) (monomialIn (words (c .before .before .before .before .before .before .before .args .image .now)) (c .before .before .before .before .before .before .before .args .s .variables) ((c .before .before .before .before .before .before .before .args .b) + 5)) (canonical-more (omega arith) (c .before .before .before .before .before .before .before .pre .0 .range .vars-to) (in-canonical (words (c .before .before .before .before .before .before .before .args .image .now)) (c .before .before .before .before .before .before .before .args .s .variables) ((c .before .before .before .before .before .before .before .args .a) + 5) (c .before .before .before .before .before .before .before .pre .1 .1 .0 .one))) (canonical-more (omega arith) (c .before .before .before .before .before .before .before .pre .0 .range .vars-to) (in-canonical (words (c .before .before .before .before .before .before .before .args .image .now)) (c .before .before .before .before .before .before .before .args .s .variables) ((c .before .before .before .before .before .before .before .args .b) + 5) (c .before .before .before .before .before .before .before .pre .1 .1 .0 .two))), (rw (c .before .before .before .before .before .monomial-in .ensures .is, c .before .before .before .before .monomial-in2 .ensures .is) at (c .before .before .gcd .ensures .0)), c .before .before .gcd .kept .1 .1 .0)))
+slice-aggregate-node-ok c = sym (length-take-le (4 * (c .before .before .gcd .result)) (c .before .before .gcd .last .1 .1 .0) (omega (arith, gcd-fits (monomialIn (words (c .before .before .before .before .before .before .before .args .image .now)) (c .before .before .before .before .before .before .before .args .s .variables) ((c .before .before .before .before .before .before .before .args .a) + 5)) (monomialIn (words (c .before .before .before .before .before .before .before .args .image .now)) (c .before .before .before .before .before .before .before .args .s .variables) ((c .before .before .before .before .before .before .before .args .b) + 5)) (canonical-more (omega arith) (c .before .before .before .before .before .before .before .pre .0 .range .vars-to) (in-canonical (words (c .before .before .before .before .before .before .before .args .image .now)) (c .before .before .before .before .before .before .before .args .s .variables) ((c .before .before .before .before .before .before .before .args .a) + 5) (c .before .before .before .before .before .before .before .pre .1 .1 .0 .one))) (canonical-more (omega arith) (c .before .before .before .before .before .before .before .pre .0 .range .vars-to) (in-canonical (words (c .before .before .before .before .before .before .before .args .image .now)) (c .before .before .before .before .before .before .before .args .s .variables) ((c .before .before .before .before .before .before .before .args .b) + 5) (c .before .before .before .before .before .before .before .pre .1 .1 .0 .two))), (rw (c .before .before .before .before .before .monomial-in .ensures .is, c .before .before .before .before .monomial-in2 .ensures .is, first-whole (canonical-more (omega arith) (c .before .before .before .before .before .before .before .pre .0 .range .vars-to) (in-canonical (words (c .before .before .before .before .before .before .before .args .image .now)) (c .before .before .before .before .before .before .before .args .s .variables) ((c .before .before .before .before .before .before .before .args .a) + 5) (c .before .before .before .before .before .before .before .pre .1 .1 .0 .one))), first-whole (canonical-more (omega arith) (c .before .before .before .before .before .before .before .pre .0 .range .vars-to) (in-canonical (words (c .before .before .before .before .before .before .before .args .image .now)) (c .before .before .before .before .before .before .before .args .s .variables) ((c .before .before .before .before .before .before .before .args .b) + 5) (c .before .before .before .before .before .before .before .pre .1 .1 .0 .two)))) at (c .before .before .gcd .ensures .0)), c .before .before .gcd .kept .1 .1 .0)))
 
 -- src/walk.rt:292:5
 node-ok-requires : tie.Need-node-ok-requires
-node-ok-requires c κs = (c .before .before .before .before .before .before .before .pre .0, (c .before .before .before .before .before .before .before .pre .1 .0, rw (ap (λ (l : List ℕ). words (take (4 * (c .before .before .gcd .result)) l)) (rw (c .before .before .before .before .before .monomial-in .ensures .is, c .before .before .before .before .monomial-in2 .ensures .is) at (c .before .before .gcd .ensures .1)) ∙ front-pasted _ (result Gcd (monomialIn (words (c .before .before .before .before .before .before .before .args .image .now)) (c .before .before .before .before .before .before .before .args .s .variables) ((c .before .before .before .before .before .before .before .args .a) + 5)) (monomialIn (words (c .before .before .before .before .before .before .before .args .image .now)) (c .before .before .before .before .before .before .before .args .s .variables) ((c .before .before .before .before .before .before .before .args .b) + 5))) (c .before .before .gcd .result) (gcd-small (monomialIn (words (c .before .before .before .before .before .before .before .args .image .now)) (c .before .before .before .before .before .before .before .args .s .variables) ((c .before .before .before .before .before .before .before .args .a) + 5)) (monomialIn (words (c .before .before .before .before .before .before .before .args .image .now)) (c .before .before .before .before .before .before .before .args .s .variables) ((c .before .before .before .before .before .before .before .args .b) + 5)) (canonical-more (omega arith) (c .before .before .before .before .before .before .before .pre .0 .range .vars-to) (in-canonical (words (c .before .before .before .before .before .before .before .args .image .now)) (c .before .before .before .before .before .before .before .args .s .variables) ((c .before .before .before .before .before .before .before .args .a) + 5) (c .before .before .before .before .before .before .before .pre .1 .1 .0 .one))) (canonical-more (omega arith) (c .before .before .before .before .before .before .before .pre .0 .range .vars-to) (in-canonical (words (c .before .before .before .before .before .before .before .args .image .now)) (c .before .before .before .before .before .before .before .args .s .variables) ((c .before .before .before .before .before .before .before .args .b) + 5) (c .before .before .before .before .before .before .before .pre .1 .1 .0 .two)))) (rw (c .before .before .before .before .before .monomial-in .ensures .is, c .before .before .before .before .monomial-in2 .ensures .is) at (c .before .before .gcd .ensures .0))) (slots-gcd (words (c .before .before .before .before .before .before .before .args .image .now)) (c .before .before .before .before .before .before .before .args .s .variables) (c .before .before .before .before .before .before .before .args .a) (c .before .before .before .before .before .before .before .args .b) (c .before .before .before .before .before .before .before .pre .0 .range .vars-to) (c .before .before .before .before .before .before .before .pre .1 .1 .0))))
+node-ok-requires c κs = (c .before .before .before .before .before .before .before .pre .0, (c .before .before .before .before .before .before .before .pre .1 .0, rw (ap (λ (l : List ℕ). words (take (4 * (c .before .before .gcd .result)) l)) (rw (c .before .before .before .before .before .monomial-in .ensures .is, c .before .before .before .before .monomial-in2 .ensures .is, first-whole (canonical-more (omega arith) (c .before .before .before .before .before .before .before .pre .0 .range .vars-to) (in-canonical (words (c .before .before .before .before .before .before .before .args .image .now)) (c .before .before .before .before .before .before .before .args .s .variables) ((c .before .before .before .before .before .before .before .args .a) + 5) (c .before .before .before .before .before .before .before .pre .1 .1 .0 .one))), first-whole (canonical-more (omega arith) (c .before .before .before .before .before .before .before .pre .0 .range .vars-to) (in-canonical (words (c .before .before .before .before .before .before .before .args .image .now)) (c .before .before .before .before .before .before .before .args .s .variables) ((c .before .before .before .before .before .before .before .args .b) + 5) (c .before .before .before .before .before .before .before .pre .1 .1 .0 .two)))) at (c .before .before .gcd .ensures .1)) ∙ front-pasted _ (result Gcd (monomialIn (words (c .before .before .before .before .before .before .before .args .image .now)) (c .before .before .before .before .before .before .before .args .s .variables) ((c .before .before .before .before .before .before .before .args .a) + 5)) (monomialIn (words (c .before .before .before .before .before .before .before .args .image .now)) (c .before .before .before .before .before .before .before .args .s .variables) ((c .before .before .before .before .before .before .before .args .b) + 5))) (c .before .before .gcd .result) (gcd-small (monomialIn (words (c .before .before .before .before .before .before .before .args .image .now)) (c .before .before .before .before .before .before .before .args .s .variables) ((c .before .before .before .before .before .before .before .args .a) + 5)) (monomialIn (words (c .before .before .before .before .before .before .before .args .image .now)) (c .before .before .before .before .before .before .before .args .s .variables) ((c .before .before .before .before .before .before .before .args .b) + 5)) (canonical-more (omega arith) (c .before .before .before .before .before .before .before .pre .0 .range .vars-to) (in-canonical (words (c .before .before .before .before .before .before .before .args .image .now)) (c .before .before .before .before .before .before .before .args .s .variables) ((c .before .before .before .before .before .before .before .args .a) + 5) (c .before .before .before .before .before .before .before .pre .1 .1 .0 .one))) (canonical-more (omega arith) (c .before .before .before .before .before .before .before .pre .0 .range .vars-to) (in-canonical (words (c .before .before .before .before .before .before .before .args .image .now)) (c .before .before .before .before .before .before .before .args .s .variables) ((c .before .before .before .before .before .before .before .args .b) + 5) (c .before .before .before .before .before .before .before .pre .1 .1 .0 .two)))) (rw (c .before .before .before .before .before .monomial-in .ensures .is, c .before .before .before .before .monomial-in2 .ensures .is, first-whole (canonical-more (omega arith) (c .before .before .before .before .before .before .before .pre .0 .range .vars-to) (in-canonical (words (c .before .before .before .before .before .before .before .args .image .now)) (c .before .before .before .before .before .before .before .args .s .variables) ((c .before .before .before .before .before .before .before .args .a) + 5) (c .before .before .before .before .before .before .before .pre .1 .1 .0 .one))), first-whole (canonical-more (omega arith) (c .before .before .before .before .before .before .before .pre .0 .range .vars-to) (in-canonical (words (c .before .before .before .before .before .before .before .args .image .now)) (c .before .before .before .before .before .before .before .args .s .variables) ((c .before .before .before .before .before .before .before .args .b) + 5) (c .before .before .before .before .before .before .before .pre .1 .1 .0 .two)))) at (c .before .before .gcd .ensures .0))) (slots-gcd (words (c .before .before .before .before .before .before .before .args .image .now)) (c .before .before .before .before .before .before .before .args .s .variables) (c .before .before .before .before .before .before .before .args .a) (c .before .before .before .before .before .before .before .args .b) (c .before .before .before .before .before .before .before .pre .0 .range .vars-to) (c .before .before .before .before .before .before .before .pre .1 .1 .0))))
 
 -- src/walk.rt:278:1
 returns : tie.Need-returns
-returns c = rw (ap (λ (l : List ℕ). words (take (4 * (c .before .before .before .gcd .result)) l)) (rw (c .before .before .before .before .before .before .monomial-in .ensures .is, c .before .before .before .before .before .monomial-in2 .ensures .is) at (c .before .before .before .gcd .ensures .1)) ∙ front-pasted _ (result Gcd (monomialIn (words (c .before .before .before .before .before .before .before .before .args .image .now)) (c .before .before .before .before .before .before .before .before .args .s .variables) ((c .before .before .before .before .before .before .before .before .args .a) + 5)) (monomialIn (words (c .before .before .before .before .before .before .before .before .args .image .now)) (c .before .before .before .before .before .before .before .before .args .s .variables) ((c .before .before .before .before .before .before .before .before .args .b) + 5))) (c .before .before .before .gcd .result) (gcd-small (monomialIn (words (c .before .before .before .before .before .before .before .before .args .image .now)) (c .before .before .before .before .before .before .before .before .args .s .variables) ((c .before .before .before .before .before .before .before .before .args .a) + 5)) (monomialIn (words (c .before .before .before .before .before .before .before .before .args .image .now)) (c .before .before .before .before .before .before .before .before .args .s .variables) ((c .before .before .before .before .before .before .before .before .args .b) + 5)) (canonical-more (omega arith) (c .before .before .before .before .before .before .before .before .pre .0 .range .vars-to) (in-canonical (words (c .before .before .before .before .before .before .before .before .args .image .now)) (c .before .before .before .before .before .before .before .before .args .s .variables) ((c .before .before .before .before .before .before .before .before .args .a) + 5) (c .before .before .before .before .before .before .before .before .pre .1 .1 .0 .one))) (canonical-more (omega arith) (c .before .before .before .before .before .before .before .before .pre .0 .range .vars-to) (in-canonical (words (c .before .before .before .before .before .before .before .before .args .image .now)) (c .before .before .before .before .before .before .before .before .args .s .variables) ((c .before .before .before .before .before .before .before .before .args .b) + 5) (c .before .before .before .before .before .before .before .before .pre .1 .1 .0 .two)))) (rw (c .before .before .before .before .before .before .monomial-in .ensures .is, c .before .before .before .before .before .monomial-in2 .ensures .is) at (c .before .before .before .gcd .ensures .0))) at (c .node-ok .ensures)
+returns c = rw (ap (λ (l : List ℕ). words (take (4 * (c .before .before .before .gcd .result)) l)) (rw (c .before .before .before .before .before .before .monomial-in .ensures .is, c .before .before .before .before .before .monomial-in2 .ensures .is, first-whole (canonical-more (omega arith) (c .before .before .before .before .before .before .before .before .pre .0 .range .vars-to) (in-canonical (words (c .before .before .before .before .before .before .before .before .args .image .now)) (c .before .before .before .before .before .before .before .before .args .s .variables) ((c .before .before .before .before .before .before .before .before .args .a) + 5) (c .before .before .before .before .before .before .before .before .pre .1 .1 .0 .one))), first-whole (canonical-more (omega arith) (c .before .before .before .before .before .before .before .before .pre .0 .range .vars-to) (in-canonical (words (c .before .before .before .before .before .before .before .before .args .image .now)) (c .before .before .before .before .before .before .before .before .args .s .variables) ((c .before .before .before .before .before .before .before .before .args .b) + 5) (c .before .before .before .before .before .before .before .before .pre .1 .1 .0 .two)))) at (c .before .before .before .gcd .ensures .1)) ∙ front-pasted _ (result Gcd (monomialIn (words (c .before .before .before .before .before .before .before .before .args .image .now)) (c .before .before .before .before .before .before .before .before .args .s .variables) ((c .before .before .before .before .before .before .before .before .args .a) + 5)) (monomialIn (words (c .before .before .before .before .before .before .before .before .args .image .now)) (c .before .before .before .before .before .before .before .before .args .s .variables) ((c .before .before .before .before .before .before .before .before .args .b) + 5))) (c .before .before .before .gcd .result) (gcd-small (monomialIn (words (c .before .before .before .before .before .before .before .before .args .image .now)) (c .before .before .before .before .before .before .before .before .args .s .variables) ((c .before .before .before .before .before .before .before .before .args .a) + 5)) (monomialIn (words (c .before .before .before .before .before .before .before .before .args .image .now)) (c .before .before .before .before .before .before .before .before .args .s .variables) ((c .before .before .before .before .before .before .before .before .args .b) + 5)) (canonical-more (omega arith) (c .before .before .before .before .before .before .before .before .pre .0 .range .vars-to) (in-canonical (words (c .before .before .before .before .before .before .before .before .args .image .now)) (c .before .before .before .before .before .before .before .before .args .s .variables) ((c .before .before .before .before .before .before .before .before .args .a) + 5) (c .before .before .before .before .before .before .before .before .pre .1 .1 .0 .one))) (canonical-more (omega arith) (c .before .before .before .before .before .before .before .before .pre .0 .range .vars-to) (in-canonical (words (c .before .before .before .before .before .before .before .before .args .image .now)) (c .before .before .before .before .before .before .before .before .args .s .variables) ((c .before .before .before .before .before .before .before .before .args .b) + 5) (c .before .before .before .before .before .before .before .before .pre .1 .1 .0 .two)))) (rw (c .before .before .before .before .before .before .monomial-in .ensures .is, c .before .before .before .before .before .monomial-in2 .ensures .is, first-whole (canonical-more (omega arith) (c .before .before .before .before .before .before .before .before .pre .0 .range .vars-to) (in-canonical (words (c .before .before .before .before .before .before .before .before .args .image .now)) (c .before .before .before .before .before .before .before .before .args .s .variables) ((c .before .before .before .before .before .before .before .before .args .a) + 5) (c .before .before .before .before .before .before .before .before .pre .1 .1 .0 .one))), first-whole (canonical-more (omega arith) (c .before .before .before .before .before .before .before .before .pre .0 .range .vars-to) (in-canonical (words (c .before .before .before .before .before .before .before .before .args .image .now)) (c .before .before .before .before .before .before .before .before .args .s .variables) ((c .before .before .before .before .before .before .before .before .args .b) + 5) (c .before .before .before .before .before .before .before .before .pre .1 .1 .0 .two)))) at (c .before .before .before .gcd .ensures .0))) at (c .node-ok .ensures)
 
 pub branch-gcd-ok-spec : {M : Type 1} → statement M
 branch-gcd-ok-spec =

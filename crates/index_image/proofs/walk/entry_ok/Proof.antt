@@ -1,3 +1,4 @@
+use Rattle.words.proofs.Laws.{length-words}
 use native.Mathlib.Omega.{arith}
 use Rattle.words.specs.Words.{words}
 use Rattle.index_image.proofs.Gcds.{lm-canonical}
@@ -34,7 +35,7 @@ returns-2 c = no-labels (words (c .before .before .before .before .before .befor
 
 -- src/walk.rt:82:9
 label-in-requires : tie.Need-label-in-requires
-label-in-requires c κs = search needs
+label-in-requires c κs = (c .before .before .before .before .before .before .before .before .pre .0 .range, (omega (arith, c .before .before .before .before .before .before .before .before .pre .0 .room, length-words (c .before .before .before .before .before .before .before .before .args .image .now)), (((omega (arith, c .before .before .before .before .before .before .before .before .pre .0 .range .kind-to, c .if2 .left)), omega (arith, c .before .before .before .before .before .before .before .before .pre .0 .range .few, c .before .before .before .before .before .before .before .before .pre .1 .1)), (c .before .before .before .before .before .before .before .before .pre .0 .rows) (omega (arith, c .before .before .before .before .before .before .before .before .pre .0 .range .kind-to, c .if2 .left)) (c .before .before .before .before .before .before .before .before .args .e) (c .before .before .before .before .before .before .before .before .pre .1 .1))))
 
 -- src/walk.rt:84:9
 returns-3 : tie.Need-returns-3

@@ -1,6 +1,6 @@
 use native.Mathlib.Omega.{arith}
 use Rattle.words.specs.Words.{words}
-use Rattle.index_image.proofs.Bounds.{ratio-width}
+use Rattle.index_image.proofs.Bounds.{ratio-width, spots}
 use Rattle.index_image.proofs.Places.{entry-room, label-room}
 use Rattle.index_image.proofs.Reading.{label-at}
 use borrow.Author.Needs.{needs}
@@ -26,11 +26,11 @@ add-get c = search needs
 
 -- src/walk.rt:64:31
 add-get-2 : tie.Need-add-get-2
-add-get-2 c = omega (arith, entry-room (c .before .before .args .image .now) (c .before .before .args .s) (c .before .before .pre .0) (c .before .before .args .e) (c .before .before .pre .1 .1), ratio-width (c .before .before .args .s) (c .before .before .pre .0 .range) (c .before .before .pre .1 .0), c .entry-at .ensures)
+add-get-2 c = omega (arith, spots (c .before .before .args .s) (c .before .before .pre .0) (c .before .before .pre .1 .1 .0 .0) (c .before .before .args .e) 0 (c .before .before .pre .1 .1 .0 .1) (c .before .before .pre .0 .cap-from) .entry, spots (c .before .before .args .s) (c .before .before .pre .0) (c .before .before .pre .1 .1 .0 .0) (c .before .before .args .e) 0 (c .before .before .pre .1 .1 .0 .1) (c .before .before .pre .0 .cap-from) .small, c .entry-at .ensures, c .before .before .pre .1 .0)
 
 -- src/walk.rt:64:13
 get-requires : tie.Need-get-requires
-get-requires c κs = omega (arith, entry-room (c .before .before .args .image .now) (c .before .before .args .s) (c .before .before .pre .0) (c .before .before .args .e) (c .before .before .pre .1 .1), ratio-width (c .before .before .args .s) (c .before .before .pre .0 .range) (c .before .before .pre .1 .0), c .entry-at .ensures)
+get-requires c κs = omega (arith, spots (c .before .before .args .s) (c .before .before .pre .0) (c .before .before .pre .1 .1 .0 .0) (c .before .before .args .e) 0 (c .before .before .pre .1 .1 .0 .1) (c .before .before .pre .0 .cap-from) .entry, spots (c .before .before .args .s) (c .before .before .pre .0) (c .before .before .pre .1 .1 .0 .0) (c .before .before .args .e) 0 (c .before .before .pre .1 .1 .0 .1) (c .before .before .pre .0 .cap-from) .small, c .entry-at .ensures, c .before .before .pre .1 .0)
 
 -- src/walk.rt:64:13
 cast-r : tie.Need-cast-r
@@ -46,11 +46,11 @@ add-get-3 c = search needs
 
 -- src/walk.rt:65:44
 mul-get-2 : tie.Need-mul-get-2
-mul-get-2 c = omega (arith, label-room (c .before .before .before .before .args .image .now) (c .before .before .before .before .args .s) (c .before .before .before .before .pre .0) (c .before .before .before .before .pre .1 .0) (c .before .get .result) (rw (c .before .get .ensures, c .before .before .entry-at .ensures) ((c .before .before .before .before .pre .0 .rows) (c .before .before .before .before .pre .1 .0) (c .before .before .before .before .args .e) (c .before .before .before .before .pre .1 .1))))
+mul-get-2 c = omega (arith, spots (c .before .before .before .before .args .s) (c .before .before .before .before .pre .0) (c .before .before .before .before .pre .1 .1 .0 .0) (c .before .before .before .before .args .e) (c .before .get .result) (c .before .before .before .before .pre .1 .1 .0 .1) (rw (c .before .get .ensures, c .before .before .entry-at .ensures) (c .before .before .before .before .pre .1 .1 .1)) .row-small)
 
 -- src/walk.rt:65:40
 add-get-4 : tie.Need-add-get-4
-add-get-4 c = omega (arith, label-room (c .before .before .before .before .args .image .now) (c .before .before .before .before .args .s) (c .before .before .before .before .pre .0) (c .before .before .before .before .pre .1 .0) (c .before .get .result) (rw (c .before .get .ensures, c .before .before .entry-at .ensures) ((c .before .before .before .before .pre .0 .rows) (c .before .before .before .before .pre .1 .0) (c .before .before .before .before .args .e) (c .before .before .before .before .pre .1 .1))))
+add-get-4 c = omega (arith, spots (c .before .before .before .before .args .s) (c .before .before .before .before .pre .0) (c .before .before .before .before .pre .1 .1 .0 .0) (c .before .before .before .before .args .e) (c .before .get .result) (c .before .before .before .before .pre .1 .1 .0 .1) (rw (c .before .get .ensures, c .before .before .entry-at .ensures) (c .before .before .before .before .pre .1 .1 .1)) .row-small)
 
 -- src/walk.rt:65:59
 add-get-5 : tie.Need-add-get-5
@@ -58,15 +58,15 @@ add-get-5 c = search needs
 
 -- src/walk.rt:65:40
 add-get-6 : tie.Need-add-get-6
-add-get-6 c = omega (arith, label-room (c .before .before .before .before .args .image .now) (c .before .before .before .before .args .s) (c .before .before .before .before .pre .0) (c .before .before .before .before .pre .1 .0) (c .before .get .result) (rw (c .before .get .ensures, c .before .before .entry-at .ensures) ((c .before .before .before .before .pre .0 .rows) (c .before .before .before .before .pre .1 .0) (c .before .before .before .before .args .e) (c .before .before .before .before .pre .1 .1))))
+add-get-6 c = omega (arith, spots (c .before .before .before .before .args .s) (c .before .before .before .before .pre .0) (c .before .before .before .before .pre .1 .1 .0 .0) (c .before .before .before .before .args .e) (c .before .get .result) (c .before .before .before .before .pre .1 .1 .0 .1) (rw (c .before .get .ensures, c .before .before .entry-at .ensures) (c .before .before .before .before .pre .1 .1 .1)) .row-small, c .before .before .before .before .pre .0 .vars-to)
 
 -- src/walk.rt:65:23
 add-get-7 : tie.Need-add-get-7
-add-get-7 c = omega (arith, label-room (c .before .before .before .before .args .image .now) (c .before .before .before .before .args .s) (c .before .before .before .before .pre .0) (c .before .before .before .before .pre .1 .0) (c .before .get .result) (rw (c .before .get .ensures, c .before .before .entry-at .ensures) ((c .before .before .before .before .pre .0 .rows) (c .before .before .before .before .pre .1 .0) (c .before .before .before .before .args .e) (c .before .before .before .before .pre .1 .1))), c .labels-at .ensures)
+add-get-7 c = omega (arith, spots (c .before .before .before .before .args .s) (c .before .before .before .before .pre .0) (c .before .before .before .before .pre .1 .1 .0 .0) (c .before .before .before .before .args .e) (c .before .get .result) (c .before .before .before .before .pre .1 .1 .0 .1) (rw (c .before .get .ensures, c .before .before .entry-at .ensures) (c .before .before .before .before .pre .1 .1 .1)) .row, spots (c .before .before .before .before .args .s) (c .before .before .before .before .pre .0) (c .before .before .before .before .pre .1 .1 .0 .0) (c .before .before .before .before .args .e) (c .before .get .result) (c .before .before .before .before .pre .1 .1 .0 .1) (rw (c .before .get .ensures, c .before .before .entry-at .ensures) (c .before .before .before .before .pre .1 .1 .1)) .small, c .labels-at .ensures)
 
 -- src/walk.rt:65:5
 get-requires-2 : tie.Need-get-requires-2
-get-requires-2 c κs = omega (arith, label-room (c .before .before .before .before .args .image .now) (c .before .before .before .before .args .s) (c .before .before .before .before .pre .0) (c .before .before .before .before .pre .1 .0) (c .before .get .result) (rw (c .before .get .ensures, c .before .before .entry-at .ensures) ((c .before .before .before .before .pre .0 .rows) (c .before .before .before .before .pre .1 .0) (c .before .before .before .before .args .e) (c .before .before .before .before .pre .1 .1))), c .labels-at .ensures)
+get-requires-2 c κs = omega (arith, spots (c .before .before .before .before .args .s) (c .before .before .before .before .pre .0) (c .before .before .before .before .pre .1 .1 .0 .0) (c .before .before .before .before .args .e) (c .before .get .result) (c .before .before .before .before .pre .1 .1 .0 .1) (rw (c .before .get .ensures, c .before .before .entry-at .ensures) (c .before .before .before .before .pre .1 .1 .1)) .row, spots (c .before .before .before .before .args .s) (c .before .before .before .before .pre .0) (c .before .before .before .before .pre .1 .1 .0 .0) (c .before .before .before .before .args .e) (c .before .get .result) (c .before .before .before .before .pre .1 .1 .0 .1) (rw (c .before .get .ensures, c .before .before .entry-at .ensures) (c .before .before .before .before .pre .1 .1 .1)) .small, c .labels-at .ensures, c .before .before .before .before .pre .1 .0)
 
 -- src/walk.rt:65:5
 cast-result : tie.Need-cast-result

@@ -1,10 +1,11 @@
+use Rattle.index_image.specs.Walk.{power}
 use native.Mathlib.Omega.{arith}
 use mathlib.Core.Path.{sym, _∙_}
 use Prim.Native.Nat.{_*_}
 use lib.Seq.{length-take-le}
 use Rattle.words.specs.Words.{words}
 use Rattle.index_image.specs.Rows.{entriesFrom}
-use Rattle.index_image.proofs.Gcds.{gcd-canonical}
+use Rattle.index_image.proofs.Gcds.{gcd-canonical, image-powers}
 use Rattle.index_image.proofs.Reading.{front-words}
 use borrow.Author.Needs.{needs}
 use Rattle.index_image.proofs.walk.leaf_gcd_ok.Statement.{statement}
@@ -36,7 +37,7 @@ slice-aggregate-node-ok c = sym (length-take-le (4 * (c .before .before .gcd-of 
 
 -- src/walk.rt:181:5
 node-ok-requires : tie.Need-node-ok-requires
-node-ok-requires c κs = (c .before .before .before .before .before .pre .0, (c .before .before .before .before .before .pre .1 .0, rw (front-words (c .before .before .gcd-of .last .1 .1 .1 .1 .0) (c .before .before .gcd-of .result) ∙ c .before .before .gcd-of .ensures .1) (gcd-canonical (words (c .before .before .before .before .before .args .image .now)) (c .before .before .before .before .before .args .s) (c .before .before .before .before .before .pre .0 .range .vars-to) (entriesFrom (words (c .before .before .before .before .before .args .image .now)) (c .before .before .before .before .before .args .s) (c .before .before .before .before .before .args .lo) (c .before .before .before .before .before .args .c)))))
+node-ok-requires c κs = (c .before .before .before .before .before .pre .0, (c .before .before .before .before .before .pre .1 .0, rw (front-words (c .before .before .gcd-of .last .1 .1 .1 .1 .0) (c .before .before .gcd-of .result) ∙ c .before .before .gcd-of .ensures .1) (gcd-canonical (c .before .before .before .before .before .args .s .variables) (power (words (c .before .before .before .before .before .args .image .now)) (c .before .before .before .before .before .args .s)) (image-powers (words (c .before .before .before .before .before .args .image .now)) (c .before .before .before .before .before .args .s) (c .before .before .before .before .before .pre .0 .range .vars-to)) (entriesFrom (words (c .before .before .before .before .before .args .image .now)) (c .before .before .before .before .before .args .s) (c .before .before .before .before .before .args .lo) (c .before .before .before .before .before .args .c)))))
 
 -- src/walk.rt:173:1
 returns : tie.Need-returns

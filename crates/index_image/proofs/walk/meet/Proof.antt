@@ -3,7 +3,7 @@ use native.Mathlib.Omega.{arith}
 use mathlib.Core.Path.{sym, _∙_}
 use Prim.Native.Nat.{_*_}
 use lib.Seq.{length-take-le}
-use Rattle.monomial.proofs.Laws.{canonical-more}
+use Rattle.monomial.proofs.Firsts.{starts-wide, starts-whole, first-whole}
 use Rattle.index_image.proofs.Reading.{front-words, gcd-held}
 use borrow.Author.Needs.{needs}
 use Rattle.index_image.proofs.walk.meet.Statement.{statement}
@@ -27,7 +27,7 @@ slice-aggregate-divides c = sym (length-take-le (4 * (c .before .before .before 
 
 -- src/walk.rt:135:8
 divides-requires : tie.Need-divides-requires
-divides-requires c κs = rw (front-words (c .before .before .before .args .acc .now) (c .before .before .before .args .n)) (canonical-more (omega arith) (omega arith) (c .before .before .before .pre .1 .1 .0), canonical-more (omega arith) (omega arith) (c .before .before .before .pre .1 .1 .1))
+divides-requires c κs = rw (front-words (c .before .before .before .args .acc .now) (c .before .before .before .args .n)) (starts-wide (starts-whole (c .before .before .before .pre .1 .1 .0)), starts-wide (starts-whole (c .before .before .before .pre .1 .1 .1)))
 
 -- src/walk.rt:136:9
 same-length : tie.Need-same-length
@@ -35,7 +35,7 @@ same-length c = search needs
 
 -- src/walk.rt:136:9
 returns : tie.Need-returns
-returns c = let h = gcd-held (c .before .before .before .before .before .args .acc .now) (c .before .before .before .before .before .args .n) (words (c .before .before .before .before .before .args .other .now)) (λ i. omega (arith, (c .before .before .before .before .slice-known .given) i)) (omega (arith, c .before .before .before .before .before .pre .0, c .before .before .before .before .before .pre .1 .0)) (c .before .before .before .before .before .pre .1 .1 .0) (c .before .before .before .before .before .pre .1 .1 .1) (sym (rw (front-words (c .before .before .before .before .before .args .acc .now) (c .before .before .before .before .before .args .n)) at (c .before .divides .ensures)) ∙ c .if1 .taken) in (h .long, h .kept)
+returns c = let h = gcd-held (c .before .before .before .before .before .args .acc .now) (c .before .before .before .before .before .args .n) (words (c .before .before .before .before .before .args .other .now)) (λ i. omega (arith, (c .before .before .before .before .slice-known .given) i)) (omega (arith, c .before .before .before .before .before .pre .0, c .before .before .before .before .before .pre .1 .0)) (c .before .before .before .before .before .pre .1 .1 .0) (c .before .before .before .before .before .pre .1 .1 .1) (sym (rw (front-words (c .before .before .before .before .before .args .acc .now) (c .before .before .before .before .before .args .n), first-whole (c .before .before .before .before .before .pre .1 .1 .0), first-whole (c .before .before .before .before .before .pre .1 .1 .1)) at (c .before .divides .ensures)) ∙ c .if1 .taken) in (h .long, h .kept)
 
 -- src/walk.rt:138:5
 make-gcd-requires : tie.Need-make-gcd-requires

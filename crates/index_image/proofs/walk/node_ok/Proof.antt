@@ -1,6 +1,9 @@
 use Rattle.index_image.proofs.Places.{place-room}
 use native.Mathlib.Omega.{arith}
-use mathlib.Core.Path.{sym}
+use mathlib.Core.Path.{sym, _∙_}
+use Rattle.words.specs.Tables.{part}
+use Rattle.monomial.proofs.Firsts.{starts-whole}
+use Rattle.divmask.proofs.Masks.{mask-whole}
 use Prim.Native.Nat.{_+_, _-_, _*_, _/_}
 use lib.ListN.{length}
 use Rattle.words.specs.Words.{words}
@@ -59,11 +62,11 @@ cast-map c = search needs
 
 -- src/walk.rt:160:37
 map-requires : tie.Need-map-requires
-map-requires c κs = (rw (part-words (c .before .before .before .before .args .image .now) (16 + (c .before .before .before .before .args .s .variables)) (c .before .before .before .before .args .s .variables) (4 * (16 + (c .before .before .before .before .args .s .variables)) + 4 * (c .before .before .before .before .args .s .variables) - 4 * (16 + (c .before .before .before .before .args .s .variables))) (omega arith)) (c .before .before .before .before .pre .0 .map), c .before .before .before .before .pre .1 .1)
+map-requires c κs = (rw (part-words (c .before .before .before .before .args .image .now) (24 + (c .before .before .before .before .args .s .variables)) (c .before .before .before .before .args .s .variables) (4 * (24 + (c .before .before .before .before .args .s .variables)) + 4 * (c .before .before .before .before .args .s .variables) - 4 * (24 + (c .before .before .before .before .args .s .variables))) (omega arith)) (c .before .before .before .before .pre .0 .map), starts-whole (c .before .before .before .before .pre .1 .1))
 
 -- src/walk.rt:161:9
 returns : tie.Need-returns
-returns c = other-mask (words (c .before .before .before .before .before .before .args .image .now)) (c .before .before .before .before .before .before .args .s) (c .before .before .before .before .before .before .args .at) (words (c .before .before .before .before .before .before .args .gcd .now)) (c .before .before .before .before .before .before .pre .0 .range .vars-to) (c .before .before .before .before .before .before .pre .1 .1) (omega (arith, length-words (c .before .before .before .before .before .before .args .image .now), c .before .before .before .before .before .before .pre .1 .0)) (c .before .before .before .get .result) (c .before .map .result) (c .before .before .before .get .ensures) (rw (part-words (c .before .before .before .before .before .before .args .image .now) (16 + (c .before .before .before .before .before .before .args .s .variables)) (c .before .before .before .before .before .before .args .s .variables) (4 * (16 + (c .before .before .before .before .before .before .args .s .variables)) + 4 * (c .before .before .before .before .before .before .args .s .variables) - 4 * (16 + (c .before .before .before .before .before .before .args .s .variables))) (omega arith)) at (c .before .map .ensures)) (c .if1 .taken)
+returns c = other-mask (words (c .before .before .before .before .before .before .args .image .now)) (c .before .before .before .before .before .before .args .s) (c .before .before .before .before .before .before .args .at) (words (c .before .before .before .before .before .before .args .gcd .now)) (c .before .before .before .before .before .before .pre .0 .range .vars-to) (c .before .before .before .before .before .before .pre .1 .1) (omega (arith, length-words (c .before .before .before .before .before .before .args .image .now), c .before .before .before .before .before .before .pre .1 .0)) (c .before .before .before .get .result) (c .before .map .result) (c .before .before .before .get .ensures) (rw (part-words (c .before .before .before .before .before .before .args .image .now) (24 + (c .before .before .before .before .before .before .args .s .variables)) (c .before .before .before .before .before .before .args .s .variables) (4 * (24 + (c .before .before .before .before .before .before .args .s .variables)) + 4 * (c .before .before .before .before .before .before .args .s .variables) - 4 * (24 + (c .before .before .before .before .before .before .args .s .variables))) (omega arith)) at (c .before .map .ensures) ∙ mask-whole (part (words (c .before .before .before .before .before .before .args .image .now)) (24 + (c .before .before .before .before .before .before .args .s .variables)) (c .before .before .before .before .before .before .args .s .variables)) (c .before .before .before .before .before .before .pre .1 .1)) (c .if1 .taken)
 
 -- src/walk.rt:164:18
 add-g : tie.Need-add-g
@@ -99,7 +102,7 @@ eq-requires c κs = search needs
 
 -- src/walk.rt:167:9
 returns-2 : tie.Need-returns-2
-returns-2 c = other-words (words (c .before .before .before .before .before .before .before .before .before .args .image .now)) (c .before .before .before .before .before .before .before .before .before .args .s) (c .before .before .before .before .before .before .before .before .before .args .at) (words (c .before .before .before .before .before .before .before .before .before .args .gcd .now)) (c .before .before .before .before .before .before .before .before .before .pre .0 .range .vars-to) (c .before .before .before .before .before .before .before .before .before .pre .1 .1) (omega (arith, length-words (c .before .before .before .before .before .before .before .before .before .args .image .now), c .before .before .before .before .before .before .before .before .before .pre .1 .0)) (c .before .before .before .before .before .before .get .result) (c .before .before .before .before .map .result) (c .before .before .before .before .before .before .get .ensures) (rw (part-words (c .before .before .before .before .before .before .before .before .before .args .image .now) (16 + (c .before .before .before .before .before .before .before .before .before .args .s .variables)) (c .before .before .before .before .before .before .before .before .before .args .s .variables) (4 * (16 + (c .before .before .before .before .before .before .before .before .before .args .s .variables)) + 4 * (c .before .before .before .before .before .before .before .before .before .args .s .variables) - 4 * (16 + (c .before .before .before .before .before .before .before .before .before .args .s .variables))) (omega arith)) at (c .before .before .before .before .map .ensures)) (length (c .before .before .before .before .before .before .before .before .before .args .gcd .now) / 4) (sym (length-words (c .before .before .before .before .before .before .before .before .before .args .gcd .now))) _ (part-words (c .before .before .before .before .before .before .before .before .before .args .image .now) ((c .before .before .before .before .before .before .before .before .before .args .at) + 5) (length (c .before .before .before .before .before .before .before .before .before .args .gcd .now) / 4) (4 * ((c .before .before .before .before .before .before .before .before .before .args .at) + 5) + 4 * (length (c .before .before .before .before .before .before .before .before .before .args .gcd .now) / 4) - 4 * ((c .before .before .before .before .before .before .before .before .before .args .at) + 5)) (omega arith)) (c .before .eq .result) (c .before .eq .ensures) (c .if2 .taken)
+returns-2 c = other-words (words (c .before .before .before .before .before .before .before .before .before .args .image .now)) (c .before .before .before .before .before .before .before .before .before .args .s) (c .before .before .before .before .before .before .before .before .before .args .at) (words (c .before .before .before .before .before .before .before .before .before .args .gcd .now)) (c .before .before .before .before .before .before .before .before .before .pre .0 .range .vars-to) (c .before .before .before .before .before .before .before .before .before .pre .1 .1) (omega (arith, length-words (c .before .before .before .before .before .before .before .before .before .args .image .now), c .before .before .before .before .before .before .before .before .before .pre .1 .0)) (c .before .before .before .before .before .before .get .result) (c .before .before .before .before .map .result) (c .before .before .before .before .before .before .get .ensures) (rw (part-words (c .before .before .before .before .before .before .before .before .before .args .image .now) (24 + (c .before .before .before .before .before .before .before .before .before .args .s .variables)) (c .before .before .before .before .before .before .before .before .before .args .s .variables) (4 * (24 + (c .before .before .before .before .before .before .before .before .before .args .s .variables)) + 4 * (c .before .before .before .before .before .before .before .before .before .args .s .variables) - 4 * (24 + (c .before .before .before .before .before .before .before .before .before .args .s .variables))) (omega arith)) at (c .before .before .before .before .map .ensures) ∙ mask-whole (part (words (c .before .before .before .before .before .before .before .before .before .args .image .now)) (24 + (c .before .before .before .before .before .before .before .before .before .args .s .variables)) (c .before .before .before .before .before .before .before .before .before .args .s .variables)) (c .before .before .before .before .before .before .before .before .before .pre .1 .1)) (length (c .before .before .before .before .before .before .before .before .before .args .gcd .now) / 4) (sym (length-words (c .before .before .before .before .before .before .before .before .before .args .gcd .now))) _ (part-words (c .before .before .before .before .before .before .before .before .before .args .image .now) ((c .before .before .before .before .before .before .before .before .before .args .at) + 5) (length (c .before .before .before .before .before .before .before .before .before .args .gcd .now) / 4) (4 * ((c .before .before .before .before .before .before .before .before .before .args .at) + 5) + 4 * (length (c .before .before .before .before .before .before .before .before .before .args .gcd .now) / 4) - 4 * ((c .before .before .before .before .before .before .before .before .before .args .at) + 5)) (omega arith)) (c .before .eq .result) (c .before .eq .ensures) (c .if2 .taken)
 
 -- src/walk.rt:169:34
 add-is-blank : tie.Need-add-is-blank
@@ -123,7 +126,7 @@ is-blank-requires c κs = omega (arith, length-words (c .before .before .before 
 
 -- src/walk.rt:151:1
 returns-3 : tie.Need-returns-3
-returns-3 c = by-zeros (words (c .before .before .before .before .before .before .before .before .before .before .args .image .now)) (c .before .before .before .before .before .before .before .before .before .before .args .s) (c .before .before .before .before .before .before .before .before .before .before .args .at) (words (c .before .before .before .before .before .before .before .before .before .before .args .gcd .now)) (c .before .before .before .before .before .before .before .before .before .before .pre .0 .range .vars-to) (c .before .before .before .before .before .before .before .before .before .before .pre .1 .1) (omega (arith, length-words (c .before .before .before .before .before .before .before .before .before .before .args .image .now), c .before .before .before .before .before .before .before .before .before .before .pre .1 .0)) (c .before .before .before .before .before .before .before .get .result) (c .before .before .before .before .before .map .result) (c .before .before .before .before .before .before .before .get .ensures) (rw (part-words (c .before .before .before .before .before .before .before .before .before .before .args .image .now) (16 + (c .before .before .before .before .before .before .before .before .before .before .args .s .variables)) (c .before .before .before .before .before .before .before .before .before .before .args .s .variables) (4 * (16 + (c .before .before .before .before .before .before .before .before .before .before .args .s .variables)) + 4 * (c .before .before .before .before .before .before .before .before .before .before .args .s .variables) - 4 * (16 + (c .before .before .before .before .before .before .before .before .before .before .args .s .variables))) (omega arith)) at (c .before .before .before .before .before .map .ensures)) (length (c .before .before .before .before .before .before .before .before .before .before .args .gcd .now) / 4) (sym (length-words (c .before .before .before .before .before .before .before .before .before .before .args .gcd .now))) _ (part-words (c .before .before .before .before .before .before .before .before .before .before .args .image .now) ((c .before .before .before .before .before .before .before .before .before .before .args .at) + 5) (length (c .before .before .before .before .before .before .before .before .before .before .args .gcd .now) / 4) (4 * ((c .before .before .before .before .before .before .before .before .before .before .args .at) + 5) + 4 * (length (c .before .before .before .before .before .before .before .before .before .before .args .gcd .now) / 4) - 4 * ((c .before .before .before .before .before .before .before .before .before .before .args .at) + 5)) (omega arith)) (c .before .before .eq .result) (c .before .before .eq .ensures) (c .before .before .before .before .if1 .left) (c .before .if2 .left) (c .is-blank .result) (c .is-blank .ensures)
+returns-3 c = by-zeros (words (c .before .before .before .before .before .before .before .before .before .before .args .image .now)) (c .before .before .before .before .before .before .before .before .before .before .args .s) (c .before .before .before .before .before .before .before .before .before .before .args .at) (words (c .before .before .before .before .before .before .before .before .before .before .args .gcd .now)) (c .before .before .before .before .before .before .before .before .before .before .pre .0 .range .vars-to) (c .before .before .before .before .before .before .before .before .before .before .pre .1 .1) (omega (arith, length-words (c .before .before .before .before .before .before .before .before .before .before .args .image .now), c .before .before .before .before .before .before .before .before .before .before .pre .1 .0)) (c .before .before .before .before .before .before .before .get .result) (c .before .before .before .before .before .map .result) (c .before .before .before .before .before .before .before .get .ensures) (rw (part-words (c .before .before .before .before .before .before .before .before .before .before .args .image .now) (24 + (c .before .before .before .before .before .before .before .before .before .before .args .s .variables)) (c .before .before .before .before .before .before .before .before .before .before .args .s .variables) (4 * (24 + (c .before .before .before .before .before .before .before .before .before .before .args .s .variables)) + 4 * (c .before .before .before .before .before .before .before .before .before .before .args .s .variables) - 4 * (24 + (c .before .before .before .before .before .before .before .before .before .before .args .s .variables))) (omega arith)) at (c .before .before .before .before .before .map .ensures) ∙ mask-whole (part (words (c .before .before .before .before .before .before .before .before .before .before .args .image .now)) (24 + (c .before .before .before .before .before .before .before .before .before .before .args .s .variables)) (c .before .before .before .before .before .before .before .before .before .before .args .s .variables)) (c .before .before .before .before .before .before .before .before .before .before .pre .1 .1)) (length (c .before .before .before .before .before .before .before .before .before .before .args .gcd .now) / 4) (sym (length-words (c .before .before .before .before .before .before .before .before .before .before .args .gcd .now))) _ (part-words (c .before .before .before .before .before .before .before .before .before .before .args .image .now) ((c .before .before .before .before .before .before .before .before .before .before .args .at) + 5) (length (c .before .before .before .before .before .before .before .before .before .before .args .gcd .now) / 4) (4 * ((c .before .before .before .before .before .before .before .before .before .before .args .at) + 5) + 4 * (length (c .before .before .before .before .before .before .before .before .before .before .args .gcd .now) / 4) - 4 * ((c .before .before .before .before .before .before .before .before .before .before .args .at) + 5)) (omega arith)) (c .before .before .eq .result) (c .before .before .eq .ensures) (c .before .before .before .before .if1 .left) (c .before .if2 .left) (c .is-blank .result) (c .is-blank .ensures)
 
 pub node-ok-spec : {M : Type 1} → statement M
 node-ok-spec =

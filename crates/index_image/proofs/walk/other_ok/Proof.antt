@@ -3,7 +3,7 @@ use Prim.Native.Nat.{_+_}
 use Rattle.words.specs.Words.{words}
 use Rattle.index_image.proofs.Reading.{other-answer}
 use Rattle.index_image.proofs.Gcds.{in-canonical}
-use Rattle.monomial.proofs.Laws.{canonical-more}
+use Rattle.monomial.proofs.Firsts.{starts-wide, starts-whole, first-whole}
 use borrow.Author.Needs.{needs}
 use Rattle.index_image.proofs.walk.other_ok.Statement.{statement}
 use Rattle.index_image.proofs.walk.other_ok.Tie as tie
@@ -47,7 +47,7 @@ cast-power-of c = search needs
 
 -- src/walk.rt:309:9
 power-of-requires : tie.Need-power-of-requires
-power-of-requires c κs = ((omega arith, (omega arith, omega (arith, c .before .before .before .before .get .ensures, c .before .before .before .before .before .before .pre .1 .1 .0 .to, c .before .before .before .before .before .before .pre .0 .vars-to))), rw (c .monomial-in .ensures .is) (canonical-more (omega arith) (omega (arith, c .before .before .before .before .before .before .pre .0 .vars-to)) (in-canonical (words (c .before .before .before .before .before .before .args .image .now)) (c .before .before .before .before .before .before .args .s .variables) ((c .before .before .before .before .before .before .args .b) + 5) (c .before .before .before .before .before .before .pre .1 .1 .1 .0 .one))))
+power-of-requires c κs = ((omega arith, (omega arith, omega (arith, c .before .before .before .before .get .ensures, c .before .before .before .before .before .before .pre .1 .1 .0 .to, c .before .before .before .before .before .before .pre .0 .vars-to))), rw (c .monomial-in .ensures .is) (starts-wide (starts-whole (in-canonical (words (c .before .before .before .before .before .before .args .image .now)) (c .before .before .before .before .before .before .args .s .variables) ((c .before .before .before .before .before .before .args .b) + 5) (c .before .before .before .before .before .before .pre .1 .1 .1 .0 .one)))))
 
 -- src/walk.rt:310:23
 add-get : tie.Need-add-get
@@ -59,7 +59,7 @@ get-requires-2 c κs = search needs
 
 -- src/walk.rt:296:1
 returns-2 : tie.Need-returns-2
-returns-2 c = other-answer (words (c .before .before .before .before .before .before .before .before .args .image .now)) (c .before .before .before .before .before .before .before .before .args .s) (c .before .before .before .before .before .before .before .before .args .at) (c .before .before .before .before .before .before .before .before .args .b) (c .before .before .before .before .before .before .get .result) (c .get2 .result) (c .before .power-of .result) (c .before .before .before .before .before .before .get .ensures) (c .get2 .ensures) (c .before .before .before .before .if1 .left) (rw (c .before .before .monomial-in .ensures .is) at (c .before .power-of .ensures))
+returns-2 c = other-answer (words (c .before .before .before .before .before .before .before .before .args .image .now)) (c .before .before .before .before .before .before .before .before .args .s) (c .before .before .before .before .before .before .before .before .args .at) (c .before .before .before .before .before .before .before .before .args .b) (c .before .before .before .before .before .before .get .result) (c .get2 .result) (c .before .power-of .result) (c .before .before .before .before .before .before .get .ensures) (c .get2 .ensures) (c .before .before .before .before .if1 .left) (rw (c .before .before .monomial-in .ensures .is, first-whole (in-canonical (words (c .before .before .before .before .before .before .before .before .args .image .now)) (c .before .before .before .before .before .before .before .before .args .s .variables) ((c .before .before .before .before .before .before .before .before .args .b) + 5) (c .before .before .before .before .before .before .before .before .pre .1 .1 .1 .0 .one))) at (c .before .power-of .ensures))
 
 pub other-ok-spec : {M : Type 1} → statement M
 other-ok-spec =

@@ -1,3 +1,4 @@
+use Prim.Native.Nat.{_<_}
 use native.Mathlib.Omega.{arith}
 use mathlib.Core.Path.{sym, _∙_}
 use Rattle.words.specs.Words.{words}
@@ -35,7 +36,7 @@ cast-label-in c = search needs
 
 -- src/walk.rt:259:13
 label-in-requires : tie.Need-label-in-requires
-label-in-requires c κs = (c .before .before .before .before .before .before .pre .0, (omega (arith, c .before .before .before .before .before .before .pre .1 .1 .1 .from, c .before .before .before .before .before .before .pre .0 .range .kind-to, c .before .before .before .get .ensures, c .if1 .taken), rw (c .before .before .get2 .ensures) ((c .before .before .before .before .before .before .pre .1 .1 .1 .ratio) (sym (c .before .before .before .get .ensures) ∙ c .if1 .taken))))
+label-in-requires c κs = let z : (c .before .before .get2 .result) < (c .before .before .before .before .before .before .args .s .entries) = rw (c .before .before .get2 .ensures) ((c .before .before .before .before .before .before .pre .1 .1 .1 .ratio) (sym (c .before .before .before .get .ensures) ∙ c .if1 .taken)) in (c .before .before .before .before .before .before .pre .0 .range, (omega (arith, c .before .before .before .before .before .before .pre .0 .room, length-words (c .before .before .before .before .before .before .args .image .now)), (((omega (arith, c .before .before .before .before .before .before .pre .1 .1 .1 .from, c .before .before .before .before .before .before .pre .0 .range .kind-to, c .before .before .before .get .ensures, c .if1 .taken)), omega (arith, c .before .before .before .before .before .before .pre .0 .range .few, z)), (c .before .before .before .before .before .before .pre .0 .rows) (omega (arith, c .before .before .before .before .before .before .pre .1 .1 .1 .from, c .before .before .before .before .before .before .pre .0 .range .kind-to, c .before .before .before .get .ensures, c .if1 .taken)) (c .before .before .get2 .result) z)))
 
 -- src/walk.rt:262:20
 get-requires-3 : tie.Need-get-requires-3

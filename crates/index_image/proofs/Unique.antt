@@ -13,22 +13,23 @@ use Rattle.fast_compare.proofs.Exact as maps
 use Rattle.kd_theory.specs.Tree.{Tree, leaf, branch, inorder, nodes, count}
 use Rattle.index_theory.specs.Entries.{Entry, entryAt, one}
 use Rattle.index_theory.specs.State.{Kind, monomials, ratioed, State, OfKind, LabelsOf, powerIn}
-use Rattle.index_image.specs.Layout.{code, nodeWidth, nodeWords, treeWords, Is}
+use Rattle.index_image.specs.Layout.{code, shapeOf, nodeWords, treeWords, Is}
+use Rattle.index_image.specs.Shape.{nodeWidth, tagAt, keyAt, countAt, skipAt}
 use Rattle.index_image.specs.Walk.{lmIn}
 use Rattle.index_image.specs.Door.{indexIn, signIn}
 use Rattle.index_image.specs.declared.Shape.{Shape}
 use Rattle.index_image.proofs.Encoding.{Fits, node-length, tree-length}
-use Rattle.index_sound.proofs.Labels.{MapIs, is-map}
-use Rattle.index_image.proofs.Shapes.{shapeOf, ratio-code}
+use Rattle.index_image.proofs.Labels.{MapIs, is-map}
+use Rattle.index_image.proofs.Shapes.{ratio-code}
 use Rattle.index_image.proofs.Heads.{same-shape}
-use Rattle.index_sound.proofs.Checking as of
+use Rattle.index_image.proofs.Images as of
 
 -- ---- the rows of a tree and its entries in order give the tree
 module _ (m : ℕ) (xs : List ℕ) (pw : ℕ → ℕ → ℕ) (few : m ≤ 64) (above : (v e : ℕ) → m ≤ v → pw v e ≡ 0) where
   abbrev rows : Tree → List ℕ
   rows t = treeWords m xs pw t
 
-  root-count : (t : Tree) → getD (rows t) 2 0 ≡ count t
+  root-count : (t : Tree) → getD (rows t) (countAt 0) 0 ≡ count t
   unfolding treeWords nodeWords
   root-count (leaf es) = refl
   root-count (branch d k l r) = refl
@@ -48,32 +49,32 @@ module _ (m : ℕ) (xs : List ℕ) (pw : ℕ → ℕ → ℕ) (few : m ≤ 64) (
   branches d k l r d′ k′ l′ r′ e =
       let a = node-length m xs pw few above (suc d) k (nodes l) (inorder l ++ inorder r) in
       let b = node-length m xs pw few above (suc d′) k′ (nodes l′) (inorder l′ ++ inorder r′) in
-      let z : suc d ≡ suc d′ = ap (λ (x : List ℕ). getD x 0 0) e in
+      let z : suc d ≡ suc d′ = ap (λ (x : List ℕ). getD x (tagAt 0) 0) e in
       record {
         dim = omega arith;
-        key = ap (λ (x : List ℕ). getD x 1 0) e;
-        skip = ap (λ (x : List ℕ). getD x 3 0) e;
+        key = ap (λ (x : List ℕ). getD x (keyAt 0) 0) e;
+        skip = ap (λ (x : List ℕ). getD x (skipAt 0) 0) e;
         sides = same-right (nodeWords m xs pw (suc d) k (nodes l) (inorder l ++ inorder r)) (rows l ++ rows r) (nodeWords m xs pw (suc d′) k′ (nodes l′) (inorder l′ ++ inorder r′)) (rows l′ ++ rows r′) (a ∙ sym b) e;
       }
 
-  leaf-tag : (es : List ℕ) → getD (rows (leaf es)) 0 0 ≡ 0
+  leaf-tag : (es : List ℕ) → getD (rows (leaf es)) (tagAt 0) 0 ≡ 0
   unfolding treeWords nodeWords
   leaf-tag es = refl
 
-  branch-tag : (d k : ℕ) (l r : Tree) → getD (rows (branch d k l r)) 0 0 ≡ suc d
+  branch-tag : (d k : ℕ) (l r : Tree) → getD (rows (branch d k l r)) (tagAt 0) 0 ≡ suc d
   unfolding treeWords nodeWords
   branch-tag d k l r = refl
 
   pub tree-unique : (t u : Tree) → rows t ≡ rows u → inorder t ≡ inorder u → t ≡ u
   tree-unique (leaf a) (leaf b) e i = ap leaf i
-  tree-unique (leaf a) (branch d k l r) e i = absurd (omega (arith, ap (λ (x : List ℕ). getD x 0 0) e, leaf-tag a, branch-tag d k l r))
-  tree-unique (branch d k l r) (leaf b) e i = absurd (omega (arith, ap (λ (x : List ℕ). getD x 0 0) e, leaf-tag b, branch-tag d k l r))
+  tree-unique (leaf a) (branch d k l r) e i = absurd (omega (arith, ap (λ (x : List ℕ). getD x (tagAt 0) 0) e, leaf-tag a, branch-tag d k l r))
+  tree-unique (branch d k l r) (leaf b) e i = absurd (omega (arith, ap (λ (x : List ℕ). getD x (tagAt 0) 0) e, leaf-tag b, branch-tag d k l r))
   tree-unique (branch d k l r) (branch d′ k′ l′ r′) e i =
       let b = branches d k l r d′ k′ l′ r′ e in
       let n : length (rows l) ≡ length (rows l′) = long l ∙ ap (λ (x : ℕ). x * nodeWidth m) (b .skip) ∙ sym (long l′) in
       let el = same-left (rows l) (rows r) (rows l′) (rows r′) n (b .sides) in
       let er = same-right (rows l) (rows r) (rows l′) (rows r′) n (b .sides) in
-      let c : count l ≡ count l′ = sym (root-count l) ∙ ap (λ (x : List ℕ). getD x 2 0) el ∙ root-count l′ in
+      let c : count l ≡ count l′ = sym (root-count l) ∙ ap (λ (x : List ℕ). getD x (countAt 0) 0) el ∙ root-count l′ in
       let x = tree-unique l l′ el (same-left (inorder l) (inorder r) (inorder l′) (inorder r′) c i) in
       let y = tree-unique r r′ er (same-right (inorder l) (inorder r) (inorder l′) (inorder r′) c i) in
       λ j. branch (b .dim j) (b .key j) (x j) (y j)
@@ -116,10 +117,10 @@ module _ (bs : List ℕ) (a b : State) (p : Is a bs) (q : Is b bs) where
   counts = ap (λ (s : Shape). s .entries) same
 
   maxima : a .maxima ≡ b .maxima
-  maxima = sym (of.P bs a p .maxima) ∙ rw vars (of.P bs b q .maxima)
+  maxima = sym (of.pieces bs a p .maxima) ∙ rw vars (of.pieces bs b q .maxima)
 
   map-maxima : a .mapMaxima ≡ b .mapMaxima
-  map-maxima = sym (of.P bs a p .map) ∙ rw vars (of.P bs b q .map)
+  map-maxima = sym (of.pieces bs a p .map) ∙ rw vars (of.pieces bs b q .map)
 
   entry : (i : ℕ) → i < length (a .entries) → entryAt (a .entries) i ≡ entryAt (b .entries) i
   entry i h =
@@ -154,7 +155,7 @@ module _ (bs : List ℕ) (a b : State) (p : Is a bs) (q : Is b bs) where
           λ i. record { variables = v i; capacity = c i; rows = (x ∙ sym y) i }
       go ratioed e =
           let y : MapIs W (shapeOf a) (b .labels) = rw same (of.map-is bs b q (sym kinds ∙ e)) in
-          let to : (l : map.State) → MapIs W (shapeOf a) l → _ = is-map bs (shapeOf a) (of.range bs a p) (of.room bs a p) (ratio-code (a .kind) e) in
+          let to : (l : map.State) → MapIs W (shapeOf a) l → _ = is-map bs (shapeOf a) (of.range bs a p) (p .room) (ratio-code (a .kind) e) in
           maps.state-unique _ (a .labels) (b .labels) (to (a .labels) (of.map-is bs a p e)) (to (b .labels) y)
 
   trees : a .tree ≡ b .tree
@@ -167,10 +168,10 @@ module _ (bs : List ℕ) (a b : State) (p : Is a bs) (q : Is b bs) where
       nodes-eq = ap (λ (s : Shape). s .nodes) same
 
       rows-eq : treeWords (a .variables) (a .mapMaxima) (powerIn (a .entries)) (a .tree) ≡ treeWords (a .variables) (a .mapMaxima) (powerIn (a .entries)) (b .tree)
-      rows-eq = sym (of.P bs a p .nodes-are) ∙ rw (kinds, vars, caps, nodes-eq, map-maxima, entries) (of.P bs b q .nodes-are)
+      rows-eq = sym (of.pieces bs a p .nodes-are) ∙ rw (kinds, vars, caps, nodes-eq, map-maxima, entries) (of.pieces bs b q .nodes-are)
 
       leaves-eq : inorder (a .tree) ≡ inorder (b .tree)
-      leaves-eq = sym (of.P bs a p .permutation) ∙ rw (kinds, vars, caps, counts) (of.P bs b q .permutation)
+      leaves-eq = sym (of.pieces bs a p .permutation) ∙ rw (kinds, vars, caps, counts) (of.pieces bs b q .permutation)
 
   pub state-unique : a ≡ b
   state-unique = λ i. record {

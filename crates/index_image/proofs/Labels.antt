@@ -11,12 +11,12 @@ use Rattle.words.proofs.Laws.{length-words}
 use Rattle.fast_compare.specs.Map as map
 use Rattle.fast_compare.specs.Layout as labels
 use Rattle.fast_compare.proofs.Images as images
 use Rattle.index_image.specs.Shape as at
 use Rattle.index_image.specs.Door.{labelsIn, rowsIn}
 use Rattle.index_image.specs.declared.Shape.{Shape}
 use Rattle.index_image.proofs.Bounds.{ratio-labels}
 use Rattle.index_image.proofs.Slots.{part-words}
-use Rattle.index_sound.specs.Checks.{labelBytes}
+use Rattle.index_image.specs.Door.{labelBytes}
 
 -- the image of the map l stands in its place
 pub record MapIs (W : List ℕ) (s : Shape) (l : map.State) : Type 0 where
@@ -80,5 +80,5 @@ module _ (bs : List ℕ) (s : Shape) (R : at.InRange s) (room : 4 * at.size s �
         ap-row : {a b : ℕ} → a ≡ b → images.RowIs (labelsIn W s) a (labels.rowAt a j) (map.row (l .rows) j) → images.RowIs (labelsIn W s) b (labels.rowAt b j) (map.row (l .rows) j)
         ap-row e r = rw e at r
 
-    pub label-at : (j : ℕ) → j < length (l .rows) → getD W (at.labelsAt s + (labels.rowAt (s .variables) j + (s .variables + 2))) 0 ≡ map.label (l .rows) j
+    pub label-at : (j : ℕ) → j < length (l .rows) → getD W (at.labelAt s j) 0 ≡ map.label (l .rows) j
     label-at j h = sym (getD-drop (at.labelsAt s) W (labels.rowAt (s .variables) j + (s .variables + 2)) 0) ∙ row-at j h .label-is
