@@ -44,16 +44,19 @@ wayOf K e (branch d k l r) =
 -- ---- a row with one entry more, whose lm is `lm`
 -- the gcd of a row's c entries and lm; of no entries it is lm
 unfoldable pub grownGcd : List ℕ → ℕ → ℕ → ℕ → List ℕ → List ℕ
-grownGcd W m at c lm = cond (eqb c 0) lm (result Gcd (monomialIn W m (at + 5)) lm)
+grownGcd W m i c lm = cond (eqb c 0) lm (result Gcd (monomialIn W m (at.gcdAt i)) lm)
 
 -- the mask and the slot of a row
+abbrev pub gcdWidth : ℕ → ℕ
+gcdWidth m = m + 2
+
 unfoldable pub gcdWords : ℕ → List ℕ → List ℕ → List ℕ
 gcdWords m xs ws = mask m xs (pow 1 ws) ∷ slot m ws
 
--- the bytes with the row at word `at` grown
+-- the bytes with the row at word i grown
 unfoldable pub grown : List ℕ → List ℕ → Shape → ℕ → List ℕ → List ℕ
-grown bs W s at lm =
-    pasteW (pasteW bs (at + 4) (gcdWords (s .variables) (mapMaxima W s) (grownGcd W (s .variables) at (getD W (at + 2) 0) lm))) (at + 2) ((getD W (at + 2) 0 + 1) ∷ [])
+grown bs W s i lm =
+    pasteW (pasteW bs (at.nodeMaskAt i) (gcdWords (s .variables) (mapMaxima W s) (grownGcd W (s .variables) i (getD W (at.countAt i) 0) lm))) (at.countAt i) ((getD W (at.countAt i) 0 + 1) ∷ [])
 
 -- whether an entry with this lm and label lies below a branch's key. The tag of the ratio is the kind of a ratio index, and no other tag is.
 unfoldable pub belowKey : List ℕ → Shape → List ℕ → ℕ → ℕ → ℕ → Bool
@@ -65,7 +68,7 @@ pub record Growth (W : List ℕ) (s : Shape) (lm : List ℕ) (lab k : ℕ) : Typ
   pub power : ℕ → ℕ → ℕ
   pub label : ℕ → ℕ
   pub tree : Tree
-  pub rows : part W (at.nodeAt s k) (nodes tree * (s .variables + 6)) ≡ treeWords (s .variables) (mapMaxima W s) power tree
+  pub rows : part W (at.nodeAt s k) (nodes tree * at.nodeWidth (s .variables)) ≡ treeWords (s .variables) (mapMaxima W s) power tree
   pub inside : k + nodes tree ≤ s .nodes
   pub keyed : Keyed s tree
   pub few : count tree < s .capacity

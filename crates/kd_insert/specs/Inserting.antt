@@ -39,4 +39,4 @@ unfoldable pub hung : (bs : List ℕ) (s : Shape) (lm : List ℕ) (lab : ℕ) �
 hung bs s lm lab g =
     pasteW
     (pasteW (pasteW bs (at.nodeAt s 0) (grownRows g)) (at.permutationAt s + place g) (s .entries ∷ part (words bs) (at.permutationAt s + place g) (s .entries - place g)))
-    4 ((s .entries + 1) ∷ [])
+    at.lengthAt ((s .entries + 1) ∷ [])

@@ -12,8 +12,8 @@ use Rattle.fast_compare.specs.Layout as labels
 use Rattle.fast_compare.specs.declared.Comparer.{Comparer}
 use Rattle.fast_compare.specs.declared.Comparer.the-variants.{Known, New, Full, NoLabel}
 use Rattle.index_theory.specs.Calls.{relabel}
-use Rattle.index_image.specs.Layout.{slot}
 use Rattle.index_theory.specs.State.{rowOf}
+use Rattle.index_image.specs.Layout.{masked}
 use Rattle.index_image.specs.Shape as at
 use Rattle.index_image.specs.declared.Shape.{Shape}
 
@@ -34,5 +34,4 @@ pub record Labels (s : Shape) (l : map.State) (v : map.Value) (r : ℕ) (entry e
 
 -- the words of an entry of a ratio index
 abbrev pub ratioRow : ℕ → List ℕ → ℕ → List ℕ → List ℕ → ℕ → List ℕ
-ratioRow m xs i sign lm row =
-    slot m lm ++ (mask m xs (pow 1 lm) ∷ indexWord i ∷ (slot m sign ++ (mask m xs (pow 1 sign) ∷ row ∷ [])))
+ratioRow m xs i sign lm row = masked m xs lm (indexWord i ∷ masked m xs sign (row ∷ []))

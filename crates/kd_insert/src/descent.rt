@@ -1,5 +1,7 @@
 // The way of a new entry from the root to its leaf. Every row on it gets one entry more.
 use index_image::Shape;
+use index_image::fields;
+use index_image::walk;
 ghost use mathlib.Core.Path.{_≡_};
 ghost use Prim.Native.Nat.{_+_, _*_, _%_, _≤_, _<_};
 ghost use lib.ListN.{length, getD, drop};
@@ -10,10 +12,10 @@ ghost use Rattle.monomial.specs.Operations.{result};
 ghost use Rattle.monomial.specs.declared.ordered_ops.Op.{Op};
 ghost use Rattle.divmask.specs.Tracker.{Maxima};
 ghost use Rattle.index_image.specs.Shape as shape;
-ghost use Rattle.index_image.specs.Walk as walk;
+ghost use Rattle.index_image.specs.Walk as rows;
 ghost use Rattle.index_image.specs.Walk.{mapMaxima};
 ghost use Rattle.index_image.specs.Rows.{monomialIn};
-ghost use Rattle.kd_insert.specs.Growing.{belowKey, gcdWords, grownGcd, grown, Growth, keys, wayOf, grownRows, place};
+ghost use Rattle.kd_insert.specs.Growing.{gcdWidth, belowKey, gcdWords, grownGcd, grown, Growth, keys, wayOf, grownRows, place};
 
 // One step of the way: it stops at a leaf; else so many rows on, passing over so many entries.
 pub struct Way {
@@ -28,12 +30,12 @@ fn make_gcd(image: &mut [u8], s: Shape, at: usize, lm: &[u8])
     requires { ⌜ 4 * shape.size s ≤ length (now image) ⌝ }
     requires { ⌜ Maxima (s .variables) (mapMaxima (words (now image)) s) ⌝ }
     requires { ⌜ Canonical 1 (s .variables) (words (now lm)) ⌝ }
-    requires { ⌜ at + (s .variables + 6) ≤ shape.size s ⌝ }
-    requires { ⌜ (front 1 (s .variables) 0 (drop (at + 5) (words (now image))) ≡ 0 → ⊥) ⌝ }
-    ensures { λ _. ⌜ now (image .exit) ≡ pasteW (now (image .entry)) (at + 4) (gcdWords (s .variables) (mapMaxima (words (now (image .entry))) s) (result Op.Gcd (monomialIn (words (now (image .entry))) (s .variables) (at + 5)) (words (now (lm .entry))))) ⌝ }
+    requires { ⌜ at + shape.nodeWidth (s .variables) ≤ shape.size s ⌝ }
+    requires { ⌜ (front 1 (s .variables) 0 (drop (shape.gcdAt at) (words (now image))) ≡ 0 → ⊥) ⌝ }
+    ensures { λ _. ⌜ now (image .exit) ≡ pasteW (now (image .entry)) (shape.nodeMaskAt at) (gcdWords (s .variables) (mapMaxima (words (now (image .entry))) s) (result Op.Gcd (monomialIn (words (now (image .entry))) (s .variables) (shape.gcdAt at)) (words (now (lm .entry))))) ⌝ }
 {
     let mut made = [0u8; 260];
-    let r = monomial::gcd(crate::slots::monomial_in(image, s, at + 5), lm, &mut made);
+    let r = monomial::gcd(walk::monomial_in(image, s, at + fields::GCD), lm, &mut made);
     let e = 4 * r;
     crate::slots::write_gcd(image, s, at, &made[..e]);
 }
@@ -44,12 +46,12 @@ fn meet(image: &mut [u8], s: Shape, at: usize, lm: &[u8])
     requires { ⌜ 4 * shape.size s ≤ length (now image) ⌝ }
     requires { ⌜ Maxima (s .variables) (mapMaxima (words (now image)) s) ⌝ }
     requires { ⌜ Canonical 1 (s .variables) (words (now lm)) ⌝ }
-    requires { ⌜ at + (s .variables + 6) ≤ shape.size s ⌝ }
-    requires { ⌜ (front 1 (s .variables) 0 (drop (at + 5) (words (now image))) ≡ 0 → ⊥) ⌝ }
-    requires { ⌜ part (words (now image)) (at + 4) (s .variables + 2) ≡ gcdWords (s .variables) (mapMaxima (words (now image)) s) (monomialIn (words (now image)) (s .variables) (at + 5)) ⌝ }
-    ensures { λ _. ⌜ now (image .exit) ≡ pasteW (now (image .entry)) (at + 4) (gcdWords (s .variables) (mapMaxima (words (now (image .entry))) s) (result Op.Gcd (monomialIn (words (now (image .entry))) (s .variables) (at + 5)) (words (now (lm .entry))))) ⌝ }
+    requires { ⌜ at + shape.nodeWidth (s .variables) ≤ shape.size s ⌝ }
+    requires { ⌜ (front 1 (s .variables) 0 (drop (shape.gcdAt at) (words (now image))) ≡ 0 → ⊥) ⌝ }
+    requires { ⌜ part (words (now image)) (shape.nodeMaskAt at) (gcdWidth (s .variables)) ≡ gcdWords (s .variables) (mapMaxima (words (now image)) s) (monomialIn (words (now image)) (s .variables) (shape.gcdAt at)) ⌝ }
+    ensures { λ _. ⌜ now (image .exit) ≡ pasteW (now (image .entry)) (shape.nodeMaskAt at) (gcdWords (s .variables) (mapMaxima (words (now (image .entry))) s) (result Op.Gcd (monomialIn (words (now (image .entry))) (s .variables) (shape.gcdAt at)) (words (now (lm .entry))))) ⌝ }
 {
-    if monomial::divides(crate::slots::monomial_in(image, s, at + 5), lm) {
+    if monomial::divides(walk::monomial_in(image, s, at + fields::GCD), lm) {
         return;
     }
     make_gcd(image, s, at, lm);
@@ -62,10 +64,10 @@ fn grow_gcd(image: &mut [u8], s: Shape, at: usize, c: u32, lm: &[u8])
     requires { ⌜ Maxima (s .variables) (mapMaxima (words (now image)) s) ⌝ }
     requires { ⌜ Canonical 1 (s .variables) (words (now lm)) ⌝ }
     requires { ⌜ length (now lm) % 4 ≡ 0 ⌝ }
-    requires { ⌜ at + (s .variables + 6) ≤ shape.size s ⌝ }
-    requires { ⌜ (front 1 (s .variables) 0 (drop (at + 5) (words (now image))) ≡ 0 → ⊥) ⌝ }
-    requires { ⌜ part (words (now image)) (at + 4) (s .variables + 2) ≡ gcdWords (s .variables) (mapMaxima (words (now image)) s) (monomialIn (words (now image)) (s .variables) (at + 5)) ⌝ }
-    ensures { λ _. ⌜ now (image .exit) ≡ pasteW (now (image .entry)) (at + 4) (gcdWords (s .variables) (mapMaxima (words (now (image .entry))) s) (grownGcd (words (now (image .entry))) (s .variables) at c (words (now (lm .entry))))) ⌝ }
+    requires { ⌜ at + shape.nodeWidth (s .variables) ≤ shape.size s ⌝ }
+    requires { ⌜ (front 1 (s .variables) 0 (drop (shape.gcdAt at) (words (now image))) ≡ 0 → ⊥) ⌝ }
+    requires { ⌜ part (words (now image)) (shape.nodeMaskAt at) (gcdWidth (s .variables)) ≡ gcdWords (s .variables) (mapMaxima (words (now image)) s) (monomialIn (words (now image)) (s .variables) (shape.gcdAt at)) ⌝ }
+    ensures { λ _. ⌜ now (image .exit) ≡ pasteW (now (image .entry)) (shape.nodeMaskAt at) (gcdWords (s .variables) (mapMaxima (words (now (image .entry))) s) (grownGcd (words (now (image .entry))) (s .variables) at c (words (now (lm .entry))))) ⌝ }
 {
     if c == 0 {
         crate::slots::write_gcd(image, s, at, lm);
@@ -81,28 +83,15 @@ pub fn grow(image: &mut [u8], s: Shape, at: usize, lm: &[u8])
     requires { ⌜ Maxima (s .variables) (mapMaxima (words (now image)) s) ⌝ }
     requires { ⌜ Canonical 1 (s .variables) (words (now lm)) ⌝ }
     requires { ⌜ length (now lm) % 4 ≡ 0 ⌝ }
-    requires { ⌜ at + (s .variables + 6) ≤ shape.size s ⌝ }
-    requires { ⌜ (front 1 (s .variables) 0 (drop (at + 5) (words (now image))) ≡ 0 → ⊥) ⌝ }
-    requires { ⌜ getD (words (now image)) (at + 2) 0 < s .capacity ⌝ }
-    requires { ⌜ part (words (now image)) (at + 4) (s .variables + 2) ≡ gcdWords (s .variables) (mapMaxima (words (now image)) s) (monomialIn (words (now image)) (s .variables) (at + 5)) ⌝ }
+    requires { ⌜ at + shape.nodeWidth (s .variables) ≤ shape.size s ⌝ }
+    requires { ⌜ (front 1 (s .variables) 0 (drop (shape.gcdAt at) (words (now image))) ≡ 0 → ⊥) ⌝ }
+    requires { ⌜ getD (words (now image)) (shape.countAt at) 0 < s .capacity ⌝ }
+    requires { ⌜ part (words (now image)) (shape.nodeMaskAt at) (gcdWidth (s .variables)) ≡ gcdWords (s .variables) (mapMaxima (words (now image)) s) (monomialIn (words (now image)) (s .variables) (shape.gcdAt at)) ⌝ }
     ensures { λ _. ⌜ now (image .exit) ≡ grown (now (image .entry)) (words (now (image .entry))) s at (words (now (lm .entry))) ⌝ }
 {
-    let c = words::get(image, at + 2);
+    let c = words::get(image, at + fields::COUNT);
     grow_gcd(image, s, at, c, lm);
-    words::put(image, at + 2, c + 1);
-}
-
-// The label of the ratio of entry e.
-fn label_in(image: &[u8], s: Shape, e: usize) -> u64
-    requires { ⌜ shape.InRange s ⌝ }
-    requires { ⌜ 4 * shape.size s ≤ length (now image) ⌝ }
-    requires { ⌜ (s .kind ≡ 1) × (e < s .entries) ⌝ }
-    requires { ⌜ walk.rowIn (words (now image)) s e < s .capacity ⌝ }
-    ensures { λ r. ⌜ r ≡ walk.label (words (now (image .entry))) s e ⌝ }
-{
-    let m = s.variables;
-    let r = words::get(image, s.entry_at(e) + (2 * m + 5)) as usize;
-    words::get(image, s.labels_at() + (4 + r * (m + 3) + (m + 2))) as u64
+    words::put(image, at + fields::COUNT, c + 1);
 }
 
 // Whether an entry with this lm and label lies below the key of a branch.
@@ -110,12 +99,12 @@ fn is_below(image: &[u8], s: Shape, tag: usize, key: u32, lm: &[u8], label: u64)
     requires { ⌜ shape.InRange s ⌝ }
     requires { ⌜ 4 * shape.size s ≤ length (now image) ⌝ }
     requires { ⌜ Canonical 1 (s .variables) (words (now lm)) ⌝ }
-    requires { ⌜ (1 ≤ tag) × (tag ≤ walk.dims s) ⌝ }
-    requires { ⌜ (tag ≡ s .kind → (key < s .entries) × (walk.rowIn (words (now image)) s key < s .capacity)) ⌝ }
+    requires { ⌜ (1 ≤ tag) × (tag ≤ rows.dims s) ⌝ }
+    requires { ⌜ (tag ≡ s .kind → (key < s .capacity) × (rows.rowIn (words (now image)) s key < s .capacity)) ⌝ }
     ensures { λ r. ⌜ r ≡ belowKey (words (now (image .entry))) s (words (now (lm .entry))) label tag key ⌝ }
 {
     if tag == s.kind {
-        return label < label_in(image, s, key as usize);
+        return label < walk::label_in(image, s, key as usize);
     }
     let v = tag - 1 - s.kind;
     monomial::power_of(lm, 1, v as u32) < key
@@ -135,18 +124,18 @@ pub fn next_step(image: &[u8], s: Shape, k: usize, lm: &[u8], label: u64) -> Way
         return Way {
             stop: true,
             rows: 0,
-            places: words::get(image, at + 2) as usize,
+            places: words::get(image, at + fields::COUNT) as usize,
         };
     }
-    if is_below(image, s, tag, words::get(image, at + 1), lm, label) {
+    if is_below(image, s, tag, words::get(image, at + fields::KEY), lm, label) {
         return Way {
             stop: false,
             rows: 1,
             places: 0,
         };
     }
-    let skip = words::get(image, at + 3) as usize;
-    let passed = words::get(image, at + (s.variables + 8)) as usize;
+    let skip = words::get(image, at + fields::SKIP) as usize;
+    let passed = words::get(image, at + (s.variables + (fields::NODE + fields::COUNT))) as usize;
     Way {
         stop: false,
         rows: 1 + skip,

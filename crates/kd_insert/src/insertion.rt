@@ -1,5 +1,6 @@
 // An insert: the maxima, the entry's row, the tree, the permutation and the header.
 use index_image::Shape;
+use index_image::fields;
 ghost use mathlib.Core.Path.{_≡_};
 ghost use Prim.Native.Nat.{_+_, _*_, _%_, _≤_, _<_};
 ghost use lib.ListN.{length};
@@ -17,12 +18,12 @@ ghost use Rattle.kd_insert.specs.Inserting.{Room, Inserted, signed, Hang
 pub fn track(image: &mut [u8], s: Shape, monomial: &[u8])
     requires { ⌜ shape.InRange s ⌝ }
     requires { ⌜ 4 * shape.size s ≤ length (now image) ⌝ }
-    requires { ⌜ Maxima (s .variables) (part (words (now image)) 16 (s .variables)) ⌝ }
+    requires { ⌜ Maxima (s .variables) (part (words (now image)) shape.maximaAt (s .variables)) ⌝ }
     requires { ⌜ Canonical 1 (s .variables) (words (now monomial)) ⌝ }
-    ensures { λ _. ⌜ now (image .exit) ≡ pasteW (now (image .entry)) 16 (updated (words (now (monomial .entry))) (part (words (now (image .entry))) 16 (s .variables))) ⌝ }
+    ensures { λ _. ⌜ now (image .exit) ≡ pasteW (now (image .entry)) shape.maximaAt (updated (words (now (monomial .entry))) (part (words (now (image .entry))) shape.maximaAt (s .variables))) ⌝ }
 {
     let m = s.variables;
-    let a = 4 * 16;
+    let a = 4 * fields::HEADER;
     let b = a + 4 * m;
     divmask::tracker::update(&mut image[a..b], m as u32, monomial);
 }
@@ -42,7 +43,7 @@ pub fn hang(image: &mut [u8], s: Shape, lm: &[u8], label: u64)
     let at = s.permutation_at();
     let p = crate::descent::descend(image, s, lm, label);
     words::runs::insert(image, at + p, at + n, n as u32);
-    words::put(image, 4, n as u32 + 1);
+    words::put(image, fields::LENGTH, n as u32 + 1);
 }
 
 // Inserts a monomial, and returns its number.

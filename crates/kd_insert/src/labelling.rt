@@ -2,6 +2,7 @@
 use fast_compare::Comparer;
 use fast_compare::Place;
 use index_image::Shape;
+use index_image::fields;
 ghost use mathlib.Core.Path.{_≡_};
 ghost use Prim.Native.Nat.{ℕ, _+_, _*_, _%_, _≤_, _<_};
 ghost use lib.ListN.{length, getD};
@@ -12,8 +13,8 @@ ghost use Rattle.fast_compare.specs.Layout as layout;
 ghost use Rattle.index_theory.specs.Entries.{quotientOf};
 ghost use Rattle.index_theory.specs.State.{rowOf};
 ghost use Rattle.index_image.specs.Shape as shape;
-ghost use Rattle.index_sound.specs.Checks.{labelBytes};
-ghost use Rattle.index_sound.proofs.Labels.{MapIs};
+ghost use Rattle.index_image.specs.Door.{labelBytes};
+ghost use Rattle.index_image.proofs.Labels.{MapIs};
 ghost use Rattle.kd_insert.specs.Labelling.{isNoLabel, settled, Labels};
 
 fn no_label(c: Comparer) -> bool
@@ -91,8 +92,11 @@ pub fn label_at(image: &[u8], s: Shape, row: usize) -> u64
     requires { ⌜ shape.InRange s ⌝ }
     requires { ⌜ 4 * shape.size s ≤ length (now image) ⌝ }
     requires { ⌜ (s .kind ≡ 1) × (row < s .capacity) ⌝ }
-    ensures { λ r. ⌜ r ≡ getD (words (now (image .entry))) (shape.labelsAt s + (4 + row * (s .variables + 3) + (s .variables + 2))) 0 ⌝ }
+    ensures { λ r. ⌜ r ≡ getD (words (now (image .entry))) (shape.labelAt s row) 0 ⌝ }
 {
     let m = s.variables;
-    words::get(image, s.labels_at() + (4 + row * (m + 3) + (m + 2))) as u64
+    words::get(
+        image,
+        s.labels_at() + (fields::LABELS + row * (m + fields::LABEL_ROW) + (m + fields::LABEL)),
+    ) as u64
 }

@@ -54,17 +54,17 @@ module _ (bs : List ℕ) (s : Shape) (R : Ready (words bs) s) where
   abbrev W : List ℕ
   W = words bs
 
-  lm-slot : (e : ℕ) → lmIn W s e ≡ monomialIn W (s .variables) (at.entryAt s e)
+  lm-slot : (e : ℕ) → lmIn W s e ≡ monomialIn W (s .variables) (at.lmAt s e)
   unfolding lmIn monomialIn
   lm-slot e = refl
 
-  pub lm-taken : (e : ℕ) (r : List ℕ) → e < s .entries → r ≡ ended bs (at.entryAt s e) → Taken r (lmIn W s e)
-  lm-taken e r h er = rw (lm-slot e) (taken bs (s .variables) (at.entryAt s e) r (er ∙ ended-found 1 (s .variables) bs (at.entryAt s e) (R .lms e h)))
+  pub lm-taken : (e : ℕ) (r : List ℕ) → e < s .entries → r ≡ ended bs (at.lmAt s e) → Taken r (lmIn W s e)
+  lm-taken e r h er = rw (lm-slot e) (taken bs (s .variables) (at.lmAt s e) r (er ∙ ended-found 1 (s .variables) bs (at.lmAt s e) (R .lms e h)))
 
   pub lm-short : (e : ℕ) → e < s .entries → length (lmIn W s e) ≤ 65
   unfolding lmIn part
   lm-short e h =
-      let d = drop (at.entryAt s e) W in
+      let d = drop (at.lmAt s e) W in
       omega (arith, canonical-length 1 (s .variables) _ (omega arith) (omega (arith, R .range .vars-to)) (front-canonical 1 (s .variables) d (omega arith) (R .lms e h)), R .range .vars-to)
 
   -- ---- the entries from place lo on, one after the other

@@ -16,12 +16,23 @@ use Rattle.index_image.specs.Shape as at
 use Rattle.index_image.specs.Layout.{Is}
 use Rattle.index_image.specs.Head.{HeadOk}
 use Rattle.index_image.specs.Rows.{entriesFrom}
-use Rattle.index_image.specs.Walk.{lmIn, Ready, TreeAt}
+use Rattle.index_image.specs.Walk.{power, mapMaxima, lmIn, Ready, Ordered, TreeAt}
 use Rattle.index_image.specs.declared.Shape.{Shape}
-use Rattle.index_image.proofs.Trees.{some-node, nodes-branch, nodes-leaf, take-apart, leaf-row, tree-head}
+use Rattle.index_image.proofs.Gcds.{Powers, image-powers}
+use Rattle.index_image.proofs.Trees as trees
+use Rattle.index_image.proofs.Trees.{some-node, nodes-branch, Head, Parts}
 use Rattle.index_image.proofs.Places.{row-behind}
 use Rattle.listing.specs.Listed.{lms, Here, Below, Root}
 use Rattle.listing.proofs.Monomials.{at-append, at-ext, behind}
+
+-- ---- the laws of rows, for the powers of the image itself
+module _ (W : List ℕ) (s : Shape) (R : Ready W s) where
+  abbrev P : Powers (s .variables) (power W s)
+  P = image-powers W s (R .range .vars-to)
+
+  tree-head : (k lo : ℕ) (t : Tree) → TreeAt W s k lo t → k + nodes t ≤ s .nodes → lo + count t ≤ s .entries → getD W (at.countAt (at.nodeAt s k)) 0 ≡ count t
+  tree-head k lo t a i f =
+      trees.tree-head W s (R .range) (R .room) (mapMaxima W s) (power W s) P k lo t (a .stands) (omega (arith, R .range .nodes-to)) (omega (arith, R .range .few)) .count
 
 module _ (W : List ℕ) (s : Shape) (R : Ready W s) (k lo room : ℕ) (h : Here W s k lo room) where
   abbrev row : ℕ
@@ -31,13 +42,13 @@ module _ (W : List ℕ) (s : Shape) (R : Ready W s) (k lo room : ℕ) (h : Here 
   in-rows = omega (arith, h .inside, some-node (h .tree))
 
   -- ---- its entries
-  pub count-here : getD W (row + 2) 0 ≡ count (h .tree)
-  count-here = tree-head W s R k lo (h .tree) (h .is) (h .inside) (h .few) .count
+  pub count-here : getD W (at.countAt row) 0 ≡ count (h .tree)
+  count-here = tree-head W s R k lo (h .tree) (h .is) (h .inside) (h .few)
 
-  pub entries-here : (c : ℕ) → c ≡ getD W (row + 2) 0 → entriesFrom W s lo c ≡ inorder (h .tree)
-  entries-here c e = rw (e ∙ count-here) (h .is .perm)
+  pub entries-here : (c : ℕ) → c ≡ getD W (at.countAt row) 0 → entriesFrom W s lo c ≡ inorder (h .tree)
+  entries-here c e = rw (e ∙ count-here) (h .is .stands .perm)
 
-  pub leaf-asked : (c : ℕ) → c ≡ getD W (row + 2) 0 → (lo + c ≤ s .entries) × (4 * length (lms W s (entriesFrom W s lo c)) ≤ room)
+  pub leaf-asked : (c : ℕ) → c ≡ getD W (at.countAt row) 0 → (lo + c ≤ s .entries) × (4 * length (lms W s (entriesFrom W s lo c)) ≤ room)
   leaf-asked c e = (omega (arith, count-here, h .few), rw (entries-here c e) (h .fits))
 
   -- ---- a branch
@@ -45,9 +56,9 @@ module _ (W : List ℕ) (s : Shape) (R : Ready W s) (k lo room : ℕ) (h : Here 
     pub less : Tree
     pub other : Tree
     pub order : inorder (h .tree) ≡ inorder less ++ inorder other
-    pub skip-is : getD W (row + 3) 0 ≡ nodes less
-    pub count-is : getD W (row + 2) 0 ≡ count less + count other
-    pub passed : getD W (row + (s .variables + 8)) 0 ≡ count less
+    pub skip-is : getD W (at.skipAt row) 0 ≡ nodes less
+    pub count-is : getD W (at.countAt row) 0 ≡ count less + count other
+    pub passed : getD W (at.countAt (row + at.nodeWidth (s .variables))) 0 ≡ count less
     pub some-less : 0 < count less
     pub some-other : 0 < count other
     pub less-is : TreeAt W s (k + 1) lo less
@@ -56,21 +67,24 @@ module _ (W : List ℕ) (s : Shape) (R : Ready W s) (k lo room : ℕ) (h : Here 
     pub other-inside : k + 1 + nodes less + nodes other ≤ s .nodes
     pub few : lo + count less + count other ≤ s .entries
     pub fits : 4 * (length (lms W s (inorder less)) + length (lms W s (inorder other))) ≤ room
-    pub less-count : getD W (at.nodeAt s (k + 1) + 2) 0 ≡ count less
-    pub other-count : getD W (at.nodeAt s (k + 1 + nodes less) + 2) 0 ≡ count other
+    pub less-count : getD W (at.countAt (at.nodeAt s (k + 1))) 0 ≡ count less
+    pub other-count : getD W (at.countAt (at.nodeAt s (k + 1 + nodes less))) 0 ≡ count other
 
-  pub at-branch : (getD W row 0 ≡ 0 → ⊥) → AtBranch
+  pub at-branch : (getD W (at.tagAt row) 0 ≡ 0 → ⊥) → AtBranch
+  unfolding Ordered
   at-branch nz = go (h .tree) refl (h .is) (h .inside) (h .few) (h .fits)
     where
       go : (t : Tree) → h .tree ≡ t → TreeAt W s k lo t → k + nodes t ≤ s .nodes → lo + count t ≤ s .entries → 4 * length (lms W s (inorder t)) ≤ room → AtBranch
-      go (leaf es) e t i f z = absurd (nz (leaf-row W s R k lo es t in-rows .tag-is))
+      go (leaf es) e t i f z = absurd (nz (trees.leaf-row W s (R .range) (R .room) (mapMaxima W s) (power W s) (P W s R) k lo es (t .stands) (omega (arith, in-rows, R .range .nodes-to)) .tag-is))
       go (branch d key l r) e t i f z =
           let lr = length-append (inorder l) (inorder r) in
           let nb = nodes-branch d key l r in
-          let p = take-apart W s R k lo d key l r (omega arith) (omega arith) t in
-          let lc = tree-head W s R (k + 1) lo l (p .one) (omega arith) (omega arith) .count in
-          let rc = tree-head W s R (k + 1 + nodes l) (lo + count l) r (p .two) (omega arith) (omega arith) .count in
-          let e8 : row + (s .variables + 8) ≡ at.nodeAt s (k + 1) + 2 = omega (arith, row-behind s k) in
+          let p = trees.take-apart W s (R .range) (R .room) (mapMaxima W s) (power W s) (P W s R) k lo d key l r (omega (arith, R .range .nodes-to)) (omega (arith, R .range .few)) (t .stands) in
+          let one : TreeAt W s (k + 1) lo l = record { stands = p .one; ordered = t .ordered .1 .0 } in
+          let two : TreeAt W s (k + 1 + nodes l) (lo + count l) r = record { stands = p .two; ordered = t .ordered .1 .1 } in
+          let lc = tree-head W s R (k + 1) lo l one (omega arith) (omega arith) in
+          let rc = tree-head W s R (k + 1 + nodes l) (lo + count l) r two (omega arith) (omega arith) in
+          let e8 : at.countAt (row + at.nodeWidth (s .variables)) ≡ at.countAt (at.nodeAt s (k + 1)) = omega (arith, row-behind s k) in
           let ll : length (lms W s (inorder l ++ inorder r)) ≡ length (lms W s (inorder l)) + length (lms W s (inorder r)) =
           ap length (at-append (lmIn W s) (inorder l) (inorder r)) ∙ length-append (lms W s (inorder l)) (lms W s (inorder r)) in
           record {
@@ -80,10 +94,10 @@ module _ (W : List ℕ) (s : Shape) (R : Ready W s) (k lo room : ℕ) (h : Here 
             skip-is = p .here .skip-is;
             count-is = p .here .count ∙ lr;
             passed = ap (λ (j : ℕ). getD W j 0) e8 ∙ lc;
-            some-less = p .sides .some-less;
-            some-other = p .sides .some-other;
-            less-is = p .one;
-            other-is = p .two;
+            some-less = t .ordered .0 .some-less;
+            some-other = t .ordered .0 .some-other;
+            less-is = one;
+            other-is = two;
             less-inside = omega arith;
             other-inside = omega arith;
             few = omega arith;
@@ -110,7 +124,7 @@ module _ (W : List ℕ) (s : Shape) (R : Ready W s) (k lo room : ℕ) (h : Here 
 
 -- ---- what is written, leaf by leaf and side by side
 module _ (W : List ℕ) (s : Shape) (R : Ready W s) (k lo : ℕ) (out : List ℕ) (h : Here W s k lo (length out)) where
-  pub leaf-below : (out′ : List ℕ) (r c : ℕ) → c ≡ getD W (at.nodeAt s k + 2) 0 → r ≡ length (lms W s (entriesFrom W s lo c)) → out′ ≡ pasteW out 0 (lms W s (entriesFrom W s lo c)) → Below W s k lo out out′ r h
+  pub leaf-below : (out′ : List ℕ) (r c : ℕ) → c ≡ getD W (at.countAt (at.nodeAt s k)) 0 → r ≡ length (lms W s (entriesFrom W s lo c)) → out′ ≡ pasteW out 0 (lms W s (entriesFrom W s lo c)) → Below W s k lo out out′ r h
   leaf-below out′ r c e er eo =
       let q = entries-here W s R k lo (length out) h c e in
       record { long = er ∙ ap (λ (es : List ℕ). length (lms W s es)) q; bytes = eo ∙ ap (λ (es : List ℕ). pasteW out 0 (lms W s es)) q }
@@ -128,10 +142,10 @@ module _ (W : List ℕ) (s : Shape) (R : Ready W s) (k lo : ℕ) (out : List ℕ
     pub rest-long : length (take (length out′ - 4 * n) (drop (4 * n) out′)) ≡ length out - 4 * length (lms W s (inorder (b .less)))
     rest-long = simp (length-take, length-drop) (omega (arith, one .long, same-room, b .fits))
 
-    abbrev pub second-here : (x y : ℕ) → x ≡ getD W (at.nodeAt s k + 3) 0 → y ≡ getD W (at.nodeAt s k + (s .variables + 8)) 0 → Here W s (k + 1 + x) (lo + y) (length (take (length out′ - 4 * n) (drop (4 * n) out′)))
+    abbrev pub second-here : (x y : ℕ) → x ≡ getD W (at.skipAt (at.nodeAt s k)) 0 → y ≡ getD W (at.countAt (at.nodeAt s k + at.nodeWidth (s .variables))) 0 → Here W s (k + 1 + x) (lo + y) (length (take (length out′ - 4 * n) (drop (4 * n) out′)))
     second-here x y ex ey = other-here W s R k lo (length out) h b (k + 1 + x) (lo + y) _ (omega (arith, b .skip-is)) (omega (arith, b .passed)) rest-long
 
-    module _ (x y : ℕ) (ex : x ≡ getD W (at.nodeAt s k + 3) 0) (ey : y ≡ getD W (at.nodeAt s k + (s .variables + 8)) 0) (ys : List ℕ) (r : ℕ)
+    module _ (x y : ℕ) (ex : x ≡ getD W (at.skipAt (at.nodeAt s k)) 0) (ey : y ≡ getD W (at.countAt (at.nodeAt s k + at.nodeWidth (s .variables))) 0) (ys : List ℕ) (r : ℕ)
         (second : (g : Here W s (k + 1 + x) (lo + y) (length (take (length out′ - 4 * n) (drop (4 * n) out′)))) → Below W s (k + 1 + x) (lo + y) (take (length out′ - 4 * n) (drop (4 * n) out′)) ys r g) where
       abbrev two : Below W s (k + 1 + x) (lo + y) (take (length out′ - 4 * n) (drop (4 * n) out′)) ys r (second-here x y ex ey)
       two = second (second-here x y ex ey)

@@ -3,12 +3,11 @@ use mathlib.Core.Path.{_≡_}
 use mathlib.Core.List.{List}
 use Prim.Native.Nat.{ℕ, _+_, _*_, _≤_}
 use lib.ListN.{length}
-use Rattle.words.specs.Words.{words, pasteW}
+use Rattle.words.specs.Words.{pasteW}
 use Rattle.kd_theory.specs.Tree.{Tree, inorder, nodes, count}
-use Rattle.index_theory.specs.State.{monomials, State}
-use Rattle.index_theory.specs.Listing.{monomialsAt, listing}
-use Rattle.index_image.specs.Layout.{Is}
-use Rattle.index_image.specs.Head.{HeadOk}
+use Rattle.index_theory.specs.State.{State}
+use Rattle.index_theory.specs.Listing.{monomialsAt}
+use Rattle.index_image.specs.Layout.{shapeOf, Is}
 use Rattle.index_image.specs.Walk.{lmIn, TreeAt}
 use Rattle.index_image.specs.declared.Shape.{Shape}
 
@@ -30,7 +29,12 @@ pub record Below (W : List ℕ) (s : Shape) (k lo : ℕ) (out out′ : List ℕ)
   pub bytes : out′ ≡ pasteW out 0 (lms W s (inorder (h .tree)))
 
 -- ---- a whole image
+-- the bytes are the image of some state, and s has the numbers of its header
 pub record Root (bs : List ℕ) (s : Shape) : Type 0 where
   pub state : State
   pub is : Is state bs
-  pub head : HeadOk (words bs) (length bs) s
+  pub shape : s ≡ shapeOf state
+
+-- what holds of every state with that image and shape
+abbrev pub Each : List ℕ → Shape → (State → Type 0) → Type 0
+Each bs s Q = (st : State) → Is st bs → s ≡ shapeOf st → Q st

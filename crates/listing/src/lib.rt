@@ -1,15 +1,14 @@
 // The listing of a monomial index: `to_vec` of kd_tree.rs and monomial_index.rs. It reads the image only, and splits nothing.
 use index_image::Shape;
+use index_image::fields;
 ghost use mathlib.Core.Path.{_≡_};
 ghost use Prim.Native.Nat.{_+_, _*_, _≤_, _<_};
 ghost use lib.ListN.{length};
 ghost use Rattle.words.specs.Words.{words, pasteW};
-ghost use Rattle.index_theory.specs.State.{State};
 ghost use Rattle.index_theory.specs.Listing.{listing};
-ghost use Rattle.index_image.specs.Layout.{Is};
 ghost use Rattle.index_image.specs.Rows.{entriesFrom};
 ghost use Rattle.index_image.specs.Walk.{Ready, lmIn};
-ghost use Rattle.listing.specs.Listed.{lms, Here, Below, Root};
+ghost use Rattle.listing.specs.Listed.{lms, Here, Below, Root, Each};
 
 // Writes the monomial of entry e at the front of `out`, and returns its length in words.
 fn write_monomial(image: &[u8], s: Shape, e: usize, out: &mut [u8]) -> usize
@@ -52,16 +51,17 @@ fn write_below(image: &[u8], s: Shape, k: usize, lo: usize, out: &mut [u8]) -> u
 {
     let row = s.node_at(k);
     if words::get(image, row) == 0 {
-        return write_leaf(image, s, lo, words::get(image, row + 2) as usize, out);
+        return write_leaf(image, s, lo, words::get(image, row + fields::COUNT) as usize, out);
     }
-    let skip = words::get(image, row + 3) as usize;
-    let less = words::get(image, row + (s.variables + 8)) as usize;
+    let skip = words::get(image, row + fields::SKIP) as usize;
+    let next = row + (s.variables + fields::NODE);
+    let less = words::get(image, next + fields::COUNT) as usize;
     let n = write_below(image, s, k + 1, lo, out);
     let at = 4 * n;
     n + write_below(image, s, k + 1 + skip, lo + less, &mut out[at..])
 }
 
-// How many words the monomials of the c entries from place 0 on have.
+// How many words the monomials of all entries have.
 fn words_of(image: &[u8], s: Shape) -> usize
     requires { ⌜ Ready (words (now image)) s ⌝ }
     ensures { λ r. ⌜ r ≡ length (lms (words (now (image .entry))) s (entriesFrom (words (now (image .entry))) s 0 (s .entries))) ⌝ }
@@ -81,7 +81,7 @@ fn words_of(image: &[u8], s: Shape) -> usize
 // The length of the listing in words.
 pub fn listing_words(image: &[u8], s: Shape) -> usize
     requires { ⌜ Root (now image) s ⌝ }
-    ensures { λ r. ⌜ ((st : State) → Is st (now (image .entry)) → r ≡ length (listing st)) ⌝ }
+    ensures { λ r. ⌜ Each (now (image .entry)) s (λ st. r ≡ length (listing st)) ⌝ }
 {
     words_of(image, s)
 }
@@ -89,8 +89,8 @@ pub fn listing_words(image: &[u8], s: Shape) -> usize
 // Writes the listing at the front of `out`.
 pub fn to_vec(image: &[u8], s: Shape, out: &mut [u8])
     requires { ⌜ Root (now image) s ⌝ }
-    requires { ⌜ ((st : State) → Is st (now image) → 4 * length (listing st) ≤ length (now out)) ⌝ }
-    ensures { λ _. ⌜ ((st : State) → Is st (now (image .entry)) → now (out .exit) ≡ pasteW (now (out .entry)) 0 (listing st)) ⌝ }
+    requires { ⌜ Each (now image) s (λ st. 4 * length (listing st) ≤ length (now out)) ⌝ }
+    ensures { λ _. ⌜ Each (now (image .entry)) s (λ st. now (out .exit) ≡ pasteW (now (out .entry)) 0 (listing st)) ⌝ }
 {
     write_below(image, s, 0, 0, out);
 }

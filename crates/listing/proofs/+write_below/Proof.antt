@@ -1,6 +1,5 @@
-use borrow.Author.Needs.{needs}
-use Rattle.index_image.proofs.Trees.{some-node}
 use native.Mathlib.Omega.{arith}
+use borrow.Author.Needs.{needs}
 use mathlib.Core.Path.{_≡_, refl, sym, ap, _∙_}
 use lib.ListN.{length, length-append, getD, take, drop, length-take, length-drop}
 use Rattle.words.specs.Words.{words, pasteW}
@@ -11,6 +10,7 @@ use Rattle.index_image.specs.Rows.{entriesFrom}
 use Rattle.index_image.specs.Walk.{lmIn, Ready}
 use Rattle.index_image.proofs.Places.{node-room, row-behind}
 use Rattle.index_image.proofs.Bounds.{size-small}
+use Rattle.index_image.proofs.Trees.{some-node}
 use Rattle.listing.specs.Listed.{lms, Here, Below}
 use Rattle.listing.proofs.Monomials.{behind}
 use Rattle.listing.proofs.Rows as rows
@@ -27,7 +27,7 @@ use Rattle.listing.proofs.+write_below.{statement}
 use Rattle.listing.proofs.+write_below.Tie.{close}
 
 abbrev μ-write-below : Measures 2 write-below-kinds.ps ℕ
-μ-write-below κs a = getD (words (a .0 .now)) (at.nodeAt (a .1 .0) (a .1 .1 .0) + 2) 0
+μ-write-below κs a = getD (words (a .0 .now)) (at.countAt (at.nodeAt (a .1 .0) (a .1 .1 .0))) 0
 
 abbrev write-below-at : ℕ → In 2 write-below-kinds.ps
 write-below-at t =
@@ -37,7 +37,7 @@ abbrev write-below-below : ℕ → In 2 write-below-kinds.ps
 write-below-below t =
     and 2 write-below-kinds.ps (falls 2 write-below-kinds.ps _<_ μ-write-below t) write-below.Pre
 
--- src/lib.rt:53:9
+-- src/lib.rt:52:9
 write-below-node-at-requires : (t : ℕ) → write-below-lts.Need-node-at-requires (
   node-at-reads.Asked,
   node-at-reads.Learnt,
@@ -50,7 +50,7 @@ write-below-node-at-requires : (t : ℕ) → write-below-lts.Need-node-at-requir
 ) (write-below-at t) write-below.Post
 write-below-node-at-requires t c κs = ((c .before .before .pre .1 .0) .range, omega (arith, rows.in-rows (words (c .before .before .args .image .now)) (c .before .before .args .s) (c .before .before .pre .1 .0) (c .before .before .args .k) (c .before .before .args .lo) (length (c .before .before .args .out .now)) (c .before .before .pre .1 .1), (c .before .before .pre .1 .0) .range .nodes-to, (c .before .before .pre .1 .0) .range .cap-to))
 
--- src/lib.rt:54:8
+-- src/lib.rt:53:8
 write-below-get-requires : (t : ℕ) → write-below-lts.Need-get-requires (
   node-at-reads.Asked,
   node-at-reads.Learnt,
@@ -63,7 +63,7 @@ write-below-get-requires : (t : ℕ) → write-below-lts.Need-get-requires (
 ) (write-below-at t) write-below.Post
 write-below-get-requires t c κs = omega (arith, c .node-at .ensures, node-room (c .before .before .before .args .image .now) (c .before .before .before .args .s) (c .before .before .before .pre .1 .0) (c .before .before .before .args .k) (rows.in-rows (words (c .before .before .before .args .image .now)) (c .before .before .before .args .s) (c .before .before .before .pre .1 .0) (c .before .before .before .args .k) (c .before .before .before .args .lo) (length (c .before .before .before .args .out .now)) (c .before .before .before .pre .1 .1)), size-small (c .before .before .before .args .s) ((c .before .before .before .pre .1 .0) .range), (c .before .before .before .pre .1 .0) .range .vars-to)
 
--- src/lib.rt:55:59
+-- src/lib.rt:54:59
 write-below-add-get : (t : ℕ) → write-below-lts.Need-add-get (
   node-at-reads.Asked,
   node-at-reads.Learnt,
@@ -76,7 +76,7 @@ write-below-add-get : (t : ℕ) → write-below-lts.Need-add-get (
 ) (write-below-at t) write-below.Post
 write-below-add-get t c = omega (arith, c .before .before .node-at .ensures, node-room (c .before .before .before .before .before .args .image .now) (c .before .before .before .before .before .args .s) (c .before .before .before .before .before .pre .1 .0) (c .before .before .before .before .before .args .k) (rows.in-rows (words (c .before .before .before .before .before .args .image .now)) (c .before .before .before .before .before .args .s) (c .before .before .before .before .before .pre .1 .0) (c .before .before .before .before .before .args .k) (c .before .before .before .before .before .args .lo) (length (c .before .before .before .before .before .args .out .now)) (c .before .before .before .before .before .pre .1 .1)), size-small (c .before .before .before .before .before .args .s) ((c .before .before .before .before .before .pre .1 .0) .range), (c .before .before .before .before .before .pre .1 .0) .range .vars-to)
 
--- src/lib.rt:55:41
+-- src/lib.rt:54:41
 write-below-get-requires-2 : (t : ℕ) → write-below-lts.Need-get-requires-2 (
   node-at-reads.Asked,
   node-at-reads.Learnt,
@@ -89,7 +89,7 @@ write-below-get-requires-2 : (t : ℕ) → write-below-lts.Need-get-requires-2 (
 ) (write-below-at t) write-below.Post
 write-below-get-requires-2 t c κs = omega (arith, c .before .before .node-at .ensures, node-room (c .before .before .before .before .before .args .image .now) (c .before .before .before .before .before .args .s) (c .before .before .before .before .before .pre .1 .0) (c .before .before .before .before .before .args .k) (rows.in-rows (words (c .before .before .before .before .before .args .image .now)) (c .before .before .before .before .before .args .s) (c .before .before .before .before .before .pre .1 .0) (c .before .before .before .before .before .args .k) (c .before .before .before .before .before .args .lo) (length (c .before .before .before .before .before .args .out .now)) (c .before .before .before .before .before .pre .1 .1)), size-small (c .before .before .before .before .before .args .s) ((c .before .before .before .before .before .pre .1 .0) .range), (c .before .before .before .before .before .pre .1 .0) .range .vars-to)
 
--- src/lib.rt:55:41
+-- src/lib.rt:54:41
 write-below-cast-write-leaf : (t : ℕ) → write-below-lts.Need-cast-write-leaf (
   node-at-reads.Asked,
   node-at-reads.Learnt,
@@ -102,7 +102,7 @@ write-below-cast-write-leaf : (t : ℕ) → write-below-lts.Need-cast-write-leaf
 ) (write-below-at t) write-below.Post
 write-below-cast-write-leaf t c = omega arith
 
--- src/lib.rt:55:9
+-- src/lib.rt:54:9
 write-below-write-leaf-requires : (t : ℕ) → write-below-lts.Need-write-leaf-requires (
   node-at-reads.Asked,
   node-at-reads.Learnt,
@@ -113,9 +113,9 @@ write-below-write-leaf-requires : (t : ℕ) → write-below-lts.Need-write-leaf-
   write-below-below t,
   write-below.Post,
 ) (write-below-at t) write-below.Post
-write-below-write-leaf-requires t c κs = ((c .before .before .before .before .before .before .before .pre .1 .0), rows.leaf-asked (words (c .before .before .before .before .before .before .before .args .image .now)) (c .before .before .before .before .before .before .before .args .s) (c .before .before .before .before .before .before .before .pre .1 .0) (c .before .before .before .before .before .before .before .args .k) (c .before .before .before .before .before .before .before .args .lo) (length (c .before .before .before .before .before .before .before .args .out .now)) (c .before .before .before .before .before .before .before .pre .1 .1) (c .before .get2 .result) (c .before .get2 .ensures ∙ ap (λ (j : ℕ). getD (words (c .before .before .before .before .before .before .before .args .image .now)) (j + 2) 0) (c .before .before .before .before .node-at .ensures)))
+write-below-write-leaf-requires t c κs = ((c .before .before .before .before .before .before .before .pre .1 .0), rows.leaf-asked (words (c .before .before .before .before .before .before .before .args .image .now)) (c .before .before .before .before .before .before .before .args .s) (c .before .before .before .before .before .before .before .pre .1 .0) (c .before .before .before .before .before .before .before .args .k) (c .before .before .before .before .before .before .before .args .lo) (length (c .before .before .before .before .before .before .before .args .out .now)) (c .before .before .before .before .before .before .before .pre .1 .1) (c .before .get2 .result) (c .before .get2 .ensures ∙ ap (λ (j : ℕ). getD (words (c .before .before .before .before .before .before .before .args .image .now)) (at.countAt j) 0) (c .before .before .before .before .node-at .ensures)))
 
--- src/lib.rt:55:9
+-- src/lib.rt:54:9
 write-below-same-length : (t : ℕ) → write-below-lts.Need-same-length (
   node-at-reads.Asked,
   node-at-reads.Learnt,
@@ -126,9 +126,9 @@ write-below-same-length : (t : ℕ) → write-below-lts.Need-same-length (
   write-below-below t,
   write-below.Post,
 ) (write-below-at t) write-below.Post
-write-below-same-length t c = ap length (c .before .before .write-leaf .ensures .1) ∙ length-pasteW (c .before .before .before .before .before .before .before .before .before .before .args .out .now) 0 _ (omega (arith, rows.leaf-asked (words (c .before .before .before .before .before .before .before .before .before .before .args .image .now)) (c .before .before .before .before .before .before .before .before .before .before .args .s) (c .before .before .before .before .before .before .before .before .before .before .pre .1 .0) (c .before .before .before .before .before .before .before .before .before .before .args .k) (c .before .before .before .before .before .before .before .before .before .before .args .lo) (length (c .before .before .before .before .before .before .before .before .before .before .args .out .now)) (c .before .before .before .before .before .before .before .before .before .before .pre .1 .1) (c .before .before .before .before .get2 .result) (c .before .before .before .before .get2 .ensures ∙ ap (λ (j : ℕ). getD (words (c .before .before .before .before .before .before .before .before .before .before .args .image .now)) (j + 2) 0) (c .before .before .before .before .before .before .before .node-at .ensures)) .1))
+write-below-same-length t c = ap length (c .before .before .write-leaf .ensures .1) ∙ length-pasteW (c .before .before .before .before .before .before .before .before .before .before .args .out .now) 0 _ (omega (arith, rows.leaf-asked (words (c .before .before .before .before .before .before .before .before .before .before .args .image .now)) (c .before .before .before .before .before .before .before .before .before .before .args .s) (c .before .before .before .before .before .before .before .before .before .before .pre .1 .0) (c .before .before .before .before .before .before .before .before .before .before .args .k) (c .before .before .before .before .before .before .before .before .before .before .args .lo) (length (c .before .before .before .before .before .before .before .before .before .before .args .out .now)) (c .before .before .before .before .before .before .before .before .before .before .pre .1 .1) (c .before .before .before .before .get2 .result) (c .before .before .before .before .get2 .ensures ∙ ap (λ (j : ℕ). getD (words (c .before .before .before .before .before .before .before .before .before .before .args .image .now)) (at.countAt j) 0) (c .before .before .before .before .before .before .before .node-at .ensures)) .1))
 
--- src/lib.rt:55:9
+-- src/lib.rt:54:9
 write-below-returns : (t : ℕ) → write-below-lts.Need-returns (
   node-at-reads.Asked,
   node-at-reads.Learnt,
@@ -139,9 +139,9 @@ write-below-returns : (t : ℕ) → write-below-lts.Need-returns (
   write-below-below t,
   write-below.Post,
 ) (write-below-at t) write-below.Post
-write-below-returns t c = λ h. rows.leaf-below (words (c .before .before .before .before .before .before .before .before .before .before .args .image .now)) (c .before .before .before .before .before .before .before .before .before .before .args .s) (c .before .before .before .before .before .before .before .before .before .before .pre .1 .0) (c .before .before .before .before .before .before .before .before .before .before .args .k) (c .before .before .before .before .before .before .before .before .before .before .args .lo) (c .before .before .before .before .before .before .before .before .before .before .args .out .now) h _ _ (c .before .before .before .before .get2 .result) (c .before .before .before .before .get2 .ensures ∙ ap (λ (j : ℕ). getD (words (c .before .before .before .before .before .before .before .before .before .before .args .image .now)) (j + 2) 0) (c .before .before .before .before .before .before .before .node-at .ensures)) (c .before .before .write-leaf .ensures .0) (c .before .before .write-leaf .ensures .1)
+write-below-returns t c = λ h. rows.leaf-below (words (c .before .before .before .before .before .before .before .before .before .before .args .image .now)) (c .before .before .before .before .before .before .before .before .before .before .args .s) (c .before .before .before .before .before .before .before .before .before .before .pre .1 .0) (c .before .before .before .before .before .before .before .before .before .before .args .k) (c .before .before .before .before .before .before .before .before .before .before .args .lo) (c .before .before .before .before .before .before .before .before .before .before .args .out .now) h _ _ (c .before .before .before .before .get2 .result) (c .before .before .before .before .get2 .ensures ∙ ap (λ (j : ℕ). getD (words (c .before .before .before .before .before .before .before .before .before .before .args .image .now)) (at.countAt j) 0) (c .before .before .before .before .before .before .before .node-at .ensures)) (c .before .before .write-leaf .ensures .0) (c .before .before .write-leaf .ensures .1)
 
--- src/lib.rt:57:34
+-- src/lib.rt:56:34
 write-below-add-get-2 : (t : ℕ) → write-below-lts.Need-add-get-2 (
   node-at-reads.Asked,
   node-at-reads.Learnt,
@@ -154,7 +154,7 @@ write-below-add-get-2 : (t : ℕ) → write-below-lts.Need-add-get-2 (
 ) (write-below-at t) write-below.Post
 write-below-add-get-2 t c = omega (arith, c .before .before .node-at .ensures, node-room (c .before .before .before .before .before .args .image .now) (c .before .before .before .before .before .args .s) (c .before .before .before .before .before .pre .1 .0) (c .before .before .before .before .before .args .k) (rows.in-rows (words (c .before .before .before .before .before .args .image .now)) (c .before .before .before .before .before .args .s) (c .before .before .before .before .before .pre .1 .0) (c .before .before .before .before .before .args .k) (c .before .before .before .before .before .args .lo) (length (c .before .before .before .before .before .args .out .now)) (c .before .before .before .before .before .pre .1 .1)), size-small (c .before .before .before .before .before .args .s) ((c .before .before .before .before .before .pre .1 .0) .range), (c .before .before .before .before .before .pre .1 .0) .range .vars-to)
 
--- src/lib.rt:57:16
+-- src/lib.rt:56:16
 write-below-get-requires-3 : (t : ℕ) → write-below-lts.Need-get-requires-3 (
   node-at-reads.Asked,
   node-at-reads.Learnt,
@@ -167,7 +167,7 @@ write-below-get-requires-3 : (t : ℕ) → write-below-lts.Need-get-requires-3 (
 ) (write-below-at t) write-below.Post
 write-below-get-requires-3 t c κs = omega (arith, c .before .before .node-at .ensures, node-room (c .before .before .before .before .before .args .image .now) (c .before .before .before .before .before .args .s) (c .before .before .before .before .before .pre .1 .0) (c .before .before .before .before .before .args .k) (rows.in-rows (words (c .before .before .before .before .before .args .image .now)) (c .before .before .before .before .before .args .s) (c .before .before .before .before .before .pre .1 .0) (c .before .before .before .before .before .args .k) (c .before .before .before .before .before .args .lo) (length (c .before .before .before .before .before .args .out .now)) (c .before .before .before .before .before .pre .1 .1)), size-small (c .before .before .before .before .before .args .s) ((c .before .before .before .before .before .pre .1 .0) .range), (c .before .before .before .before .before .pre .1 .0) .range .vars-to)
 
--- src/lib.rt:57:16
+-- src/lib.rt:56:16
 write-below-cast-skip : (t : ℕ) → write-below-lts.Need-cast-skip (
   node-at-reads.Asked,
   node-at-reads.Learnt,
@@ -180,7 +180,33 @@ write-below-cast-skip : (t : ℕ) → write-below-lts.Need-cast-skip (
 ) (write-below-at t) write-below.Post
 write-below-cast-skip t c = omega arith
 
--- src/lib.rt:58:41
+-- src/lib.rt:57:23
+write-below-add-next : (t : ℕ) → write-below-lts.Need-add-next (
+  node-at-reads.Asked,
+  node-at-reads.Learnt,
+  get-reads.Asked,
+  get-reads.Learnt,
+  write-leaf-reads.Asked,
+  write-leaf-reads.Learnt,
+  write-below-below t,
+  write-below.Post,
+) (write-below-at t) write-below.Post
+write-below-add-next t c = omega (arith, (c .before .before .before .before .before .before .before .pre .1 .0) .range .vars-to)
+
+-- src/lib.rt:57:16
+write-below-add-next-2 : (t : ℕ) → write-below-lts.Need-add-next-2 (
+  node-at-reads.Asked,
+  node-at-reads.Learnt,
+  get-reads.Asked,
+  get-reads.Learnt,
+  write-leaf-reads.Asked,
+  write-leaf-reads.Learnt,
+  write-below-below t,
+  write-below.Post,
+) (write-below-at t) write-below.Post
+write-below-add-next-2 t c = omega (arith, c .before .before .before .before .node-at .ensures, node-room (c .before .before .before .before .before .before .before .args .image .now) (c .before .before .before .before .before .before .before .args .s) (c .before .before .before .before .before .before .before .pre .1 .0) (c .before .before .before .before .before .before .before .args .k) (rows.in-rows (words (c .before .before .before .before .before .before .before .args .image .now)) (c .before .before .before .before .before .before .before .args .s) (c .before .before .before .before .before .before .before .pre .1 .0) (c .before .before .before .before .before .before .before .args .k) (c .before .before .before .before .before .before .before .args .lo) (length (c .before .before .before .before .before .before .before .args .out .now)) (c .before .before .before .before .before .before .before .pre .1 .1)), size-small (c .before .before .before .before .before .before .before .args .s) ((c .before .before .before .before .before .before .before .pre .1 .0) .range), (c .before .before .before .before .before .before .before .pre .1 .0) .range .vars-to)
+
+-- src/lib.rt:58:34
 write-below-add-get-3 : (t : ℕ) → write-below-lts.Need-add-get-3 (
   node-at-reads.Asked,
   node-at-reads.Learnt,
@@ -192,19 +218,6 @@ write-below-add-get-3 : (t : ℕ) → write-below-lts.Need-add-get-3 (
   write-below.Post,
 ) (write-below-at t) write-below.Post
 write-below-add-get-3 t c = omega (arith, c .before .before .before .before .node-at .ensures, node-room (c .before .before .before .before .before .before .before .args .image .now) (c .before .before .before .before .before .before .before .args .s) (c .before .before .before .before .before .before .before .pre .1 .0) (c .before .before .before .before .before .before .before .args .k) (rows.in-rows (words (c .before .before .before .before .before .before .before .args .image .now)) (c .before .before .before .before .before .before .before .args .s) (c .before .before .before .before .before .before .before .pre .1 .0) (c .before .before .before .before .before .before .before .args .k) (c .before .before .before .before .before .before .before .args .lo) (length (c .before .before .before .before .before .before .before .args .out .now)) (c .before .before .before .before .before .before .before .pre .1 .1)), size-small (c .before .before .before .before .before .before .before .args .s) ((c .before .before .before .before .before .before .before .pre .1 .0) .range), (c .before .before .before .before .before .before .before .pre .1 .0) .range .vars-to)
-
--- src/lib.rt:58:34
-write-below-add-get-4 : (t : ℕ) → write-below-lts.Need-add-get-4 (
-  node-at-reads.Asked,
-  node-at-reads.Learnt,
-  get-reads.Asked,
-  get-reads.Learnt,
-  write-leaf-reads.Asked,
-  write-leaf-reads.Learnt,
-  write-below-below t,
-  write-below.Post,
-) (write-below-at t) write-below.Post
-write-below-add-get-4 t c = omega (arith, c .before .before .before .before .node-at .ensures, node-room (c .before .before .before .before .before .before .before .args .image .now) (c .before .before .before .before .before .before .before .args .s) (c .before .before .before .before .before .before .before .pre .1 .0) (c .before .before .before .before .before .before .before .args .k) (rows.in-rows (words (c .before .before .before .before .before .before .before .args .image .now)) (c .before .before .before .before .before .before .before .args .s) (c .before .before .before .before .before .before .before .pre .1 .0) (c .before .before .before .before .before .before .before .args .k) (c .before .before .before .before .before .before .before .args .lo) (length (c .before .before .before .before .before .before .before .args .out .now)) (c .before .before .before .before .before .before .before .pre .1 .1)), size-small (c .before .before .before .before .before .before .before .args .s) ((c .before .before .before .before .before .before .before .pre .1 .0) .range), (c .before .before .before .before .before .before .before .pre .1 .0) .range .vars-to)
 
 -- src/lib.rt:58:16
 write-below-get-requires-4 : (t : ℕ) → write-below-lts.Need-get-requires-4 (
@@ -295,7 +308,7 @@ write-below-add-write-below-3 : (t : ℕ) → write-below-lts.Need-add-write-bel
   write-below-below t,
   write-below.Post,
 ) (write-below-at t) write-below.Post
-write-below-add-write-below-3 t c = let b = rows.at-branch (words (c .before .before .before .before .before .before .before .before .before .before .before .before .args .image .now)) (c .before .before .before .before .before .before .before .before .before .before .before .before .args .s) (c .before .before .before .before .before .before .before .before .before .before .before .before .pre .1 .0) (c .before .before .before .before .before .before .before .before .before .before .before .before .args .k) (c .before .before .before .before .before .before .before .before .before .before .before .before .args .lo) (length (c .before .before .before .before .before .before .before .before .before .before .before .before .args .out .now)) (c .before .before .before .before .before .before .before .before .before .before .before .before .pre .1 .1) (λ z. omega (arith, c .before .before .before .before .before .before .before .if1 .left, c .before .before .before .before .before .before .before .before .get .ensures, ap (λ (j : ℕ). getD (words (c .before .before .before .before .before .before .before .before .before .before .before .before .args .image .now)) j 0) (c .before .before .before .before .before .before .before .before .before .node-at .ensures), z)) in omega (arith, (c .before .before .before .before .before .before .get3 .ensures ∙ ap (λ (j : ℕ). getD (words (c .before .before .before .before .before .before .before .before .before .before .before .before .args .image .now)) (j + 3) 0) (c .before .before .before .before .before .before .before .before .before .node-at .ensures)), b .skip-is, b .less-inside, (c .before .before .before .before .before .before .before .before .before .before .before .before .pre .1 .0) .range .nodes-to, (c .before .before .before .before .before .before .before .before .before .before .before .before .pre .1 .0) .range .cap-to)
+write-below-add-write-below-3 t c = let b = rows.at-branch (words (c .before .before .before .before .before .before .before .before .before .before .before .before .args .image .now)) (c .before .before .before .before .before .before .before .before .before .before .before .before .args .s) (c .before .before .before .before .before .before .before .before .before .before .before .before .pre .1 .0) (c .before .before .before .before .before .before .before .before .before .before .before .before .args .k) (c .before .before .before .before .before .before .before .before .before .before .before .before .args .lo) (length (c .before .before .before .before .before .before .before .before .before .before .before .before .args .out .now)) (c .before .before .before .before .before .before .before .before .before .before .before .before .pre .1 .1) (λ z. omega (arith, c .before .before .before .before .before .before .before .if1 .left, c .before .before .before .before .before .before .before .before .get .ensures, ap (λ (j : ℕ). getD (words (c .before .before .before .before .before .before .before .before .before .before .before .before .args .image .now)) j 0) (c .before .before .before .before .before .before .before .before .before .node-at .ensures), z)) in omega (arith, (c .before .before .before .before .before .before .get3 .ensures ∙ ap (λ (j : ℕ). getD (words (c .before .before .before .before .before .before .before .before .before .before .before .before .args .image .now)) (at.skipAt j) 0) (c .before .before .before .before .before .before .before .before .before .node-at .ensures)), b .skip-is, b .less-inside, (c .before .before .before .before .before .before .before .before .before .before .before .before .pre .1 .0) .range .nodes-to, (c .before .before .before .before .before .before .before .before .before .before .before .before .pre .1 .0) .range .cap-to)
 
 -- src/lib.rt:61:45
 write-below-add-write-below-4 : (t : ℕ) → write-below-lts.Need-add-write-below-4 (
@@ -308,7 +321,7 @@ write-below-add-write-below-4 : (t : ℕ) → write-below-lts.Need-add-write-bel
   write-below-below t,
   write-below.Post,
 ) (write-below-at t) write-below.Post
-write-below-add-write-below-4 t c = let b = rows.at-branch (words (c .before .before .before .before .before .before .before .before .before .before .before .before .args .image .now)) (c .before .before .before .before .before .before .before .before .before .before .before .before .args .s) (c .before .before .before .before .before .before .before .before .before .before .before .before .pre .1 .0) (c .before .before .before .before .before .before .before .before .before .before .before .before .args .k) (c .before .before .before .before .before .before .before .before .before .before .before .before .args .lo) (length (c .before .before .before .before .before .before .before .before .before .before .before .before .args .out .now)) (c .before .before .before .before .before .before .before .before .before .before .before .before .pre .1 .1) (λ z. omega (arith, c .before .before .before .before .before .before .before .if1 .left, c .before .before .before .before .before .before .before .before .get .ensures, ap (λ (j : ℕ). getD (words (c .before .before .before .before .before .before .before .before .before .before .before .before .args .image .now)) j 0) (c .before .before .before .before .before .before .before .before .before .node-at .ensures), z)) in omega (arith, (c .before .before .before .before .get4 .ensures ∙ ap (λ (j : ℕ). getD (words (c .before .before .before .before .before .before .before .before .before .before .before .before .args .image .now)) (j + ((c .before .before .before .before .before .before .before .before .before .before .before .before .args .s .variables) + 8)) 0) (c .before .before .before .before .before .before .before .before .before .node-at .ensures)), b .passed, b .few, (c .before .before .before .before .before .before .before .before .before .before .before .before .pre .1 .0) .range .few, (c .before .before .before .before .before .before .before .before .before .before .before .before .pre .1 .0) .range .cap-to)
+write-below-add-write-below-4 t c = let b = rows.at-branch (words (c .before .before .before .before .before .before .before .before .before .before .before .before .args .image .now)) (c .before .before .before .before .before .before .before .before .before .before .before .before .args .s) (c .before .before .before .before .before .before .before .before .before .before .before .before .pre .1 .0) (c .before .before .before .before .before .before .before .before .before .before .before .before .args .k) (c .before .before .before .before .before .before .before .before .before .before .before .before .args .lo) (length (c .before .before .before .before .before .before .before .before .before .before .before .before .args .out .now)) (c .before .before .before .before .before .before .before .before .before .before .before .before .pre .1 .1) (λ z. omega (arith, c .before .before .before .before .before .before .before .if1 .left, c .before .before .before .before .before .before .before .before .get .ensures, ap (λ (j : ℕ). getD (words (c .before .before .before .before .before .before .before .before .before .before .before .before .args .image .now)) j 0) (c .before .before .before .before .before .before .before .before .before .node-at .ensures), z)) in omega (arith, (c .before .before .before .before .get4 .ensures ∙ ap (λ (j : ℕ). getD (words (c .before .before .before .before .before .before .before .before .before .before .before .before .args .image .now)) (at.countAt (j + at.nodeWidth (c .before .before .before .before .before .before .before .before .before .before .before .before .args .s .variables))) 0) (c .before .before .before .before .before .before .before .before .before .node-at .ensures)), b .passed, b .few, (c .before .before .before .before .before .before .before .before .before .before .before .before .pre .1 .0) .range .few, (c .before .before .before .before .before .before .before .before .before .before .before .before .pre .1 .0) .range .cap-to)
 
 -- src/lib.rt:61:56
 write-below-sub-write-below : (t : ℕ) → write-below-lts.Need-sub-write-below (
@@ -360,7 +373,7 @@ write-below-write-below-requires-2 : (t : ℕ) → write-below-lts.Need-write-be
   write-below-below t,
   write-below.Post,
 ) (write-below-at t) write-below.Post
-write-below-write-below-requires-2 t c κs = let b = rows.at-branch (words (c .before .before .before .before .before .before .before .before .before .before .before .before .before .args .image .now)) (c .before .before .before .before .before .before .before .before .before .before .before .before .before .args .s) (c .before .before .before .before .before .before .before .before .before .before .before .before .before .pre .1 .0) (c .before .before .before .before .before .before .before .before .before .before .before .before .before .args .k) (c .before .before .before .before .before .before .before .before .before .before .before .before .before .args .lo) (length (c .before .before .before .before .before .before .before .before .before .before .before .before .before .args .out .now)) (c .before .before .before .before .before .before .before .before .before .before .before .before .before .pre .1 .1) (λ z. omega (arith, c .before .before .before .before .before .before .before .before .if1 .left, c .before .before .before .before .before .before .before .before .before .get .ensures, ap (λ (j : ℕ). getD (words (c .before .before .before .before .before .before .before .before .before .before .before .before .before .args .image .now)) j 0) (c .before .before .before .before .before .before .before .before .before .before .node-at .ensures), z)) in (omega (arith, c .before .before .before .before .before .before .before .before .before .before .before .before .before .pre .0, b .count-is, b .other-count, b .some-less, ap (λ (j : ℕ). getD (words (c .before .before .before .before .before .before .before .before .before .before .before .before .before .args .image .now)) (at.nodeAt (c .before .before .before .before .before .before .before .before .before .before .before .before .before .args .s) ((c .before .before .before .before .before .before .before .before .before .before .before .before .before .args .k) + 1 + j) + 2) 0) ((c .before .before .before .before .before .before .before .get3 .ensures ∙ ap (λ (j : ℕ). getD (words (c .before .before .before .before .before .before .before .before .before .before .before .before .before .args .image .now)) (j + 3) 0) (c .before .before .before .before .before .before .before .before .before .before .node-at .ensures)) ∙ b .skip-is)), ((c .before .before .before .before .before .before .before .before .before .before .before .before .before .pre .1 .0), rows.second-here (words (c .before .before .before .before .before .before .before .before .before .before .before .before .before .args .image .now)) (c .before .before .before .before .before .before .before .before .before .before .before .before .before .args .s) (c .before .before .before .before .before .before .before .before .before .before .before .before .before .pre .1 .0) (c .before .before .before .before .before .before .before .before .before .before .before .before .before .args .k) (c .before .before .before .before .before .before .before .before .before .before .before .before .before .args .lo) (c .before .before .before .before .before .before .before .before .before .before .before .before .before .args .out .now) (c .before .before .before .before .before .before .before .before .before .before .before .before .before .pre .1 .1) b (c .before .before .before .write-below .last .1 .1 .1 .1 .0) (c .before .before .before .write-below .result) (c .before .before .before .write-below .ensures) (c .before .before .before .before .before .before .before .get3 .result) (c .before .before .before .before .before .get4 .result) (c .before .before .before .before .before .before .before .get3 .ensures ∙ ap (λ (j : ℕ). getD (words (c .before .before .before .before .before .before .before .before .before .before .before .before .before .args .image .now)) (j + 3) 0) (c .before .before .before .before .before .before .before .before .before .before .node-at .ensures)) (c .before .before .before .before .before .get4 .ensures ∙ ap (λ (j : ℕ). getD (words (c .before .before .before .before .before .before .before .before .before .before .before .before .before .args .image .now)) (j + ((c .before .before .before .before .before .before .before .before .before .before .before .before .before .args .s .variables) + 8)) 0) (c .before .before .before .before .before .before .before .before .before .before .node-at .ensures))))
+write-below-write-below-requires-2 t c κs = let b = rows.at-branch (words (c .before .before .before .before .before .before .before .before .before .before .before .before .before .args .image .now)) (c .before .before .before .before .before .before .before .before .before .before .before .before .before .args .s) (c .before .before .before .before .before .before .before .before .before .before .before .before .before .pre .1 .0) (c .before .before .before .before .before .before .before .before .before .before .before .before .before .args .k) (c .before .before .before .before .before .before .before .before .before .before .before .before .before .args .lo) (length (c .before .before .before .before .before .before .before .before .before .before .before .before .before .args .out .now)) (c .before .before .before .before .before .before .before .before .before .before .before .before .before .pre .1 .1) (λ z. omega (arith, c .before .before .before .before .before .before .before .before .if1 .left, c .before .before .before .before .before .before .before .before .before .get .ensures, ap (λ (j : ℕ). getD (words (c .before .before .before .before .before .before .before .before .before .before .before .before .before .args .image .now)) j 0) (c .before .before .before .before .before .before .before .before .before .before .node-at .ensures), z)) in (omega (arith, c .before .before .before .before .before .before .before .before .before .before .before .before .before .pre .0, b .count-is, b .other-count, b .some-less, ap (λ (j : ℕ). getD (words (c .before .before .before .before .before .before .before .before .before .before .before .before .before .args .image .now)) (at.countAt (at.nodeAt (c .before .before .before .before .before .before .before .before .before .before .before .before .before .args .s) ((c .before .before .before .before .before .before .before .before .before .before .before .before .before .args .k) + 1 + j))) 0) ((c .before .before .before .before .before .before .before .get3 .ensures ∙ ap (λ (j : ℕ). getD (words (c .before .before .before .before .before .before .before .before .before .before .before .before .before .args .image .now)) (at.skipAt j) 0) (c .before .before .before .before .before .before .before .before .before .before .node-at .ensures)) ∙ b .skip-is)), ((c .before .before .before .before .before .before .before .before .before .before .before .before .before .pre .1 .0), rows.second-here (words (c .before .before .before .before .before .before .before .before .before .before .before .before .before .args .image .now)) (c .before .before .before .before .before .before .before .before .before .before .before .before .before .args .s) (c .before .before .before .before .before .before .before .before .before .before .before .before .before .pre .1 .0) (c .before .before .before .before .before .before .before .before .before .before .before .before .before .args .k) (c .before .before .before .before .before .before .before .before .before .before .before .before .before .args .lo) (c .before .before .before .before .before .before .before .before .before .before .before .before .before .args .out .now) (c .before .before .before .before .before .before .before .before .before .before .before .before .before .pre .1 .1) b (c .before .before .before .write-below .last .1 .1 .1 .1 .0) (c .before .before .before .write-below .result) (c .before .before .before .write-below .ensures) (c .before .before .before .before .before .before .before .get3 .result) (c .before .before .before .before .before .get4 .result) (c .before .before .before .before .before .before .before .get3 .ensures ∙ ap (λ (j : ℕ). getD (words (c .before .before .before .before .before .before .before .before .before .before .before .before .before .args .image .now)) (at.skipAt j) 0) (c .before .before .before .before .before .before .before .before .before .before .node-at .ensures)) (c .before .before .before .before .before .get4 .ensures ∙ ap (λ (j : ℕ). getD (words (c .before .before .before .before .before .before .before .before .before .before .before .before .before .args .image .now)) (at.countAt (j + at.nodeWidth (c .before .before .before .before .before .before .before .before .before .before .before .before .before .args .s .variables))) 0) (c .before .before .before .before .before .before .before .before .before .before .node-at .ensures))))
 
 -- src/lib.rt:61:5
 write-below-add-result : (t : ℕ) → write-below-lts.Need-add-result (
@@ -373,9 +386,9 @@ write-below-add-result : (t : ℕ) → write-below-lts.Need-add-result (
   write-below-below t,
   write-below.Post,
 ) (write-below-at t) write-below.Post
-write-below-add-result t c = let b = rows.at-branch (words (c .before .before .before .before .before .before .before .before .before .before .before .before .before .before .before .before .args .image .now)) (c .before .before .before .before .before .before .before .before .before .before .before .before .before .before .before .before .args .s) (c .before .before .before .before .before .before .before .before .before .before .before .before .before .before .before .before .pre .1 .0) (c .before .before .before .before .before .before .before .before .before .before .before .before .before .before .before .before .args .k) (c .before .before .before .before .before .before .before .before .before .before .before .before .before .before .before .before .args .lo) (length (c .before .before .before .before .before .before .before .before .before .before .before .before .before .before .before .before .args .out .now)) (c .before .before .before .before .before .before .before .before .before .before .before .before .before .before .before .before .pre .1 .1) (λ z. omega (arith, c .before .before .before .before .before .before .before .before .before .before .before .if1 .left, c .before .before .before .before .before .before .before .before .before .before .before .before .get .ensures, ap (λ (j : ℕ). getD (words (c .before .before .before .before .before .before .before .before .before .before .before .before .before .before .before .before .args .image .now)) j 0) (c .before .before .before .before .before .before .before .before .before .before .before .before .before .node-at .ensures), z)) in omega (arith, rows.few-words (words (c .before .before .before .before .before .before .before .before .before .before .before .before .before .before .before .before .args .image .now)) (c .before .before .before .before .before .before .before .before .before .before .before .before .before .before .before .before .args .s) (c .before .before .before .before .before .before .before .before .before .before .before .before .before .before .before .before .pre .1 .0) (c .before .before .before .before .before .before .before .before .before .before .before .before .before .before .before .before .args .k) (c .before .before .before .before .before .before .before .before .before .before .before .before .before .before .before .before .args .lo) (c .before .before .before .before .before .before .before .before .before .before .before .before .before .before .before .before .args .out .now) (c .before .before .before .before .before .before .before .before .before .before .before .before .before .before .before .before .pre .1 .1) b (c .before .before .before .before .before .before .write-below .last .1 .1 .1 .1 .0) (c .before .before .before .before .before .before .write-below .result) (c .before .before .before .before .before .before .write-below .ensures) (c .before .before .before .before .before .before .before .before .before .before .get3 .result) (c .before .before .before .before .before .before .before .before .get4 .result) (c .before .before .before .before .before .before .before .before .before .before .get3 .ensures ∙ ap (λ (j : ℕ). getD (words (c .before .before .before .before .before .before .before .before .before .before .before .before .before .before .before .before .args .image .now)) (j + 3) 0) (c .before .before .before .before .before .before .before .before .before .before .before .before .before .node-at .ensures)) (c .before .before .before .before .before .before .before .before .get4 .ensures ∙ ap (λ (j : ℕ). getD (words (c .before .before .before .before .before .before .before .before .before .before .before .before .before .before .before .before .args .image .now)) (j + ((c .before .before .before .before .before .before .before .before .before .before .before .before .before .before .before .before .args .s .variables) + 8)) 0) (c .before .before .before .before .before .before .before .before .before .before .before .before .before .node-at .ensures)) (c .before .before .write-below2 .last .1 .1 .1 .1 .0) (c .before .before .write-below2 .result) (c .before .before .write-below2 .ensures))
+write-below-add-result t c = let b = rows.at-branch (words (c .before .before .before .before .before .before .before .before .before .before .before .before .before .before .before .before .args .image .now)) (c .before .before .before .before .before .before .before .before .before .before .before .before .before .before .before .before .args .s) (c .before .before .before .before .before .before .before .before .before .before .before .before .before .before .before .before .pre .1 .0) (c .before .before .before .before .before .before .before .before .before .before .before .before .before .before .before .before .args .k) (c .before .before .before .before .before .before .before .before .before .before .before .before .before .before .before .before .args .lo) (length (c .before .before .before .before .before .before .before .before .before .before .before .before .before .before .before .before .args .out .now)) (c .before .before .before .before .before .before .before .before .before .before .before .before .before .before .before .before .pre .1 .1) (λ z. omega (arith, c .before .before .before .before .before .before .before .before .before .before .before .if1 .left, c .before .before .before .before .before .before .before .before .before .before .before .before .get .ensures, ap (λ (j : ℕ). getD (words (c .before .before .before .before .before .before .before .before .before .before .before .before .before .before .before .before .args .image .now)) j 0) (c .before .before .before .before .before .before .before .before .before .before .before .before .before .node-at .ensures), z)) in omega (arith, rows.few-words (words (c .before .before .before .before .before .before .before .before .before .before .before .before .before .before .before .before .args .image .now)) (c .before .before .before .before .before .before .before .before .before .before .before .before .before .before .before .before .args .s) (c .before .before .before .before .before .before .before .before .before .before .before .before .before .before .before .before .pre .1 .0) (c .before .before .before .before .before .before .before .before .before .before .before .before .before .before .before .before .args .k) (c .before .before .before .before .before .before .before .before .before .before .before .before .before .before .before .before .args .lo) (c .before .before .before .before .before .before .before .before .before .before .before .before .before .before .before .before .args .out .now) (c .before .before .before .before .before .before .before .before .before .before .before .before .before .before .before .before .pre .1 .1) b (c .before .before .before .before .before .before .write-below .last .1 .1 .1 .1 .0) (c .before .before .before .before .before .before .write-below .result) (c .before .before .before .before .before .before .write-below .ensures) (c .before .before .before .before .before .before .before .before .before .before .get3 .result) (c .before .before .before .before .before .before .before .before .get4 .result) (c .before .before .before .before .before .before .before .before .before .before .get3 .ensures ∙ ap (λ (j : ℕ). getD (words (c .before .before .before .before .before .before .before .before .before .before .before .before .before .before .before .before .args .image .now)) (at.skipAt j) 0) (c .before .before .before .before .before .before .before .before .before .before .before .before .before .node-at .ensures)) (c .before .before .before .before .before .before .before .before .get4 .ensures ∙ ap (λ (j : ℕ). getD (words (c .before .before .before .before .before .before .before .before .before .before .before .before .before .before .before .before .args .image .now)) (at.countAt (j + at.nodeWidth (c .before .before .before .before .before .before .before .before .before .before .before .before .before .before .before .before .args .s .variables))) 0) (c .before .before .before .before .before .before .before .before .before .before .before .before .before .node-at .ensures)) (c .before .before .write-below2 .last .1 .1 .1 .1 .0) (c .before .before .write-below2 .result) (c .before .before .write-below2 .ensures), c .before .before .before .before .before .before .before .before .before .before .before .before .before .before .before .before .good)
 
--- src/lib.rt:48:1
+-- src/lib.rt:47:1
 write-below-same-length-2 : (t : ℕ) → write-below-lts.Need-same-length-2 (
   node-at-reads.Asked,
   node-at-reads.Learnt,
@@ -386,9 +399,9 @@ write-below-same-length-2 : (t : ℕ) → write-below-lts.Need-same-length-2 (
   write-below-below t,
   write-below.Post,
 ) (write-below-at t) write-below.Post
-write-below-same-length-2 t c = let b = rows.at-branch (words (c .before .before .before .before .before .before .before .before .before .before .before .before .before .before .before .before .args .image .now)) (c .before .before .before .before .before .before .before .before .before .before .before .before .before .before .before .before .args .s) (c .before .before .before .before .before .before .before .before .before .before .before .before .before .before .before .before .pre .1 .0) (c .before .before .before .before .before .before .before .before .before .before .before .before .before .before .before .before .args .k) (c .before .before .before .before .before .before .before .before .before .before .before .before .before .before .before .before .args .lo) (length (c .before .before .before .before .before .before .before .before .before .before .before .before .before .before .before .before .args .out .now)) (c .before .before .before .before .before .before .before .before .before .before .before .before .before .before .before .before .pre .1 .1) (λ z. omega (arith, c .before .before .before .before .before .before .before .before .before .before .before .if1 .left, c .before .before .before .before .before .before .before .before .before .before .before .before .get .ensures, ap (λ (j : ℕ). getD (words (c .before .before .before .before .before .before .before .before .before .before .before .before .before .before .before .before .args .image .now)) j 0) (c .before .before .before .before .before .before .before .before .before .before .before .before .before .node-at .ensures), z)) in rows.branch-long (words (c .before .before .before .before .before .before .before .before .before .before .before .before .before .before .before .before .args .image .now)) (c .before .before .before .before .before .before .before .before .before .before .before .before .before .before .before .before .args .s) (c .before .before .before .before .before .before .before .before .before .before .before .before .before .before .before .before .pre .1 .0) (c .before .before .before .before .before .before .before .before .before .before .before .before .before .before .before .before .args .k) (c .before .before .before .before .before .before .before .before .before .before .before .before .before .before .before .before .args .lo) (c .before .before .before .before .before .before .before .before .before .before .before .before .before .before .before .before .args .out .now) (c .before .before .before .before .before .before .before .before .before .before .before .before .before .before .before .before .pre .1 .1) b (c .before .before .before .before .before .before .write-below .last .1 .1 .1 .1 .0) (c .before .before .before .before .before .before .write-below .result) (c .before .before .before .before .before .before .write-below .ensures) (c .before .before .before .before .before .before .before .before .before .before .get3 .result) (c .before .before .before .before .before .before .before .before .get4 .result) (c .before .before .before .before .before .before .before .before .before .before .get3 .ensures ∙ ap (λ (j : ℕ). getD (words (c .before .before .before .before .before .before .before .before .before .before .before .before .before .before .before .before .args .image .now)) (j + 3) 0) (c .before .before .before .before .before .before .before .before .before .before .before .before .before .node-at .ensures)) (c .before .before .before .before .before .before .before .before .get4 .ensures ∙ ap (λ (j : ℕ). getD (words (c .before .before .before .before .before .before .before .before .before .before .before .before .before .before .before .before .args .image .now)) (j + ((c .before .before .before .before .before .before .before .before .before .before .before .before .before .before .before .before .args .s .variables) + 8)) 0) (c .before .before .before .before .before .before .before .before .before .before .before .before .before .node-at .ensures)) (c .before .before .write-below2 .last .1 .1 .1 .1 .0) (c .before .before .write-below2 .result) (c .before .before .write-below2 .ensures)
+write-below-same-length-2 t c = let b = rows.at-branch (words (c .before .before .before .before .before .before .before .before .before .before .before .before .before .before .before .before .args .image .now)) (c .before .before .before .before .before .before .before .before .before .before .before .before .before .before .before .before .args .s) (c .before .before .before .before .before .before .before .before .before .before .before .before .before .before .before .before .pre .1 .0) (c .before .before .before .before .before .before .before .before .before .before .before .before .before .before .before .before .args .k) (c .before .before .before .before .before .before .before .before .before .before .before .before .before .before .before .before .args .lo) (length (c .before .before .before .before .before .before .before .before .before .before .before .before .before .before .before .before .args .out .now)) (c .before .before .before .before .before .before .before .before .before .before .before .before .before .before .before .before .pre .1 .1) (λ z. omega (arith, c .before .before .before .before .before .before .before .before .before .before .before .if1 .left, c .before .before .before .before .before .before .before .before .before .before .before .before .get .ensures, ap (λ (j : ℕ). getD (words (c .before .before .before .before .before .before .before .before .before .before .before .before .before .before .before .before .args .image .now)) j 0) (c .before .before .before .before .before .before .before .before .before .before .before .before .before .node-at .ensures), z)) in rows.branch-long (words (c .before .before .before .before .before .before .before .before .before .before .before .before .before .before .before .before .args .image .now)) (c .before .before .before .before .before .before .before .before .before .before .before .before .before .before .before .before .args .s) (c .before .before .before .before .before .before .before .before .before .before .before .before .before .before .before .before .pre .1 .0) (c .before .before .before .before .before .before .before .before .before .before .before .before .before .before .before .before .args .k) (c .before .before .before .before .before .before .before .before .before .before .before .before .before .before .before .before .args .lo) (c .before .before .before .before .before .before .before .before .before .before .before .before .before .before .before .before .args .out .now) (c .before .before .before .before .before .before .before .before .before .before .before .before .before .before .before .before .pre .1 .1) b (c .before .before .before .before .before .before .write-below .last .1 .1 .1 .1 .0) (c .before .before .before .before .before .before .write-below .result) (c .before .before .before .before .before .before .write-below .ensures) (c .before .before .before .before .before .before .before .before .before .before .get3 .result) (c .before .before .before .before .before .before .before .before .get4 .result) (c .before .before .before .before .before .before .before .before .before .before .get3 .ensures ∙ ap (λ (j : ℕ). getD (words (c .before .before .before .before .before .before .before .before .before .before .before .before .before .before .before .before .args .image .now)) (at.skipAt j) 0) (c .before .before .before .before .before .before .before .before .before .before .before .before .before .node-at .ensures)) (c .before .before .before .before .before .before .before .before .get4 .ensures ∙ ap (λ (j : ℕ). getD (words (c .before .before .before .before .before .before .before .before .before .before .before .before .before .before .before .before .args .image .now)) (at.countAt (j + at.nodeWidth (c .before .before .before .before .before .before .before .before .before .before .before .before .before .before .before .before .args .s .variables))) 0) (c .before .before .before .before .before .before .before .before .before .before .before .before .before .node-at .ensures)) (c .before .before .write-below2 .last .1 .1 .1 .1 .0) (c .before .before .write-below2 .result) (c .before .before .write-below2 .ensures)
 
--- src/lib.rt:48:1
+-- src/lib.rt:47:1
 write-below-returns-2 : (t : ℕ) → write-below-lts.Need-returns-2 (
   node-at-reads.Asked,
   node-at-reads.Learnt,
@@ -399,7 +412,7 @@ write-below-returns-2 : (t : ℕ) → write-below-lts.Need-returns-2 (
   write-below-below t,
   write-below.Post,
 ) (write-below-at t) write-below.Post
-write-below-returns-2 t c = λ h. let b = rows.at-branch (words (c .before .before .before .before .before .before .before .before .before .before .before .before .before .before .before .before .args .image .now)) (c .before .before .before .before .before .before .before .before .before .before .before .before .before .before .before .before .args .s) (c .before .before .before .before .before .before .before .before .before .before .before .before .before .before .before .before .pre .1 .0) (c .before .before .before .before .before .before .before .before .before .before .before .before .before .before .before .before .args .k) (c .before .before .before .before .before .before .before .before .before .before .before .before .before .before .before .before .args .lo) (length (c .before .before .before .before .before .before .before .before .before .before .before .before .before .before .before .before .args .out .now)) h (λ z. omega (arith, c .before .before .before .before .before .before .before .before .before .before .before .if1 .left, c .before .before .before .before .before .before .before .before .before .before .before .before .get .ensures, ap (λ (j : ℕ). getD (words (c .before .before .before .before .before .before .before .before .before .before .before .before .before .before .before .before .args .image .now)) j 0) (c .before .before .before .before .before .before .before .before .before .before .before .before .before .node-at .ensures), z)) in rows.branch-below (words (c .before .before .before .before .before .before .before .before .before .before .before .before .before .before .before .before .args .image .now)) (c .before .before .before .before .before .before .before .before .before .before .before .before .before .before .before .before .args .s) (c .before .before .before .before .before .before .before .before .before .before .before .before .before .before .before .before .pre .1 .0) (c .before .before .before .before .before .before .before .before .before .before .before .before .before .before .before .before .args .k) (c .before .before .before .before .before .before .before .before .before .before .before .before .before .before .before .before .args .lo) (c .before .before .before .before .before .before .before .before .before .before .before .before .before .before .before .before .args .out .now) h b (c .before .before .before .before .before .before .write-below .last .1 .1 .1 .1 .0) (c .before .before .before .before .before .before .write-below .result) (c .before .before .before .before .before .before .write-below .ensures) (c .before .before .before .before .before .before .before .before .before .before .get3 .result) (c .before .before .before .before .before .before .before .before .get4 .result) (c .before .before .before .before .before .before .before .before .before .before .get3 .ensures ∙ ap (λ (j : ℕ). getD (words (c .before .before .before .before .before .before .before .before .before .before .before .before .before .before .before .before .args .image .now)) (j + 3) 0) (c .before .before .before .before .before .before .before .before .before .before .before .before .before .node-at .ensures)) (c .before .before .before .before .before .before .before .before .get4 .ensures ∙ ap (λ (j : ℕ). getD (words (c .before .before .before .before .before .before .before .before .before .before .before .before .before .before .before .before .args .image .now)) (j + ((c .before .before .before .before .before .before .before .before .before .before .before .before .before .before .before .before .args .s .variables) + 8)) 0) (c .before .before .before .before .before .before .before .before .before .before .before .before .before .node-at .ensures)) (c .before .before .write-below2 .last .1 .1 .1 .1 .0) (c .before .before .write-below2 .result) (c .before .before .write-below2 .ensures)
+write-below-returns-2 t c = λ h. let b = rows.at-branch (words (c .before .before .before .before .before .before .before .before .before .before .before .before .before .before .before .before .args .image .now)) (c .before .before .before .before .before .before .before .before .before .before .before .before .before .before .before .before .args .s) (c .before .before .before .before .before .before .before .before .before .before .before .before .before .before .before .before .pre .1 .0) (c .before .before .before .before .before .before .before .before .before .before .before .before .before .before .before .before .args .k) (c .before .before .before .before .before .before .before .before .before .before .before .before .before .before .before .before .args .lo) (length (c .before .before .before .before .before .before .before .before .before .before .before .before .before .before .before .before .args .out .now)) h (λ z. omega (arith, c .before .before .before .before .before .before .before .before .before .before .before .if1 .left, c .before .before .before .before .before .before .before .before .before .before .before .before .get .ensures, ap (λ (j : ℕ). getD (words (c .before .before .before .before .before .before .before .before .before .before .before .before .before .before .before .before .args .image .now)) j 0) (c .before .before .before .before .before .before .before .before .before .before .before .before .before .node-at .ensures), z)) in rows.branch-below (words (c .before .before .before .before .before .before .before .before .before .before .before .before .before .before .before .before .args .image .now)) (c .before .before .before .before .before .before .before .before .before .before .before .before .before .before .before .before .args .s) (c .before .before .before .before .before .before .before .before .before .before .before .before .before .before .before .before .pre .1 .0) (c .before .before .before .before .before .before .before .before .before .before .before .before .before .before .before .before .args .k) (c .before .before .before .before .before .before .before .before .before .before .before .before .before .before .before .before .args .lo) (c .before .before .before .before .before .before .before .before .before .before .before .before .before .before .before .before .args .out .now) h b (c .before .before .before .before .before .before .write-below .last .1 .1 .1 .1 .0) (c .before .before .before .before .before .before .write-below .result) (c .before .before .before .before .before .before .write-below .ensures) (c .before .before .before .before .before .before .before .before .before .before .get3 .result) (c .before .before .before .before .before .before .before .before .get4 .result) (c .before .before .before .before .before .before .before .before .before .before .get3 .ensures ∙ ap (λ (j : ℕ). getD (words (c .before .before .before .before .before .before .before .before .before .before .before .before .before .before .before .before .args .image .now)) (at.skipAt j) 0) (c .before .before .before .before .before .before .before .before .before .before .before .before .before .node-at .ensures)) (c .before .before .before .before .before .before .before .before .get4 .ensures ∙ ap (λ (j : ℕ). getD (words (c .before .before .before .before .before .before .before .before .before .before .before .before .before .before .before .before .args .image .now)) (at.countAt (j + at.nodeWidth (c .before .before .before .before .before .before .before .before .before .before .before .before .before .before .before .before .args .s .variables))) 0) (c .before .before .before .before .before .before .before .before .before .before .before .before .before .node-at .ensures)) (c .before .before .write-below2 .last .1 .1 .1 .1 .0) (c .before .before .write-below2 .result) (c .before .before .write-below2 .ensures)
 
 pub +write-below-spec : {M : Type 1} → statement M
 +write-below-spec = close μ-write-below λ t. write-below-lts.spec (
@@ -425,8 +438,9 @@ pub +write-below-spec : {M : Type 1} → statement M
     (write-below-add-get-2 t)
     (write-below-get-requires-3 t)
     (write-below-cast-skip t)
+    (write-below-add-next t)
+    (write-below-add-next-2 t)
     (write-below-add-get-3 t)
-    (write-below-add-get-4 t)
     (write-below-get-requires-4 t)
     (write-below-cast-less t)
     (write-below-add-write-below t)
