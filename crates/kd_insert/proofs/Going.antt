@@ -113,9 +113,9 @@ module _ (bs : List ℕ) (s : Shape) (R : at.InRange s) (room : 4 * at.size s �
     pub above : List ℕ
     pub under : List ℕ
     pub now : im ≡ pasteW bs (at.nodeAt s 0) (above ++ (treeWords (s .variables) (mapMaxima (words bs) s) (g .power) tree ++ under))
-    pub here : part (words im) (at.nodeAt s k) (nodes tree * (s .variables + 6)) ≡ treeWords (s .variables) (mapMaxima (words bs) s) (g .power) tree
-    pub at-row : length above ≡ k * (s .variables + 6)
-    pub all : length above + (nodes tree * (s .variables + 6) + length under) ≡ nodes (g .tree) * (s .variables + 6)
+    pub here : part (words im) (at.nodeAt s k) (nodes tree * (at.nodeWidth (s .variables))) ≡ treeWords (s .variables) (mapMaxima (words bs) s) (g .power) tree
+    pub at-row : length above ≡ k * (at.nodeWidth (s .variables))
+    pub all : length above + (nodes tree * (at.nodeWidth (s .variables)) + length under) ≡ nodes (g .tree) * (at.nodeWidth (s .variables))
     pub inside : k + nodes tree ≤ nodes (g .tree)
     pub keyed : Keyed s tree
     pub few : count tree ≤ count (g .tree)
@@ -177,18 +177,18 @@ module _ (bs : List ℕ) (s : Shape) (R : at.InRange s) (room : 4 * at.size s �
     word-kept i h = ap (λ (b : List ℕ). getD (words b) i 0) (G .now) ∙ pasteW-before bs root body i (omega (arith, body-fits)) h
 
     pub map-kept : mapMaxima (words im) s ≡ mapMaxima (words bs) s
-    map-kept = front-kept (16 + m) m (omega arith)
+    map-kept = front-kept (at.mapAt m) m (omega arith)
 
     -- the row of an entry's ratio, and its label
     pub row-kept : s .kind ≡ 1 → (x : ℕ) → x < s .entries → rowIn (words im) s x ≡ rowIn W s x
-    row-kept one x h = word-kept (at.entryAt s x + (2 * m + 5)) (omega (arith, entry-inside s R x (omega (arith, R .few)), ratio-width s R one))
+    row-kept one x h = word-kept (at.rowAt s x) (omega (arith, entry-inside s R x (omega (arith, R .few)), ratio-width s R one))
 
     pub label-kept : s .kind ≡ 1 → (x : ℕ) → x < s .entries → walk.label (words im) s x ≡ walk.label W s x
     unfolding walk.label
     label-kept one x h =
         let r = g .rows-in one x h in
-        let in-front : at.labelsAt s + (4 + rowIn W s x * (m + 3) + (m + 2)) < root = omega (arith, row-fits (rowIn W s x) (s .capacity) (m + 3) r, ratio-labels s R one) in
-        rw (row-kept one x h) (word-kept (at.labelsAt s + (4 + rowIn W s x * (m + 3) + (m + 2))) in-front)
+        let in-front : at.labelAt s (rowIn W s x) < root = omega (arith, row-fits (rowIn W s x) (s .capacity) (m + 3) r, ratio-labels s R one) in
+        rw (row-kept one x h) (word-kept (at.labelAt s (rowIn W s x)) in-front)
 
     -- the tree at hand, in the image as it is now
     abbrev pub growth-here : Growth (words im) s lm lab k
@@ -220,7 +220,7 @@ module _ (bs : List ℕ) (s : Shape) (R : at.InRange s) (room : 4 * at.size s �
       pub row : k < s .nodes
       pub room-is : 4 * at.size s ≤ length im
       pub maxima : mapMaxima (words im) s ≡ mapMaxima (words bs) s
-      pub fits : at.nodeAt s k + (s .variables + 6) ≤ at.size s
+      pub fits : at.nodeAt s k + (at.nodeWidth (s .variables)) ≤ at.size s
       pub slot : front 1 (s .variables) 0 (drop (at.nodeAt s k + 5) (words im)) ≡ 0 → ⊥
       pub counted : getD (words im) (at.nodeAt s k + 2) 0 < s .capacity
       pub holds : part (words im) (at.nodeAt s k + 4) (s .variables + 2) ≡ gcdWords (s .variables) (mapMaxima (words im) s) (monomialIn (words im) (s .variables) (at.nodeAt s k + 5))
@@ -262,10 +262,10 @@ module _ (bs : List ℕ) (s : Shape) (R : at.InRange s) (room : 4 * at.size s �
       at-here : at.nodeAt s k ≡ root + length (G .above)
       at-here = omega (arith, G .at-row, zero-mul w)
 
-      row-words-now : part (words im) (at.nodeAt s k) (m + 6) ≡ old (G .tree)
+      row-words-now : part (words im) (at.nodeAt s k) (at.nodeWidth m) ≡ old (G .tree)
       row-words-now = row-here .row-words ∙ ap (λ (x : List ℕ). nodeWords m x (g .power) (tagOf (G .tree)) (keyOf (G .tree)) (skipOf (G .tree)) (inorder (G .tree))) map-kept
 
-      rest-now : part (words im) (at.nodeAt s k + (m + 6)) (length (rest (G .tree))) ≡ rest (G .tree)
+      rest-now : part (words im) (at.nodeAt s k + at.nodeWidth m) (length (rest (G .tree))) ≡ rest (G .tree)
       rest-now = rw map-kept at (row-here .rest)
 
       grown-to : im′ ≡ pasteW bs root (G .above ++ (new (G .tree) ++ (rest (G .tree) ++ G .under)))
@@ -274,12 +274,12 @@ module _ (bs : List ℕ) (s : Shape) (R : at.InRange s) (room : 4 * at.size s �
           bs s root (at.nodeAt s k) (G .above) (rest (G .tree) ++ G .under) (tagOf (G .tree)) (keyOf (G .tree)) (skipOf (G .tree)) (placeOf K e (G .tree)) (inorder (G .tree)) im
           refl map-kept now-row at-here (omega (arith, same-body, body-fits)) row-words-now
 
-      behind : part (words im′) (at.nodeAt s k + (m + 6)) (length (rest (G .tree))) ≡ rest (G .tree)
+      behind : part (words im′) (at.nodeAt s k + at.nodeWidth m) (length (rest (G .tree))) ≡ rest (G .tree)
       behind =
-          ap (λ (b : List ℕ). part (words b) (at.nodeAt s k + (m + 6)) (length (rest (G .tree)))) done
+          ap (λ (b : List ℕ). part (words b) (at.nodeAt s k + at.nodeWidth m) (length (rest (G .tree)))) done
           ∙ kept-behind m xs (g .power) (R .vars-to) (g .power-small) (g .power-absent) lm can e (g .power-is)
           bs s root (at.nodeAt s k) (G .above) (rest (G .tree) ++ G .under) (tagOf (G .tree)) (keyOf (G .tree)) (skipOf (G .tree)) (placeOf K e (G .tree)) (inorder (G .tree)) im
-          refl map-kept now-row at-here (omega (arith, same-body, body-fits)) row-words-now (at.nodeAt s k + (m + 6)) (length (rest (G .tree))) (omega arith)
+          refl map-kept now-row at-here (omega (arith, same-body, body-fits)) row-words-now (at.nodeAt s k + at.nodeWidth m) (length (rest (G .tree))) (omega arith)
           ∙ rest-now
 
       long-now : length im′ ≡ length bs
@@ -319,7 +319,7 @@ module _ (bs : List ℕ) (s : Shape) (R : at.InRange s) (room : 4 * at.size s �
 
           less : (d key : ℕ) (l r : Tree) → K .below d key e ≡ true → (y z : ℕ) → y ≡ 1 → z ≡ 0
               → im′ ≡ pasteW bs root (G .above ++ (new (branch d key l r) ++ ((rows l ++ rows r) ++ G .under)))
-              → part (words im′) (at.nodeAt s k + (m + 6)) (length (rows l ++ rows r)) ≡ rows l ++ rows r
+              → part (words im′) (at.nodeAt s k + at.nodeWidth m) (length (rows l ++ rows r)) ≡ rows l ++ rows r
               → goal-of (branch d key l r) → placeOf K e (g .tree) ≡ lo + placeOf K e l → Keyed s l
               → k + nodes (branch d key l r) ≤ nodes (g .tree) → count (branch d key l r) ≤ count (g .tree)
               → length (G .above) + (nodes (branch d key l r) * w + length (G .under)) ≡ nodes (g .tree) * w
@@ -347,7 +347,7 @@ module _ (bs : List ℕ) (s : Shape) (R : at.InRange s) (room : 4 * at.size s �
 
           other : (d key : ℕ) (l r : Tree) → K .below d key e ≡ false → (y z : ℕ) → y ≡ suc (nodes l) → z ≡ count l
               → im′ ≡ pasteW bs root (G .above ++ (new (branch d key l r) ++ ((rows l ++ rows r) ++ G .under)))
-              → part (words im′) (at.nodeAt s k + (m + 6)) (length (rows l ++ rows r)) ≡ rows l ++ rows r
+              → part (words im′) (at.nodeAt s k + at.nodeWidth m) (length (rows l ++ rows r)) ≡ rows l ++ rows r
               → goal-of (branch d key l r) → placeOf K e (g .tree) ≡ lo + (count l + placeOf K e r) → Keyed s r
               → k + nodes (branch d key l r) ≤ nodes (g .tree) → count (branch d key l r) ≤ count (g .tree)
               → length (G .above) + (nodes (branch d key l r) * w + length (G .under)) ≡ nodes (g .tree) * w
@@ -375,7 +375,7 @@ module _ (bs : List ℕ) (s : Shape) (R : at.InRange s) (room : 4 * at.size s �
               })
 
           go : (t : Tree) → x ≡ wayOf K e t → im′ ≡ pasteW bs root (G .above ++ (new t ++ (rest t ++ G .under)))
-              → part (words im′) (at.nodeAt s k + (m + 6)) (length (rest t)) ≡ rest t
+              → part (words im′) (at.nodeAt s k + at.nodeWidth m) (length (rest t)) ≡ rest t
               → goal-of t → placeOf K e (g .tree) ≡ lo + placeOf K e t → Keyed s t
               → k + nodes t ≤ nodes (g .tree) → count t ≤ count (g .tree) → length (G .above) + (nodes t * w + length (G .under)) ≡ nodes (g .tree) * w
               → Going im′ (k + x .rows) (lo + x .places)

@@ -23,6 +23,7 @@ use Rattle.divmask.proofs.Masks.{mask-ext}
 use Rattle.kd_theory.specs.Bifurcate.{leastOf, least}
 use Rattle.kd_theory.proofs.BifurcateLaws.{least-most}
 use Rattle.index_image.specs.Layout.{slot, gcdPowers, nodeWords}
+use Rattle.index_image.specs.Shape as shape
 use Rattle.index_image.specs.Rows.{monomialIn}
 use Rattle.index_image.specs.Walk.{mapMaxima}
 use Rattle.index_image.specs.declared.Shape.{Shape}
@@ -87,7 +88,7 @@ module _ (m : ℕ) (xs : List ℕ) (pw : ℕ → ℕ → ℕ) (few : m ≤ 64) (
     pub slot : SlotIs W m (at + 5) (monomialOf 1 (gcdPowers pw es))
     pub holds : part W (at + 4) (m + 2) ≡ gcdWords m xs (monomialOf 1 (gcdPowers pw es))
 
-  pub row-is : (W : List ℕ) (at tag key skip : ℕ) (es : List ℕ) → at + (m + 6) ≤ length W → part W at (m + 6) ≡ nodeWords m xs pw tag key skip es → RowIs W at tag key skip es
+  pub row-is : (W : List ℕ) (at tag key skip : ℕ) (es : List ℕ) → at + (shape.nodeWidth m) ≤ length W → part W at (shape.nodeWidth m) ≡ nodeWords m xs pw tag key skip es → RowIs W at tag key skip es
   unfolding nodeWords gcdWords
   row-is W at tag key skip es h e =
       let e4 : m + 6 ≡ 4 + (m + 2) = omega arith in
@@ -150,7 +151,7 @@ module _ (m : ℕ) (xs : List ℕ) (pw : ℕ → ℕ → ℕ) (few : m ≤ 64) (
     module _ (bs : List ℕ) (s : Shape) (at i : ℕ) (a c : List ℕ) (tag key skip p : ℕ) (es im : List ℕ)
         (em : s .variables ≡ m) (ex : mapMaxima (words im) s ≡ xs)
         (now : im ≡ pasteW bs at (a ++ (nodeWords m xs pw tag key skip es ++ c))) (ei : i ≡ at + length a) (room : 4 * (at + length (a ++ (nodeWords m xs pw tag key skip es ++ c))) ≤ length bs)
-        (here : part (words im) i (m + 6) ≡ nodeWords m xs pw tag key skip es) where
+        (here : part (words im) i (shape.nodeWidth m) ≡ nodeWords m xs pw tag key skip es) where
       abbrev row : List ℕ
       row = nodeWords m xs pw tag key skip es
 
@@ -172,7 +173,7 @@ module _ (m : ℕ) (xs : List ℕ) (pw : ℕ → ℕ → ℕ) (few : m ≤ 64) (
       all-mid : length (a ++ (mid ++ c)) ≡ length a + (m + 6 + length c)
       all-mid = length-append a (mid ++ c) ∙ omega (arith, length-append mid c, long-mid)
 
-      fit : i + (m + 6) ≤ length (words im)
+      fit : i + (shape.nodeWidth m) ≤ length (words im)
       fit = rw now (omega (arith, length-words (pasteW bs at (a ++ (row ++ c))), length-pasteW bs at (a ++ (row ++ c)) (omega arith), all))
 
       r : RowIs (words im) i tag key skip es
@@ -195,13 +196,13 @@ module _ (m : ℕ) (xs : List ℕ) (pw : ℕ → ℕ → ℕ) (few : m ≤ 64) (
       row-grown = rw (ex, em, r .count-is, gcd-grown (words im) i tag key skip p es r, first) second
 
       -- what stands behind the row is as it was
-      pub kept-behind : (j n : ℕ) → i + (m + 6) ≤ j → part (words (grown im (words im) s i lm)) j n ≡ part (words im) j n
+      pub kept-behind : (j n : ℕ) → i + (shape.nodeWidth m) ≤ j → part (words (grown im (words im) s i lm)) j n ≡ part (words im) j n
       unfolding grown
       kept-behind j n h =
           let one = gcdWords m xs (G (putAt p e es)) in
           let q = pasteW im (i + 4) one in
           let li : length im ≡ length bs = ap length now ∙ length-pasteW bs at (a ++ (row ++ c)) (omega arith) in
-          let f : 4 * (i + (m + 6)) ≤ length im = omega (arith, all) in
+          let f : 4 * (i + shape.nodeWidth m) ≤ length im = omega (arith, all) in
           let lq : length q ≡ length im = length-pasteW im (i + 4) one (omega (arith, gcd-long (putAt p e es))) in
           rw (ex, em, r .count-is, gcd-grown (words im) i tag key skip p es r)
           (part-after q (i + 2) ((length es + 1) ∷ []) j n (omega arith) (omega arith)

@@ -21,18 +21,15 @@ use Rattle.index_theory.specs.State.{Kind, monomials, ratioed, State, Valid, Go
 use Rattle.index_theory.specs.Calls.{relabel, labelled, tracked, numbered, inserted}
 use Rattle.index_theory.proofs.Places.{entry-old, entry-new, length-more}
 use Rattle.index_theory.proofs.Labels.{Settled, relabelled, rows-few}
-use Rattle.index_image.specs.Layout as layout
-use Rattle.index_image.specs.Layout.{header, signWords, entryWords, labelWords, treeWords, encode, Is}
+use Rattle.index_image.specs.Layout.{header, signWords, entryWords, labelWords, treeWords, encode, Is, shapeOf}
 use Rattle.index_theory.specs.State.{rowOf}
 use Rattle.index_image.specs.Shape as at
 use Rattle.index_image.specs.declared.Shape.{Shape}
-use Rattle.index_image.proofs.Encoding.{Fits, image-length, entry-length, header-length}
+use Rattle.index_image.proofs.Encoding.{Fits, coarse, coarse-whole, image-length, entry-length}
 use Rattle.index_image.proofs.Lengths.{valid-fits}
-use Rattle.index_image.proofs.Shapes as shapes
-use Rattle.index_image.proofs.Shapes.{shapeOf}
-use Rattle.index_sound.proofs.Rows.{row-of}
+use Rattle.index_image.proofs.Rows.{row-of}
 use Rattle.words.proofs.Drafts.{Draft, draft-start, draft-step}
-use Rattle.kd_insert.proofs.Inserts.{coarse, coarse-whole, half, Lengths, lengths, val′}
+use Rattle.kd_insert.proofs.Inserts.{half, Lengths, lengths, val′}
 
 -- one row more in a table with zeros behind it
 pub row-more : (n c w : ℕ) (f g : ℕ → List ℕ) → n < c → ((i : ℕ) → i < n → length (f i) ≡ w) → length (g n) ≡ w → ((i : ℕ) → i < n → f i ≡ g i)
@@ -96,13 +93,10 @@ module _ (bs : List ℕ) (st : State) (I : Is st bs) (e : Entry) (good : GoodEnt
   es′ = st .entries ++ (numbered (length (st .entries)) e ∷ [])
 
   abbrev w : ℕ
-  w = layout.entryWidth (st .kind) (st .variables)
+  w = at.entryWidth (shapeOf st)
 
   F : Fits st
   F = valid-fits st (I .valid)
-
-  abbrev S : shapes.Same (shapeOf st) (st .kind) refl
-  S = shapes.same (shapeOf st) (st .kind) refl
 
   -- a label map that has the entry's ratio
   ratio-good : map.Good m (ratioOf e)
@@ -135,7 +129,7 @@ module _ (bs : List ℕ) (st : State) (I : Is st bs) (e : Entry) (good : GoodEnt
   -- ---- from table to table
   pub start : Bytes bs → Draft bs bs (coarse st)
   start B =
-      draft-start bs (coarse st) (layout.size (st .kind) m c) B (I .room)
+      draft-start bs (coarse st) (at.size (shapeOf st)) B (I .room)
       (ap length (coarse-whole st) ∙ image-length (words bs) st F (omega (arith, I .room, length-words bs)))
       (I .is ∙ sym (coarse-whole st))
 
@@ -143,16 +137,16 @@ module _ (bs : List ℕ) (st : State) (I : Is st bs) (e : Entry) (good : GoodEnt
   old-rows = table n (λ i. entryWords (st .kind) m xs (st .labels) (entryAt es i)) ++ zeros ((c - n) * w)
 
   abbrev nodes-table : List ℕ
-  nodes-table = treeWords m xs (powerIn es) t ++ zeros ((2 * c - 1 - nodes t) * layout.nodeWidth m)
+  nodes-table = treeWords m xs (powerIn es) t ++ zeros ((2 * c - 1 - nodes t) * at.nodeWidth m)
 
   abbrev pub withLabels : List (List ℕ)
   withLabels =
       header st ∷ st .maxima ∷ st .mapMaxima
       ∷ (table (length (st .entries)) (λ i. entryWords (st .kind) (st .variables) (st .mapMaxima) (st .labels) (entryAt (st .entries) i))
-      ++ zeros ((st .capacity - length (st .entries)) * layout.entryWidth (st .kind) (st .variables)))
+      ++ zeros ((st .capacity - length (st .entries)) * at.entryWidth (shapeOf st)))
       ∷ (inorder (st .tree) ++ zeros (st .capacity - length (st .entries))) ∷ labelWords (st .kind) (labelled (st .kind) (st .labels) e)
       ∷ (treeWords (st .variables) (st .mapMaxima) (powerIn (st .entries)) (st .tree)
-      ++ zeros ((2 * st .capacity - 1 - nodes (st .tree)) * layout.nodeWidth (st .variables))) ∷ []
+      ++ zeros ((2 * st .capacity - 1 - nodes (st .tree)) * at.nodeWidth (st .variables))) ∷ []
 
   abbrev Ls : Lengths bs st I e good ofk room
   Ls = lengths bs st I e good ofk room
@@ -165,18 +159,18 @@ module _ (bs : List ℕ) (st : State) (I : Is st bs) (e : Entry) (good : GoodEnt
   row-wide : length (entryWords (st .kind) m xs l′ e) ≡ w
   row-wide = entry-length (st .kind) m xs l′ e (F .vars-to) good
 
-  pub half-made : (im0 im1 im2 : List ℕ) → Draft bs im0 withLabels → im1 ≡ pasteW im0 16 (tracked (st .kind) e (st .maxima))
+  pub half-made : (im0 im1 im2 : List ℕ) → Draft bs im0 withLabels → im1 ≡ pasteW im0 at.maximaAt (tracked (st .kind) e (st .maxima))
       → im2 ≡ pasteW im1 (at.entryAt (shapeOf st) (length (st .entries))) (entryWords (st .kind) (st .variables) (st .mapMaxima) (labelled (st .kind) (st .labels) e) e)
       → Draft bs im2 (half bs st I e good ofk room)
   half-made im0 im1 im2 D e1 e2 =
       let mx = tracked (st .kind) e (st .maxima) in
       let row = entryWords (st .kind) m xs l′ e in
       let lm = Ls .maxima in
-      let D1 = draft-step bs im0 im1 withLabels 1 0 16 mx D e1 (omega (arith, Ls .head)) (omega arith) (omega (arith, F .maxima)) in
+      let D1 = draft-step bs im0 im1 withLabels 1 0 at.maximaAt mx D e1 (omega (arith, Ls .head)) (omega arith) (omega (arith, F .maxima)) in
       let one : over (st .maxima) 0 mx ≡ mx = over-all (st .maxima) mx (omega (arith, F .maxima)) in
       let D1′ : Draft bs im1 (header st ∷ mx ∷ st .mapMaxima ∷ old-rows ∷ (inorder t ++ zeros (c - n)) ∷ labelWords (st .kind) l′ ∷ nodes-table ∷ []) = rw one at D1 in
       let D2 = draft-step bs im1 im2 (header st ∷ mx ∷ st .mapMaxima ∷ old-rows ∷ (inorder t ++ zeros (c - n)) ∷ labelWords (st .kind) l′ ∷ nodes-table ∷ []) 3 (n * w) (at.entryAt s n) row D1′ e2
-      (omega (arith, S .entry n, Ls .head, lm, Ls .map-is)) (omega arith) (omega (arith, rows-long, row-wide, split-rows (n + 1) c w (omega arith), add-mul n 1 w)) in
+      (omega (arith, Ls .head, lm, Ls .map-is)) (omega arith) (omega (arith, rows-long, row-wide, split-rows (n + 1) c w (omega arith), add-mul n 1 w)) in
       let more : over old-rows (n * w) row ≡ table (n + 1) (λ i. entryWords (st .kind) m xs l′ (entryAt es′ i)) ++ zeros ((c - (n + 1)) * w) =
       ap (over old-rows (n * w)) (sym row-new)
       ∙ row-more n c w (λ i. entryWords (st .kind) m xs (st .labels) (entryAt es i)) (λ i. entryWords (st .kind) m xs l′ (entryAt es′ i)) room

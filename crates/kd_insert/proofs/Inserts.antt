@@ -26,20 +26,18 @@ use Rattle.index_theory.specs.Calls.{inserted, labelled, tracked, numbered}
 use Rattle.index_theory.proofs.Places.{entry-old, entry-new, length-more}
 use Rattle.index_theory.proofs.Orders.{labels-agree}
 use Rattle.index_theory.proofs.Keeps.{inserted-valid}
-use Rattle.index_image.specs.Layout as layout
-use Rattle.index_image.specs.Layout.{code, header, entryWords, labelWords, treeWords, encode, Is}
+use Rattle.index_image.specs.Layout.{code, header, entryWords, labelWords, treeWords, encode, Is, shapeOf}
 use Rattle.index_image.specs.Shape as at
 use Rattle.index_image.specs.Walk as walk
 use Rattle.index_image.specs.Walk.{mapMaxima, rowIn, KeyOk}
 use Rattle.index_image.specs.declared.Shape.{Shape}
-use Rattle.index_image.proofs.Encoding.{Fits, Pieces, image-length, entry-length, tree-length, header-length}
-use Rattle.index_image.proofs.Lengths.{valid-fits}
-use Rattle.index_image.proofs.Shapes as shapes
-use Rattle.index_image.proofs.Shapes.{shapeOf, code-ratio, ratio-code}
-use Rattle.index_sound.proofs.Checking as of
-use Rattle.index_sound.proofs.Decoding.{labels-of-ratios}
-use Rattle.index_sound.proofs.Keys.{tree-words-ext, by-numbers}
-use Rattle.index_sound.proofs.Once.{once-below}
+use Rattle.index_image.proofs.Encoding.{Fits, coarse, coarse-whole, entry-length, tree-length, header-length}
+use Rattle.index_image.proofs.Lengths.{valid-fits, state-powers}
+use Rattle.index_image.proofs.Shapes.{code-ratio, ratio-code}
+use Rattle.index_image.proofs.Images as of
+use Rattle.index_image.proofs.Images.{labels-of-ratios}
+use Rattle.index_image.proofs.Keys.{tree-words-ext, by-numbers}
+use Rattle.index_image.proofs.Once.{once-below}
 use Rattle.kd_insert.specs.Growing.{belowIn, keysBy, Keyed, Growth, grownRows, place}
 use Rattle.kd_insert.specs.Growing as growing
 use Rattle.kd_insert.specs.Inserting.{Hangs, hung}
@@ -81,54 +79,23 @@ place-over io p x z h hz =
     sym (ap (λ (y : List ℕ). over y p (x ∷ b)) whole) ∙ rw la at r ∙ sym (append-assoc a (x ∷ b) (zeros (z - 1)))
 
 -- the header with another number of entries
-head-over : (a b c d e f : ℕ) (r : List ℕ) → over (a ∷ b ∷ c ∷ d ∷ e ∷ r) 4 (f ∷ []) ≡ a ∷ b ∷ c ∷ d ∷ f ∷ r
+head-over : (a b c d e f : ℕ) (r : List ℕ) → over (a ∷ b ∷ c ∷ d ∷ e ∷ r) at.lengthAt (f ∷ []) ≡ a ∷ b ∷ c ∷ d ∷ f ∷ r
 unfolding over
 head-over a b c d e f r = refl
 
 -- ---- what `hang` leaves
 pub hung-is : (bs a b d : List ℕ) (s : Shape) (lm : List ℕ) (lab q p : ℕ) (g : Growth (words bs) s lm lab 0) → at.InRange s → 4 * at.size s ≤ length bs → count (g .tree) ≡ s .entries → s .entries < s .capacity
     → q ≡ at.permutationAt s → p ≡ place g → a ≡ pasteW bs (at.nodeAt s 0) (grownRows g) → b ≡ pasteW a (q + p) (s .entries ∷ part (words a) (q + p) (q + s .entries - (q + p)))
-    → d ≡ putW b 4 (s .entries + 1) → length b ≡ length bs → d ≡ hung bs s lm lab g
+    → d ≡ putW b at.lengthAt (s .entries + 1) → length b ≡ length bs → d ≡ hung bs s lm lab g
 unfolding hung
 hung-is bs a b d s lm lab q p g R room all few eq ep ea eb ed lb =
     let pl = place-inside (growing.keys g) (g .entry) (g .tree) in
     let n = s .entries in
     let x = at.permutationAt s + place g in
     let sub : q + n - (q + p) ≡ n - place g = omega arith in
-    let kept : part (words a) x (n - place g) ≡ part (words bs) x (n - place g) = rw ea (part-before bs (at.nodeAt s 0) (grownRows g) x (n - place g) (omega (arith, zero-mul (s .variables + 6))) (omega (arith, zero-mul (s .variables + 6)))) in
+    let kept : part (words a) x (n - place g) ≡ part (words bs) x (n - place g) = rw ea (part-before bs (at.nodeAt s 0) (grownRows g) x (n - place g) (omega (arith, zero-mul (at.nodeWidth (s .variables)))) (omega (arith, zero-mul (at.nodeWidth (s .variables))))) in
     let row : b ≡ pasteW (pasteW bs (at.nodeAt s 0) (grownRows g)) x (n ∷ part (words bs) x (n - place g)) = eb ∙ rw (sub, eq, ep, kept, ea) in
-    ed ∙ putW-paste b 4 (n + 1) (omega arith) ∙ rw row
-
--- ---- the tables of an image, each with the zeros behind it
-abbrev pub coarse : State → List (List ℕ)
-coarse st =
-    header st ∷ st .maxima ∷ st .mapMaxima
-    ∷ (table (length (st .entries)) (λ i. entryWords (st .kind) (st .variables) (st .mapMaxima) (st .labels) (entryAt (st .entries) i))
-    ++ zeros ((st .capacity - length (st .entries)) * layout.entryWidth (st .kind) (st .variables)))
-    ∷ (inorder (st .tree) ++ zeros (st .capacity - length (st .entries))) ∷ labelWords (st .kind) (st .labels)
-    ∷ (treeWords (st .variables) (st .mapMaxima) (powerIn (st .entries)) (st .tree)
-    ++ zeros ((2 * st .capacity - 1 - nodes (st .tree)) * layout.nodeWidth (st .variables))) ∷ []
-
-pub coarse-whole : (st : State) → joined (coarse st) ≡ encode st
-unfolding joined encode
-coarse-whole st = simp append-assoc
-
--- ---- powers of entries
-one-power : (v : ℕ) → pow 1 one v ≡ 0
-unfolding pow powerOf find
-one-power v = refl
-
-past : (es : List Entry) (e : ℕ) → length es ≤ e → entryAt es e .lm ≡ one
-unfolding entryAt
-past es e h = ap (λ (x : Entry). x .lm) (List·getD-eq-default es (record { number = 0; index = 0; sign = one; lm = one }) {n = e} h)
-
-power-most : (st : State) → Valid st → (v e : ℕ) → powerIn (st .entries) v e ≤ 32767
-unfolding powerIn
-power-most st val v e =
-    elim (decLt e (length (st .entries))) [
-      | yes l ↦ powers-in-range 1 (st .variables) (entryAt (st .entries) e .lm) v (omega arith) (omega arith) (val .canonical e l .lm-canonical) .high
-      | no l ↦ rw (past (st .entries) e (omega arith), one-power v) (omega arith)
-    ]
+    ed ∙ putW-paste b at.lengthAt (n + 1) (omega arith) ∙ rw row
 
 module _ (bs : List ℕ) (st : State) (I : Is st bs) (e : Entry) (good : GoodEntry (st .variables) e) (ofk : OfKind (st .kind) e) (room : length (st .entries) < st .capacity) where
   abbrev s : Shape
@@ -159,13 +126,10 @@ module _ (bs : List ℕ) (st : State) (I : Is st bs) (e : Entry) (good : GoodEnt
   es′ = st .entries ++ (numbered (length (st .entries)) e ∷ [])
 
   abbrev w : ℕ
-  w = layout.entryWidth (st .kind) (st .variables)
+  w = at.entryWidth (shapeOf st)
 
   pub val′ : Valid (inserted st e)
   val′ = inserted-valid st (I .valid) e good room ofk
-
-  abbrev S : shapes.Same (shapeOf st) (st .kind) refl
-  S = shapes.same (shapeOf st) (st .kind) refl
 
   pub F : Fits st
   F = valid-fits st (I .valid)
@@ -190,7 +154,7 @@ module _ (bs : List ℕ) (st : State) (I : Is st bs) (e : Entry) (good : GoodEnt
 
   pub power-small : (v x : ℕ) → pw v x ≤ 32767
   unfolding inserted
-  power-small v x = power-most (inserted st e) val′ v x
+  power-small v x = state-powers (inserted st e) val′ .small v x
 
   pub power-absent : (v x : ℕ) → m ≤ v → pw v x ≡ 0
   unfolding inserted
@@ -213,10 +177,10 @@ module _ (bs : List ℕ) (st : State) (I : Is st bs) (e : Entry) (good : GoodEnt
   half =
       header st ∷ tracked (st .kind) e (st .maxima) ∷ st .mapMaxima
       ∷ (table (length (st .entries) + 1) (λ i. entryWords (st .kind) (st .variables) (st .mapMaxima) (labelled (st .kind) (st .labels) e) (entryAt (st .entries ++ (numbered (length (st .entries)) e ∷ [])) i))
-      ++ zeros ((st .capacity - (length (st .entries) + 1)) * layout.entryWidth (st .kind) (st .variables)))
+      ++ zeros ((st .capacity - (length (st .entries) + 1)) * at.entryWidth (shapeOf st)))
       ∷ (inorder (st .tree) ++ zeros (st .capacity - length (st .entries))) ∷ labelWords (st .kind) (labelled (st .kind) (st .labels) e)
       ∷ (treeWords (st .variables) (st .mapMaxima) (powerIn (st .entries)) (st .tree)
-      ++ zeros ((2 * st .capacity - 1 - nodes (st .tree)) * layout.nodeWidth (st .variables))) ∷ []
+      ++ zeros ((2 * st .capacity - 1 - nodes (st .tree)) * at.nodeWidth (st .variables))) ∷ []
 
   -- ---- lengths of the tables
   table-long : (k : ℕ) (f : ℕ → List ℕ) → k ≤ c → ((i : ℕ) → i < k → length (f i) ≡ w) → length (table k f ++ zeros ((c - k) * w)) ≡ c * w
@@ -230,14 +194,14 @@ module _ (bs : List ℕ) (st : State) (I : Is st bs) (e : Entry) (good : GoodEnt
   row-long i h = entry-length (st .kind) m xs l′ (entryAt es′ i) (F .vars-to) (val′ .canonical i (omega (arith, length-more es (numbered n e))))
 
   pub record Lengths : Type 0 where
-    pub head : length (header st) ≡ 16
+    pub head : length (header st) ≡ at.headerWidth
     pub maxima : length (tracked (st .kind) e (st .maxima)) ≡ m
     pub map-is : length (st .mapMaxima) ≡ m
     pub entries : length (table (n + 1) (λ i. entryWords (st .kind) m xs l′ (entryAt es′ i)) ++ zeros ((c - (n + 1)) * w)) ≡ c * w
     pub permutation : length (inorder t ++ zeros (c - n)) ≡ c
-    pub labels : length (labelWords (st .kind) l′) ≡ layout.labelsSize (st .kind) m c
-    pub tree : length (treeWords m xs (powerIn es) t) ≡ nodes t * (m + 6)
-    pub nodes-are : length (treeWords m xs (powerIn es) t ++ zeros ((2 * c - 1 - nodes t) * (m + 6))) ≡ (2 * c - 1) * (m + 6)
+    pub labels : length (labelWords (st .kind) l′) ≡ at.labelsSize (shapeOf st)
+    pub tree : length (treeWords m xs (powerIn es) t) ≡ nodes t * (at.nodeWidth m)
+    pub nodes-are : length (treeWords m xs (powerIn es) t ++ zeros ((2 * c - 1 - nodes t) * at.nodeWidth m)) ≡ (2 * c - 1) * (at.nodeWidth m)
 
   pub lengths : Lengths
   unfolding inserted
@@ -251,12 +215,12 @@ module _ (bs : List ℕ) (st : State) (I : Is st bs) (e : Entry) (good : GoodEnt
         permutation = length-append (inorder t) _ ∙ omega (arith, length-zeros (c - n), F .all, F .few);
         labels = F′ .label-words;
         tree = lt;
-        nodes-are = length-append (treeWords m xs (powerIn es) t) _ ∙ omega (arith, lt, length-zeros ((2 * c - 1 - nodes t) * (m + 6)), split-rows (nodes t) (2 * c - 1) (m + 6) (F .nodes-to));
+        nodes-are = length-append (treeWords m xs (powerIn es) t) _ ∙ omega (arith, lt, length-zeros ((2 * c - 1 - nodes t) * at.nodeWidth m), split-rows (nodes t) (2 * c - 1) (at.nodeWidth m) (F .nodes-to));
       }
 
   -- ---- the tree, the permutation and the header
   module _ (im : List ℕ) (D : Draft bs im half) (map2 : mapMaxima (words im) s ≡ st .mapMaxima)
-      (nodes2 : part (words im) (at.nodeAt s 0) (nodes t * (m + 6)) ≡ treeWords m xs (powerIn es) t)
+      (nodes2 : part (words im) (at.nodeAt s 0) (nodes t * at.nodeWidth m) ≡ treeWords m xs (powerIn es) t)
       (perm2 : part (words im) (at.permutationAt s) n ≡ inorder t) (long2 : length im ≡ length bs)
       (lab : ℕ) (lab2 : s .kind ≡ 1 → lb n ≡ lab) (labels2 : s .kind ≡ 1 → (k : ℕ) → k < n → lb k ≡ walk.label (words im) s k)
       (rows2 : s .kind ≡ 1 → (k : ℕ) → k < n → rowIn (words im) s k < c) where
@@ -306,65 +270,65 @@ module _ (bs : List ℕ) (st : State) (I : Is st bs) (e : Entry) (good : GoodEnt
     rows-new : List ℕ
     rows-new = treeWords m xs pw (insert J n t)
 
-    long-new : length (treeWords m xs pw (insert J n t)) ≡ nodes t * (m + 6)
-    long-new = tree-length m xs pw (F .vars-to) power-absent (insert J n t) ∙ ap (λ (x : ℕ). x * (m + 6)) (insert-nodes J n t)
+    long-new : length (treeWords m xs pw (insert J n t)) ≡ nodes t * (at.nodeWidth m)
+    long-new = tree-length m xs pw (F .vars-to) power-absent (insert J n t) ∙ ap (λ (x : ℕ). x * at.nodeWidth m) (insert-nodes J n t)
 
     im1 : List ℕ
     im1 = pasteW im (at.nodeAt s 0) (grownRows growth)
 
     perm-tail : part (words im) (at.permutationAt s + p) (n - p) ≡ drop p (inorder t)
-    perm-tail = part-from (words im) (at.permutationAt s) n p place-in (omega (arith, length-words im, long2, of.room bs st I, of.range bs st I .few)) ∙ ap (drop p) perm2
+    perm-tail = part-from (words im) (at.permutationAt s) n p place-in (omega (arith, length-words im, long2, I .room, of.range bs st I .few)) ∙ ap (drop p) perm2
 
     abbrev list1 : List (List ℕ)
     list1 =
         header st ∷ tracked (st .kind) e (st .maxima) ∷ st .mapMaxima
         ∷ (table (n + 1) (λ i. entryWords (st .kind) m xs l′ (entryAt es′ i)) ++ zeros ((c - (n + 1)) * w))
         ∷ (inorder t ++ zeros (c - n)) ∷ labelWords (st .kind) l′
-        ∷ over (treeWords m xs (powerIn es) t ++ zeros ((2 * c - 1 - nodes t) * layout.nodeWidth m)) 0 (treeWords m xs pw (insert J n t)) ∷ []
+        ∷ over (treeWords m xs (powerIn es) t ++ zeros ((2 * c - 1 - nodes t) * at.nodeWidth m)) 0 (treeWords m xs pw (insert J n t)) ∷ []
 
     abbrev list2 : List (List ℕ)
     list2 =
         header st ∷ tracked (st .kind) e (st .maxima) ∷ st .mapMaxima
         ∷ (table (n + 1) (λ i. entryWords (st .kind) m xs l′ (entryAt es′ i)) ++ zeros ((c - (n + 1)) * w))
         ∷ over (inorder t ++ zeros (c - n)) p (n ∷ drop p (inorder t)) ∷ labelWords (st .kind) l′
-        ∷ over (treeWords m xs (powerIn es) t ++ zeros ((2 * c - 1 - nodes t) * layout.nodeWidth m)) 0 (treeWords m xs pw (insert J n t)) ∷ []
+        ∷ over (treeWords m xs (powerIn es) t ++ zeros ((2 * c - 1 - nodes t) * at.nodeWidth m)) 0 (treeWords m xs pw (insert J n t)) ∷ []
 
     abbrev list3 : List (List ℕ)
     list3 =
-        over (header st) 4 ((n + 1) ∷ []) ∷ tracked (st .kind) e (st .maxima) ∷ st .mapMaxima
+        over (header st) at.lengthAt ((n + 1) ∷ []) ∷ tracked (st .kind) e (st .maxima) ∷ st .mapMaxima
         ∷ (table (n + 1) (λ i. entryWords (st .kind) m xs l′ (entryAt es′ i)) ++ zeros ((c - (n + 1)) * w))
         ∷ over (inorder t ++ zeros (c - n)) p (n ∷ drop p (inorder t)) ∷ labelWords (st .kind) l′
-        ∷ over (treeWords m xs (powerIn es) t ++ zeros ((2 * c - 1 - nodes t) * layout.nodeWidth m)) 0 (treeWords m xs pw (insert J n t)) ∷ []
+        ∷ over (treeWords m xs (powerIn es) t ++ zeros ((2 * c - 1 - nodes t) * at.nodeWidth m)) 0 (treeWords m xs pw (insert J n t)) ∷ []
 
     step1 : (a : List ℕ) → a ≡ pasteW im (at.nodeAt s 0) (treeWords m xs pw (insert J n t)) → Draft bs a list1
     step1 a ea =
         let L = lengths in
         draft-step bs im a half 6 0 (at.nodeAt s 0) (treeWords m xs pw (insert J n t)) D ea
-        (omega (arith, S .node 0, zero-mul (layout.nodeWidth m), L .head, L .maxima, L .map-is, L .entries, L .permutation, L .labels)) (omega arith)
-        (omega (arith, long-new, L .nodes-are, length-append (treeWords m xs (powerIn es) t) (zeros ((2 * c - 1 - nodes t) * (m + 6))), L .tree))
+        (omega (arith, zero-mul (at.nodeWidth m), L .head, L .maxima, L .map-is, L .entries, L .permutation, L .labels)) (omega arith)
+        (omega (arith, long-new, L .nodes-are, length-append (treeWords m xs (powerIn es) t) (zeros ((2 * c - 1 - nodes t) * at.nodeWidth m)), L .tree))
 
     step2 : (a b : List ℕ) → Draft bs a list1 → b ≡ pasteW a (at.permutationAt s + p) (n ∷ drop p (inorder t)) → Draft bs b list2
     step2 a b D1 eb =
         let L = lengths in
         draft-step bs a b list1 4 p (at.permutationAt s + p) (n ∷ drop p (inorder t)) D1 eb
-        (omega (arith, S .permutation, L .head, L .maxima, L .map-is, L .entries)) (omega arith)
+        (omega (arith, L .head, L .maxima, L .map-is, L .entries)) (omega arith)
         (omega (arith, L .permutation, place-in, length-drop p (inorder t), F .all))
 
-    step3 : (b d : List ℕ) → Draft bs b list2 → d ≡ pasteW b 4 ((n + 1) ∷ []) → Draft bs d list3
-    step3 b d D2 ed = draft-step bs b d list2 0 4 4 ((n + 1) ∷ []) D2 ed (omega arith) (omega arith) (omega (arith, lengths .head))
+    step3 : (b d : List ℕ) → Draft bs b list2 → d ≡ pasteW b at.lengthAt ((n + 1) ∷ []) → Draft bs d list3
+    step3 b d D2 ed = draft-step bs b d list2 0 at.lengthAt at.lengthAt ((n + 1) ∷ []) D2 ed (omega arith) (omega arith) (omega (arith, lengths .head))
 
     -- ---- the tables are those of the state after the insert
-    head-new : over (header st) 4 ((n + 1) ∷ []) ≡ header (inserted st e)
+    head-new : over (header st) at.lengthAt ((n + 1) ∷ []) ≡ header (inserted st e)
     unfolding header inserted
-    head-new = head-over 1 (code (st .kind)) m c n (n + 1) (nodes t ∷ zeros 10) ∙ rw (length-more es (numbered n e), insert-nodes K′ n t)
+    head-new = head-over 1 (code (st .kind)) m c n (n + 1) (nodes t ∷ zeros at.kept) ∙ rw (length-more es (numbered n e), insert-nodes K′ n t)
 
     perm-new : over (inorder t ++ zeros (c - n)) p (n ∷ drop p (inorder t)) ≡ inorder t′ ++ zeros (c - (n + 1))
     perm-new =
         let z : c - n - 1 ≡ c - (n + 1) = omega arith in
         place-over (inorder t) p n (c - n) (omega (arith, place-in, F .all)) (omega arith) ∙ rw (z, ← insert-inorder J n t, same-tree)
 
-    tree-new : over (treeWords m xs (powerIn es) t ++ zeros ((2 * c - 1 - nodes t) * layout.nodeWidth m)) 0 (treeWords m xs pw (insert J n t)) ≡ treeWords m xs pw t′ ++ zeros ((2 * c - 1 - nodes t) * layout.nodeWidth m)
-    tree-new = over-mid [] (treeWords m xs (powerIn es) t) (zeros ((2 * c - 1 - nodes t) * layout.nodeWidth m)) (treeWords m xs pw (insert J n t)) 0 refl (omega (arith, long-new, lengths .tree)) ∙ rw same-tree
+    tree-new : over (treeWords m xs (powerIn es) t ++ zeros ((2 * c - 1 - nodes t) * at.nodeWidth m)) 0 (treeWords m xs pw (insert J n t)) ≡ treeWords m xs pw t′ ++ zeros ((2 * c - 1 - nodes t) * at.nodeWidth m)
+    tree-new = over-mid [] (treeWords m xs (powerIn es) t) (zeros ((2 * c - 1 - nodes t) * at.nodeWidth m)) (treeWords m xs pw (insert J n t)) 0 refl (omega (arith, long-new, lengths .tree)) ∙ rw same-tree
 
     pieces : list3 ≡ coarse (inserted st e)
     unfolding inserted

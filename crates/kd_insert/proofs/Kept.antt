@@ -12,11 +12,11 @@ use Rattle.index_theory.specs.State.{Kind, State, Valid, GoodEntry, OfKind, key
 use Rattle.index_theory.specs.Calls.{inserted, labelled, numbered}
 use Rattle.index_theory.proofs.Places.{length-more}
 use Rattle.index_theory.proofs.Keeps.{inserted-valid}
-use Rattle.index_image.specs.Layout.{code, size, encode, Is, Sound}
+use Rattle.index_image.specs.Layout.{code, encode, Is, Sound, shapeOf}
+use Rattle.index_image.specs.Shape as at
 use Rattle.index_image.specs.Head.{HeadOk}
 use Rattle.index_image.specs.declared.Shape.{Shape}
-use Rattle.index_image.proofs.Shapes.{shapeOf}
-use Rattle.index_sound.proofs.Checking.{head-ok}
+use Rattle.index_image.proofs.Images.{head-ok}
 use Rattle.index_image.proofs.Encoding.{image-length}
 use Rattle.index_image.proofs.Lengths.{valid-fits}
 use Rattle.kd_insert.specs.Inserting.{Room, Inserted}
@@ -31,9 +31,9 @@ bytes-words (w ∷ E) r h zero = omega (arith, h 3)
 bytes-words (w ∷ E) r h (suc k) = bytes-words E r (λ i. h (suc (suc (suc (suc i))))) k
 
 -- the image of a valid state that was pasted into a slice is its image there
-pub pasted-is : (bs im : List ℕ) (st : State) → Valid st → 4 * size (st .kind) (st .variables) (st .capacity) ≤ length bs → Bytes im → im ≡ pasteW bs 0 (encode st) → Is st im
+pub pasted-is : (bs im : List ℕ) (st : State) → Valid st → 4 * at.size (shapeOf st) ≤ length bs → Bytes im → im ≡ pasteW bs 0 (encode st) → Is st im
 pasted-is bs im st val room b e =
-    let z = size (st .kind) (st .variables) (st .capacity) in
+    let z = at.size (shapeOf st) in
     let l : length (encode st) ≡ z = image-length (words bs) st (valid-fits st val) (omega (arith, length-words bs)) in
     let w : Words (encode st) = bytes-words (encode st) (drop (4 * length (encode st)) bs) (rw (e, pasteW-front bs (encode st)) at b) in
     let long : length im ≡ length bs = ap length e ∙ length-pasteW bs 0 (encode st) (omega arith) in

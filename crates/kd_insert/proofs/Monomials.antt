@@ -10,10 +10,9 @@ use Rattle.words.specs.Tables.{part}
 use Rattle.words.proofs.Laws.{Bytes, length-words, length-pasteW}
 use Rattle.words.proofs.Joined.{moved}
 use Rattle.words.proofs.Tables.{length-part}
-use Rattle.monomial.specs.Monomial.{Canonical, pow}
+use Rattle.monomial.specs.Monomial.{Canonical}
 use Rattle.monomial.proofs.Canon.{front-end}
 use Rattle.monomial.proofs.Powers.{canonical-length}
-use Rattle.divmask.specs.Mask.{mask}
 use Rattle.divmask.specs.Tracker.{Maxima, updated}
 use Rattle.divmask.proofs.Growth.{updated-length}
 use Rattle.fast_compare.specs.Map as map
@@ -21,37 +20,34 @@ use Rattle.kd_theory.specs.Tree.{Tree, inorder, nodes, count}
 use Rattle.index_theory.specs.Entries.{Entry, one}
 use Rattle.index_theory.specs.State.{Kind, monomials, ratioed, State, Valid, GoodEntry, OfKind, powerIn}
 use Rattle.index_theory.specs.Calls.{plain, labelled, tracked, inserted}
-use Rattle.index_image.specs.Layout as layout
-use Rattle.index_image.specs.Layout.{code, slot, entryWords, signWords, labelWords, treeWords, encode, Is}
+use Rattle.index_image.specs.Layout.{code, masked, entryWords, signWords, labelWords, treeWords, encode, Is, shapeOf}
 use Rattle.index_image.specs.Shape as at
 use Rattle.index_image.specs.Walk.{mapMaxima}
 use Rattle.index_image.specs.Head.{HeadOk}
 use Rattle.index_image.specs.declared.Shape.{Shape}
 use Rattle.index_image.proofs.Bounds.{entry-inside, width-least}
-use Rattle.index_image.proofs.Encoding.{slot-length}
+use Rattle.kd_insert.proofs.Writing.{masked-length}
 use Rattle.index_image.proofs.Heads.{same-shape}
-use Rattle.index_image.proofs.Shapes as shapes
-use Rattle.index_image.proofs.Shapes.{shapeOf}
-use Rattle.index_sound.proofs.Checking as of
+use Rattle.index_image.proofs.Images as of
 use Rattle.kd_insert.specs.Inserting.{Room, Inserted, Hangs, hung}
 use Rattle.words.proofs.Pasting.{part-before, part-after}
 use Rattle.words.proofs.Drafts.{Draft}
-use Rattle.kd_insert.proofs.Inserts.{coarse, half, hangs, growth, finish}
+use Rattle.kd_insert.proofs.Inserts.{half, hangs, growth, finish}
 use Rattle.kd_insert.proofs.Halves.{start, withLabels, half-made}
 
 -- ---- what an image with room tells
 pub record Basics (bs : List ℕ) (s : Shape) : Type 0 where
   pub range : at.InRange s
   pub room : 4 * at.size s ≤ length bs
-  pub present : Maxima (s .variables) (part (words bs) 16 (s .variables))
+  pub present : Maxima (s .variables) (part (words bs) at.maximaAt (s .variables))
   pub map : Maxima (s .variables) (mapMaxima (words bs) s)
 
 pub basics-of : (bs : List ℕ) (st : State) (I : Is st bs) → Basics bs (shapeOf st)
 basics-of bs st I = record {
   range = of.range bs st I;
-  room = of.room bs st I;
-  present = rw (of.P bs st I .maxima) (I .valid .maxima-good);
-  map = rw (of.P bs st I .map) (I .valid .map-good);
+  room = I .room;
+  present = rw (of.pieces bs st I .maxima) (I .valid .maxima-good);
+  map = rw (of.pieces bs st I .map) (I .valid .map-good);
 }
 
 pub shape-is : (bs : List ℕ) (s : Shape) → HeadOk (words bs) (length bs) s → (st : State) → Is st bs → shapeOf st ≡ s
@@ -61,17 +57,17 @@ pub basics : (bs : List ℕ) (s : Shape) → Room bs s → Basics bs s
 basics bs s R = rw (shape-is bs s (R .head) (R .sound .state) (R .sound .is)) at (basics-of bs (R .sound .state) (R .sound .is))
 
 -- ---- the maxima of the map stay when the present ones are raised
-pub map-tracked : (bs im : List ℕ) (s : Shape) (lm : List ℕ) → Basics bs s → im ≡ pasteW bs 16 (updated lm (part (words bs) 16 (s .variables))) → (length im ≡ length bs) × (mapMaxima (words im) s ≡ mapMaxima (words bs) s)
+pub map-tracked : (bs im : List ℕ) (s : Shape) (lm : List ℕ) → Basics bs s → im ≡ pasteW bs at.maximaAt (updated lm (part (words bs) at.maximaAt (s .variables))) → (length im ≡ length bs) × (mapMaxima (words im) s ≡ mapMaxima (words bs) s)
 map-tracked bs im s lm b e =
     let m = s .variables in
-    let us = updated lm (part (words bs) 16 m) in
-    let l : length us ≡ m = updated-length lm (part (words bs) 16 m) ∙ b .present .one-each in
+    let us = updated lm (part (words bs) at.maximaAt m) in
+    let l : length us ≡ m = updated-length lm (part (words bs) at.maximaAt m) ∙ b .present .one-each in
     let r = b .room in
-    (ap length e ∙ length-pasteW bs 16 us (omega arith), rw e (part-after bs 16 us (16 + m) m (omega arith) (omega arith)))
+    (ap length e ∙ length-pasteW bs at.maximaAt us (omega arith), rw e (part-after bs at.maximaAt us (at.mapAt m) m (omega arith) (omega arith)))
 
 -- and when words are written behind them
-pub map-entered : (im im′ : List ℕ) (s : Shape) (a : ℕ) (ws : List ℕ) → 4 * a ≤ length im → 16 + 2 * s .variables ≤ a → im′ ≡ pasteW im a ws → mapMaxima (words im′) s ≡ mapMaxima (words im) s
-map-entered im im′ s a ws h l e = rw e (part-before im a ws (16 + s .variables) (s .variables) h (omega arith))
+pub map-entered : (im im′ : List ℕ) (s : Shape) (a : ℕ) (ws : List ℕ) → 4 * a ≤ length im → at.entriesAt (s .variables) ≤ a → im′ ≡ pasteW im a ws → mapMaxima (words im′) s ≡ mapMaxima (words im) s
+map-entered im im′ s a ws h l e = rw e (part-before im a ws (at.mapAt (s .variables)) (s .variables) h (omega arith))
 
 -- ---- a monomial index has no labels
 no-labels : (k : Kind) (l : map.State) (e : Entry) → k ≡ monomials → labelled k l e ≡ l
@@ -82,7 +78,7 @@ only-lm : (k : Kind) (e : Entry) (xs : List ℕ) → k ≡ monomials → tracked
 unfolding tracked
 only-lm k e xs h = rw h
 
-only-slot : (k : Kind) (m : ℕ) (xs : List ℕ) (l : map.State) (e : Entry) → k ≡ monomials → entryWords k m xs l e ≡ slot m (e .lm) ++ (mask m xs (pow 1 (e .lm)) ∷ [])
+only-slot : (k : Kind) (m : ℕ) (xs : List ℕ) (l : map.State) (e : Entry) → k ≡ monomials → entryWords k m xs l e ≡ masked m xs (e .lm) []
 unfolding entryWords signWords
 only-slot k m xs l e h = rw h
 
@@ -96,8 +92,8 @@ pub good-plain : (m : ℕ) (lm : List ℕ) → Canonical 1 m lm → GoodEntry m 
 good-plain m lm c = record { index-small = omega arith; sign-canonical = one-canonical m; lm-canonical = c }
 
 module _ (bs : List ℕ) (B : Bytes bs) (st : State) (I : Is st bs) (lm : List ℕ) (can : Canonical 1 (st .variables) lm) (k : st .kind ≡ monomials) (few : length (st .entries) < st .capacity)
-    (im1 im2 : List ℕ) (e1 : im1 ≡ pasteW bs 16 (updated lm (part (words bs) 16 (st .variables))))
-    (e2 : im2 ≡ pasteW im1 (at.entryAt (shapeOf st) (length (st .entries))) (slot (st .variables) lm ++ (mask (st .variables) (mapMaxima (words im1) (shapeOf st)) (pow 1 lm) ∷ []))) where
+    (im1 im2 : List ℕ) (e1 : im1 ≡ pasteW bs at.maximaAt (updated lm (part (words bs) at.maximaAt (st .variables))))
+    (e2 : im2 ≡ pasteW im1 (at.entryAt (shapeOf st) (length (st .entries))) (masked (st .variables) (mapMaxima (words im1) (shapeOf st)) lm [])) where
   abbrev s : Shape
   s = shapeOf st
 
@@ -122,19 +118,16 @@ module _ (bs : List ℕ) (B : Bytes bs) (st : State) (I : Is st bs) (lm : List �
   b : Basics bs s
   b = basics-of bs st I
 
-  abbrev S : shapes.Same (shapeOf st) (st .kind) refl
-  S = shapes.same (shapeOf st) (st .kind) refl
-
   map1 : (length im1 ≡ length bs) × (mapMaxima (words im1) s ≡ st .mapMaxima)
-  map1 = let q = map-tracked bs im1 s lm b e1 in (q .0, q .1 ∙ of.P bs st I .map)
+  map1 = let q = map-tracked bs im1 s lm b e1 in (q .0, q .1 ∙ of.pieces bs st I .map)
 
-  e1′ : im1 ≡ pasteW bs 16 (tracked (st .kind) e (st .maxima))
-  e1′ = e1 ∙ rw (of.P bs st I .maxima, only-lm (st .kind) e (st .maxima) k)
+  e1′ : im1 ≡ pasteW bs at.maximaAt (tracked (st .kind) e (st .maxima))
+  e1′ = e1 ∙ rw (of.pieces bs st I .maxima, only-lm (st .kind) e (st .maxima) k)
 
   row : List ℕ
   row = entryWords (st .kind) m (st .mapMaxima) l′ e
 
-  row-is : slot m lm ++ (mask m (st .mapMaxima) (pow 1 lm) ∷ []) ≡ entryWords (st .kind) m (st .mapMaxima) l′ e
+  row-is : masked m (st .mapMaxima) lm [] ≡ entryWords (st .kind) m (st .mapMaxima) l′ e
   row-is = sym (only-slot (st .kind) m (st .mapMaxima) l′ e k)
 
   e2′ : im2 ≡ pasteW im1 (at.entryAt s n) (entryWords (st .kind) m (st .mapMaxima) l′ e)
@@ -143,10 +136,10 @@ module _ (bs : List ℕ) (B : Bytes bs) (st : State) (I : Is st bs) (lm : List �
   pub made : Draft bs im2 (half bs st I e good ofk few)
   made = half-made bs st I e good ofk few bs im1 im2 (rw (no-labels (st .kind) (st .labels) e k) (start bs st I e good ofk few B)) e1′ e2′
 
-  row-long : length (entryWords (st .kind) m (st .mapMaxima) l′ e) ≡ m + 2
-  row-long = ap length (sym row-is) ∙ length-append (slot m lm) _ ∙ omega (arith, slot-length m lm (canonical-length 1 m lm (omega arith) (omega (arith, b .map .few)) can))
+  row-long : length (entryWords (st .kind) m (st .mapMaxima) l′ e) ≡ at.maskedWidth m
+  row-long = ap length (sym row-is) ∙ masked-length m (st .mapMaxima) lm [] (canonical-length 1 m lm (omega arith) (omega (arith, b .map .few)) can) ∙ omega arith
 
-  row-in : at.entryAt s n + (m + 2) ≤ at.permutationAt s
+  row-in : at.entryAt s n + at.maskedWidth m ≤ at.permutationAt s
   row-in = omega (arith, entry-inside s (b .range) n few, width-least s (b .range))
 
   fits : 4 * (at.entryAt s n + length (entryWords (st .kind) m (st .mapMaxima) l′ e)) ≤ length im1
@@ -156,23 +149,23 @@ module _ (bs : List ℕ) (B : Bytes bs) (st : State) (I : Is st bs) (lm : List �
   long2 = ap length e2′ ∙ length-pasteW im1 (at.entryAt s n) _ (omega (arith, fits)) ∙ map1 .0
 
   map2 : mapMaxima (words im2) s ≡ st .mapMaxima
-  map2 = ap (λ (x : List ℕ). mapMaxima (words x) s) e2′ ∙ part-before im1 (at.entryAt s n) _ (16 + m) m (omega (arith, fits)) (omega arith) ∙ map1 .1
+  map2 = ap (λ (x : List ℕ). mapMaxima (words x) s) e2′ ∙ part-before im1 (at.entryAt s n) _ (at.mapAt m) m (omega (arith, fits)) (omega arith) ∙ map1 .1
 
   -- what stands behind the entries is as it was
   kept : (i j : ℕ) → at.permutationAt s ≤ i → part (words im2) i j ≡ part (words bs) i j
   kept i j h =
-      let us = updated lm (part (words bs) 16 m) in
-      let l : length us ≡ m = updated-length lm (part (words bs) 16 m) ∙ b .present .one-each in
+      let us = updated lm (part (words bs) at.maximaAt m) in
+      let l : length us ≡ m = updated-length lm (part (words bs) at.maximaAt m) ∙ b .present .one-each in
       let r = b .room in
       ap (λ (x : List ℕ). part (words x) i j) e2′
       ∙ part-after im1 (at.entryAt s n) (entryWords (st .kind) m (st .mapMaxima) l′ e) i j (omega (arith, row-long, row-in)) fits
-      ∙ ap (λ (x : List ℕ). part (words x) i j) e1 ∙ part-after bs 16 us i j (omega arith) (omega arith)
+      ∙ ap (λ (x : List ℕ). part (words x) i j) e1 ∙ part-after bs at.maximaAt us i j (omega arith) (omega arith)
 
-  nodes2 : part (words im2) (at.nodeAt s 0) (nodes (st .tree) * (m + 6)) ≡ treeWords m (st .mapMaxima) (powerIn (st .entries)) (st .tree)
-  nodes2 = kept (at.nodeAt s 0) (nodes (st .tree) * (m + 6)) (omega arith) ∙ moved (words bs) (of.P bs st I .nodes-are) (sym (S .node 0 ∙ omega (arith, zero-mul (m + 6)))) refl
+  nodes2 : part (words im2) (at.nodeAt s 0) (nodes (st .tree) * at.nodeWidth m) ≡ treeWords m (st .mapMaxima) (powerIn (st .entries)) (st .tree)
+  nodes2 = kept (at.nodeAt s 0) (nodes (st .tree) * at.nodeWidth m) (omega arith) ∙ moved (words bs) (of.pieces bs st I .nodes-are) (omega (arith, zero-mul (at.nodeWidth m))) refl
 
   perm2 : part (words im2) (at.permutationAt s) n ≡ inorder (st .tree)
-  perm2 = kept (at.permutationAt s) n (omega arith) ∙ moved (words bs) (of.P bs st I .permutation) (sym (S .permutation)) refl
+  perm2 = kept (at.permutationAt s) n (omega arith) ∙ of.pieces bs st I .permutation
 
   not-one : {A : Type 0} → s .kind ≡ 1 → A
   not-one z = absurd (omega (arith, ap code k))
@@ -187,8 +180,8 @@ module _ (bs : List ℕ) (B : Bytes bs) (st : State) (I : Is st bs) (lm : List �
 -- ---- the same for the shape in the header
 abbrev First : List ℕ → List ℕ → List ℕ → List ℕ → Shape → Type 0
 First bs lm im1 im2 s =
-    (im1 ≡ pasteW bs 16 (updated lm (part (words bs) 16 (s .variables))))
-    × ((im2 ≡ pasteW im1 (at.entryAt s (s .entries)) (slot (s .variables) lm ++ (mask (s .variables) (mapMaxima (words im1) s) (pow 1 lm) ∷ [])))
+    (im1 ≡ pasteW bs at.maximaAt (updated lm (part (words bs) at.maximaAt (s .variables))))
+    × ((im2 ≡ pasteW im1 (at.entryAt s (s .entries)) (masked (s .variables) (mapMaxima (words im1) s) lm []))
     × ((Canonical 1 (s .variables) lm) × ((s .kind ≡ 0) × (s .entries < s .capacity))))
 
 kind-none : (k : Kind) → code k ≡ 0 → k ≡ monomials

@@ -26,8 +26,8 @@ use Rattle.index_theory.specs.State.{rowOf}
 use Rattle.index_image.specs.Shape as at
 use Rattle.index_image.specs.declared.Shape.{Shape}
 use Rattle.index_image.proofs.Bounds.{ratio-labels}
-use Rattle.index_sound.specs.Checks.{labelBytes}
-use Rattle.index_sound.proofs.Labels.{MapIs, is-map}
+use Rattle.index_image.specs.Door.{labelBytes}
+use Rattle.index_image.proofs.Labels.{MapIs, is-map}
 use Rattle.kd_insert.specs.Labelling.{settled, Labels}
 use Rattle.kd_insert.proofs.Settling.{after-shape}
 use Rattle.words.proofs.Drafts.{lent-back}

@@ -23,26 +23,24 @@ use Rattle.index_theory.specs.State.{Kind, monomials, ratioed, State, Valid, Go
 use Rattle.index_theory.specs.Calls.{labelled, tracked, numbered, inserted}
 use Rattle.index_theory.proofs.Places.{entry-old, entry-new}
 use Rattle.index_theory.proofs.Labels.{Settled}
-use Rattle.index_image.specs.Layout as layout
-use Rattle.index_image.specs.Layout.{code, entryWords, signWords, labelWords, treeWords, encode, Is}
+use Rattle.index_image.specs.Layout.{code, entryWords, signWords, labelWords, treeWords, encode, Is, shapeOf}
 use Rattle.index_theory.specs.State.{rowOf}
 use Rattle.index_image.specs.Shape as at
 use Rattle.index_image.specs.Walk as walk
 use Rattle.index_image.specs.Walk.{mapMaxima, rowIn}
 use Rattle.index_image.specs.declared.Shape.{Shape}
 use Rattle.index_image.proofs.Bounds.{entry-inside, ratio-width, ratio-labels}
-use Rattle.index_image.proofs.Encoding.{entry-length}
-use Rattle.index_image.proofs.Shapes as shapes
-use Rattle.index_image.proofs.Shapes.{shapeOf, code-ratio}
-use Rattle.index_sound.specs.Checks.{LabelsOk}
-use Rattle.index_sound.proofs.Labels.{MapIs, label-at}
-use Rattle.index_sound.proofs.Rows.{row-of, label-of}
-use Rattle.index_sound.proofs.Checking as of
+use Rattle.index_image.proofs.Encoding.{coarse, entry-length}
+use Rattle.index_image.proofs.Shapes.{code-ratio}
+use Rattle.index_image.specs.Door.{labelBytes}
+use Rattle.index_image.proofs.Labels.{MapIs, of-map, label-at}
+use Rattle.index_image.proofs.Rows.{row-of, label-of}
+use Rattle.index_image.proofs.Images as of
 use Rattle.kd_insert.specs.Inserting.{Room, Inserted, signed, Hangs, hung}
 use Rattle.kd_insert.specs.Labelling.{settled, Labels, ratioRow}
 use Rattle.words.proofs.Pasting.{part-before, part-after, get-after, part-pasted, paste-in}
 use Rattle.words.proofs.Drafts.{Draft, draft-step}
-use Rattle.kd_insert.proofs.Inserts.{coarse, half, Lengths, lengths, hangs, growth, finish, val′}
+use Rattle.kd_insert.proofs.Inserts.{half, Lengths, lengths, hangs, growth, finish, val′}
 use Rattle.kd_insert.proofs.Halves as halves
 use Rattle.kd_insert.proofs.Halves.{start, withLabels, half-made}
 use Rattle.kd_insert.proofs.Monomials.{Basics, basics-of, shape-is}
@@ -56,32 +54,32 @@ pub basics-labelled : (bs im : List ℕ) (s : Shape) (ws : List ℕ) → Basics 
 basics-labelled bs im s ws b l e =
     let r = b .room in
     let fit : 4 * at.labelsAt s ≤ length bs = omega arith in
-    let present : part (words im) 16 (s .variables) ≡ part (words bs) 16 (s .variables) = rw e (part-before bs (at.labelsAt s) ws 16 (s .variables) fit (omega arith)) in
-    let map-is : mapMaxima (words im) s ≡ mapMaxima (words bs) s = rw e (part-before bs (at.labelsAt s) ws (16 + s .variables) (s .variables) fit (omega arith)) in
+    let present : part (words im) at.maximaAt (s .variables) ≡ part (words bs) at.maximaAt (s .variables) = rw e (part-before bs (at.labelsAt s) ws at.maximaAt (s .variables) fit (omega arith)) in
+    let map-is : mapMaxima (words im) s ≡ mapMaxima (words bs) s = rw e (part-before bs (at.labelsAt s) ws (at.mapAt (s .variables)) (s .variables) fit (omega arith)) in
     record { range = b .range; room = omega arith; present = rw present (b .present); map = rw map-is (b .map) }
 
-pub basics-tracked : (im im′ : List ℕ) (s : Shape) (ws : List ℕ) → Basics im s → Canonical 1 (s .variables) ws → im′ ≡ pasteW im 16 (updated ws (part (words im) 16 (s .variables))) → Basics im′ s
+pub basics-tracked : (im im′ : List ℕ) (s : Shape) (ws : List ℕ) → Basics im s → Canonical 1 (s .variables) ws → im′ ≡ pasteW im at.maximaAt (updated ws (part (words im) at.maximaAt (s .variables))) → Basics im′ s
 basics-tracked im im′ s ws b can e =
     let m = s .variables in
-    let us = updated ws (part (words im) 16 m) in
-    let good = updated-good m ws (part (words im) 16 m) can (b .present) in
+    let us = updated ws (part (words im) at.maximaAt m) in
+    let good = updated-good m ws (part (words im) at.maximaAt m) can (b .present) in
     let l : length us ≡ m = good .one-each in
     let r = b .room in
-    let fit : 4 * (16 + length us) ≤ length im = omega arith in
-    let present : part (words im′) 16 m ≡ us = rw e (ap (part (words (pasteW im 16 us)) 16) (sym l) ∙ part-pasted im 16 us (maxima-small m us good) fit) in
-    let map-is : mapMaxima (words im′) s ≡ mapMaxima (words im) s = rw e (part-after im 16 us (16 + m) m (omega arith) (omega arith)) in
-    let long : length im′ ≡ length im = ap length e ∙ length-pasteW im 16 us (omega arith) in
+    let fit : 4 * (at.maximaAt + length us) ≤ length im = omega arith in
+    let present : part (words im′) at.maximaAt m ≡ us = rw e (ap (part (words (pasteW im at.maximaAt us)) at.maximaAt) (sym l) ∙ part-pasted im at.maximaAt us (maxima-small m us good) fit) in
+    let map-is : mapMaxima (words im′) s ≡ mapMaxima (words im) s = rw e (part-after im at.maximaAt us (at.mapAt m) m (omega arith) (omega arith)) in
+    let long : length im′ ≡ length im = ap length e ∙ length-pasteW im at.maximaAt us (omega arith) in
     record { range = b .range; room = omega arith; present = rw present good; map = rw map-is (b .map) }
 
-pub tracked-is : (im im′ : List ℕ) (s : Shape) (ws : List ℕ) → Basics im s → Canonical 1 (s .variables) ws → im′ ≡ pasteW im 16 (updated ws (part (words im) 16 (s .variables)))
-    → part (words im′) 16 (s .variables) ≡ updated ws (part (words im) 16 (s .variables))
+pub tracked-is : (im im′ : List ℕ) (s : Shape) (ws : List ℕ) → Basics im s → Canonical 1 (s .variables) ws → im′ ≡ pasteW im at.maximaAt (updated ws (part (words im) at.maximaAt (s .variables)))
+    → part (words im′) at.maximaAt (s .variables) ≡ updated ws (part (words im) at.maximaAt (s .variables))
 tracked-is im im′ s ws b can e =
     let m = s .variables in
-    let us = updated ws (part (words im) 16 m) in
-    let good = updated-good m ws (part (words im) 16 m) can (b .present) in
+    let us = updated ws (part (words im) at.maximaAt m) in
+    let good = updated-good m ws (part (words im) at.maximaAt m) can (b .present) in
     let l : length us ≡ m = good .one-each in
     let r = b .room in
-    rw e (ap (part (words (pasteW im 16 us)) 16) (sym l) ∙ part-pasted im 16 us (maxima-small m us good) (omega arith))
+    rw e (ap (part (words (pasteW im at.maximaAt us)) at.maximaAt) (sym l) ∙ part-pasted im at.maximaAt us (maxima-small m us good) (omega arith))
 
 -- ---- a ratio index
 has-label : (k : Kind) (l : map.State) (e : Entry) → k ≡ ratioed → labelled k l e ≡ settled l (ratioOf e)
@@ -111,9 +109,9 @@ pub record Calls (bs : List ℕ) (i : ℕ) (sign lm im0 : List ℕ) (r lab : ℕ
   pub sign-canonical : Canonical 1 (x .variables) sign
   pub lm-canonical : Canonical 1 (x .variables) lm
   pub labels-done : (l : map.State) → MapIs (words bs) x l → Labels x l (quotientOf i sign lm) r bs im0
-  pub label-read : lab ≡ getD (words im0) (at.labelsAt x + (4 + r * (x .variables + 3) + (x .variables + 2))) 0
-  pub sign-tracked : ima ≡ pasteW im0 16 (updated sign (part (words im0) 16 (x .variables)))
-  pub lm-tracked : im1 ≡ pasteW ima 16 (updated lm (part (words ima) 16 (x .variables)))
+  pub label-read : lab ≡ getD (words im0) (at.labelAt x r) 0
+  pub sign-tracked : ima ≡ pasteW im0 at.maximaAt (updated sign (part (words im0) at.maximaAt (x .variables)))
+  pub lm-tracked : im1 ≡ pasteW ima at.maximaAt (updated lm (part (words ima) at.maximaAt (x .variables)))
   pub row-written : im2 ≡ pasteW im1 (at.entryAt x (x .entries)) (ratioRow (x .variables) (mapMaxima (words im1) x) i sign lm r)
 
 module _ (bs : List ℕ) (B : Bytes bs) (st : State) (I : Is st bs) (i : ℕ) (sign lm im0 : List ℕ) (r lab : ℕ) (ima im1 im2 : List ℕ) (C : Calls bs i sign lm im0 r lab ima im1 im2 (shapeOf st)) where
@@ -156,9 +154,6 @@ module _ (bs : List ℕ) (B : Bytes bs) (st : State) (I : Is st bs) (i : ℕ) (s
   b : Basics bs s
   b = basics-of bs st I
 
-  abbrev S : shapes.Same (shapeOf st) (st .kind) refl
-  S = shapes.same (shapeOf st) (st .kind) refl
-
   settles : Settled (st .labels) l′ (ratioOf (signed i sign lm))
   settles = halves.settled bs st I e good ofk few k
 
@@ -199,36 +194,36 @@ module _ (bs : List ℕ) (B : Bytes bs) (st : State) (I : Is st bs) (i : ℕ) (s
   b1 = basics-tracked ima im1 s lm ba (C .lm-canonical) (C .lm-tracked)
 
   -- ---- the maxima
-  present0 : part (words im0) 16 m ≡ st .maxima
-  present0 = ap (λ (x : List ℕ). part (words x) 16 m) e0 ∙ part-before bs (at.labelsAt s) (labels.encode l′) 16 m (omega (arith, map-fits)) (omega arith) ∙ of.P bs st I .maxima
+  present0 : part (words im0) at.maximaAt m ≡ st .maxima
+  present0 = ap (λ (x : List ℕ). part (words x) at.maximaAt m) e0 ∙ part-before bs (at.labelsAt s) (labels.encode l′) at.maximaAt m (omega (arith, map-fits)) (omega arith) ∙ of.pieces bs st I .maxima
 
   abbrev mx : List ℕ
   mx = tracked (st .kind) (signed i sign lm) (st .maxima)
 
-  e1 : im1 ≡ pasteW im0 16 (tracked (st .kind) (signed i sign lm) (st .maxima))
+  e1 : im1 ≡ pasteW im0 at.maximaAt (tracked (st .kind) (signed i sign lm) (st .maxima))
   e1 =
-      let us = updated sign (part (words im0) 16 m) in
+      let us = updated sign (part (words im0) at.maximaAt m) in
       let ws = updated lm us in
-      let lu : length us ≡ m = updated-length sign (part (words im0) 16 m) ∙ b0 .present .one-each in
+      let lu : length us ≡ m = updated-length sign (part (words im0) at.maximaAt m) ∙ b0 .present .one-each in
       let lw : length ws ≡ m = updated-length lm us ∙ lu in
       let r0 = b0 .room in
-      let z : im1 ≡ pasteW (pasteW im0 16 us) 16 ws = C .lm-tracked ∙ rw (tracked-is im0 ima s sign b0 (C .sign-canonical) (C .sign-tracked), C .sign-tracked) in
-      let t : pasteW (pasteW im0 16 us) 16 ws ≡ pasteW im0 16 (over us 0 ws) = paste-in im0 16 us 0 ws (omega arith) (omega arith) in
-      z ∙ t ∙ ap (pasteW im0 16) (over-all us ws (omega arith)) ∙ rw (present0, both (st .kind) e (st .maxima) k)
+      let z : im1 ≡ pasteW (pasteW im0 at.maximaAt us) at.maximaAt ws = C .lm-tracked ∙ rw (tracked-is im0 ima s sign b0 (C .sign-canonical) (C .sign-tracked), C .sign-tracked) in
+      let t : pasteW (pasteW im0 at.maximaAt us) at.maximaAt ws ≡ pasteW im0 at.maximaAt (over us 0 ws) = paste-in im0 at.maximaAt us 0 ws (omega arith) (omega arith) in
+      z ∙ t ∙ ap (pasteW im0 at.maximaAt) (over-all us ws (omega arith)) ∙ rw (present0, both (st .kind) e (st .maxima) k)
 
   mx-long : length mx ≡ m
   mx-long = lengths bs st I e good ofk few .maxima
 
-  mx-fits : 4 * (16 + length mx) ≤ length im0
+  mx-fits : 4 * (at.maximaAt + length mx) ≤ length im0
   mx-fits = omega (arith, mx-long, b0 .room)
 
   long1 : length im1 ≡ length bs
-  long1 = ap length e1 ∙ length-pasteW im0 16 mx (omega (arith, mx-fits)) ∙ long0
+  long1 = ap length e1 ∙ length-pasteW im0 at.maximaAt mx (omega (arith, mx-fits)) ∙ long0
 
   map1 : mapMaxima (words im1) s ≡ st .mapMaxima
   map1 =
-      ap (λ (x : List ℕ). mapMaxima (words x) s) e1 ∙ part-after im0 16 mx (16 + m) m (omega (arith, mx-long)) (omega (arith, mx-fits))
-      ∙ ap (λ (x : List ℕ). mapMaxima (words x) s) e0 ∙ part-before bs (at.labelsAt s) (labels.encode l′) (16 + m) m (omega (arith, map-fits)) (omega arith) ∙ of.P bs st I .map
+      ap (λ (x : List ℕ). mapMaxima (words x) s) e1 ∙ part-after im0 at.maximaAt mx (at.mapAt m) m (omega (arith, mx-long)) (omega (arith, mx-fits))
+      ∙ ap (λ (x : List ℕ). mapMaxima (words x) s) e0 ∙ part-before bs (at.labelsAt s) (labels.encode l′) (at.mapAt m) m (omega (arith, map-fits)) (omega arith) ∙ of.pieces bs st I .map
 
   -- ---- the row
   abbrev row : List ℕ
@@ -238,7 +233,7 @@ module _ (bs : List ℕ) (B : Bytes bs) (st : State) (I : Is st bs) (i : ℕ) (s
   e2 = C .row-written ∙ rw (map1, row-is, whole-row (st .kind) m (st .mapMaxima) l′ e k)
 
   row-long : length row ≡ at.entryWidth s
-  row-long = entry-length (st .kind) m (st .mapMaxima) l′ e (b .range .vars-to) good ∙ sym (S .width)
+  row-long = entry-length (st .kind) m (st .mapMaxima) l′ e (b .range .vars-to) good
 
   row-in : at.entryAt s n + at.entryWidth s ≤ at.permutationAt s
   row-in = entry-inside s (b .range) n few
@@ -250,16 +245,16 @@ module _ (bs : List ℕ) (B : Bytes bs) (st : State) (I : Is st bs) (i : ℕ) (s
   long2 = ap length e2 ∙ length-pasteW im1 (at.entryAt s n) row (omega (arith, row-fits-in)) ∙ long1
 
   map2 : mapMaxima (words im2) s ≡ st .mapMaxima
-  map2 = ap (λ (x : List ℕ). mapMaxima (words x) s) e2 ∙ part-before im1 (at.entryAt s n) row (16 + m) m (omega (arith, row-fits-in)) (omega arith) ∙ map1
+  map2 = ap (λ (x : List ℕ). mapMaxima (words x) s) e2 ∙ part-before im1 (at.entryAt s n) row (at.mapAt m) m (omega (arith, row-fits-in)) (omega arith) ∙ map1
 
   -- ---- the draft
   first : Draft bs im0 (withLabels bs st I e good ofk few)
   first =
       let L = lengths bs st I e good ofk few in
-      let old : length (labelWords (st .kind) l) ≡ layout.labelsSize (st .kind) m (st .capacity) = of.fits bs st I .label-words in
-      let ml : length (labels.encode l′) ≡ layout.labelsSize (st .kind) m (st .capacity) = map-long ∙ S .labels-long in
+      let old : length (labelWords (st .kind) l) ≡ at.labelsSize (shapeOf st) = of.fits bs st I .label-words in
+      let ml : length (labels.encode l′) ≡ at.labelsSize (shapeOf st) = map-long in
       let D = draft-step bs bs im0 (coarse st) 5 0 (at.labelsAt s) (labels.encode l′) (start bs st I e good ofk few B) e0
-      (omega (arith, S .labels, L .head, of.fits bs st I .maxima, L .map-is, halves.rows-long bs st I e good ofk few, L .permutation)) (omega arith) (omega (arith, old, ml)) in
+      (omega (arith, L .head, of.fits bs st I .maxima, L .map-is, halves.rows-long bs st I e good ofk few, L .permutation)) (omega arith) (omega (arith, old, ml)) in
       let z : over (labelWords (st .kind) l) 0 (labels.encode l′) ≡ labelWords (st .kind) l′ = over-all (labelWords (st .kind) l) (labels.encode l′) (omega (arith, old, ml)) ∙ sym (map-words (st .kind) l′ k) in
       rw z at D
 
@@ -270,19 +265,19 @@ module _ (bs : List ℕ) (B : Bytes bs) (st : State) (I : Is st bs) (i : ℕ) (s
   kept : (a j : ℕ) → at.permutationAt s ≤ a → part (words im2) a j ≡ part (words im0) a j
   kept a j h =
       ap (λ (x : List ℕ). part (words x) a j) e2 ∙ part-after im1 (at.entryAt s n) row a j (omega (arith, row-long, row-in)) row-fits-in
-      ∙ ap (λ (x : List ℕ). part (words x) a j) e1 ∙ part-after im0 16 mx a j (omega (arith, mx-long)) (omega (arith, mx-fits))
+      ∙ ap (λ (x : List ℕ). part (words x) a j) e1 ∙ part-after im0 at.maximaAt mx a j (omega (arith, mx-long)) (omega (arith, mx-fits))
 
-  nodes2 : part (words im2) (at.nodeAt s 0) (nodes (st .tree) * (m + 6)) ≡ treeWords m (st .mapMaxima) (powerIn es) (st .tree)
+  nodes2 : part (words im2) (at.nodeAt s 0) (nodes (st .tree) * at.nodeWidth m) ≡ treeWords m (st .mapMaxima) (powerIn es) (st .tree)
   nodes2 =
-      kept (at.nodeAt s 0) (nodes (st .tree) * (m + 6)) (omega arith) ∙ ap (λ (x : List ℕ). part (words x) (at.nodeAt s 0) (nodes (st .tree) * (m + 6))) e0
-      ∙ part-after bs (at.labelsAt s) (labels.encode l′) (at.nodeAt s 0) (nodes (st .tree) * (m + 6)) map-in map-fits
-      ∙ moved (words bs) (of.P bs st I .nodes-are) (sym (S .node 0 ∙ omega (arith, zero-mul (m + 6)))) refl
+      kept (at.nodeAt s 0) (nodes (st .tree) * at.nodeWidth m) (omega arith) ∙ ap (λ (x : List ℕ). part (words x) (at.nodeAt s 0) (nodes (st .tree) * at.nodeWidth m)) e0
+      ∙ part-after bs (at.labelsAt s) (labels.encode l′) (at.nodeAt s 0) (nodes (st .tree) * at.nodeWidth m) map-in map-fits
+      ∙ moved (words bs) (of.pieces bs st I .nodes-are) (omega (arith, zero-mul (at.nodeWidth m))) refl
 
   perm2 : part (words im2) (at.permutationAt s) n ≡ inorder (st .tree)
   perm2 =
       kept (at.permutationAt s) n (omega arith) ∙ ap (λ (x : List ℕ). part (words x) (at.permutationAt s) n) e0
       ∙ part-before bs (at.labelsAt s) (labels.encode l′) (at.permutationAt s) n (omega (arith, map-fits)) (omega (arith, b .range .few))
-      ∙ moved (words bs) (of.P bs st I .permutation) (sym (S .permutation)) refl
+      ∙ of.pieces bs st I .permutation
 
   -- ---- the label map
   there : part (words im0) (at.labelsAt s) (at.labelsSize s) ≡ labels.encode l′
@@ -317,7 +312,7 @@ module _ (bs : List ℕ) (B : Bytes bs) (st : State) (I : Is st bs) (i : ℕ) (s
       rw (entry-new es (numbered n e))
       (label-of l′ (settles .valid) (ratioOf e) (has .0) (has .1) (has .2)
       ∙ sym (label-at im0 s (b .range) room0 (C .one) l′ map0 (has .0) (has .1))
-      ∙ ap (λ (j : ℕ). getD (words im0) (at.labelsAt s + (4 + j * (m + 3) + (m + 2))) 0) (sym row-at) ∙ sym (C .label-read))
+      ∙ ap (λ (j : ℕ). getD (words im0) (at.labelAt s j) 0) (sym row-at) ∙ sym (C .label-read))
 
   -- ---- the entries that were there
   module _ (x : ℕ) (h : x < n) where
@@ -325,7 +320,7 @@ module _ (bs : List ℕ) (B : Bytes bs) (st : State) (I : Is st bs) (i : ℕ) (s
     o = let of : LabelsOf ratioed es l = rw k at (I .valid .labels-of) in of .0 x h
 
     abbrev q : ℕ
-    q = at.entryAt s x + (2 * m + 5)
+    q = at.rowAt s x
 
     q-in : q < at.entryAt s n
     q-in = omega (arith, ratio-width s (b .range) (C .one), row-fits x n (at.entryWidth s) h)
@@ -333,7 +328,7 @@ module _ (bs : List ℕ) (B : Bytes bs) (st : State) (I : Is st bs) (i : ℕ) (s
     row-kept : rowIn (words im2) s x ≡ rowIn (words bs) s x
     row-kept =
         ap (λ (y : List ℕ). getD (words y) q 0) e2 ∙ pasteW-before im1 (at.entryAt s n) row q (omega (arith, row-fits-in)) q-in
-        ∙ ap (λ (y : List ℕ). getD (words y) q 0) e1 ∙ get-after im0 16 mx q (omega (arith, mx-long)) (omega (arith, mx-fits))
+        ∙ ap (λ (y : List ℕ). getD (words y) q 0) e1 ∙ get-after im0 at.maximaAt mx q (omega (arith, mx-long)) (omega (arith, mx-fits))
         ∙ ap (λ (y : List ℕ). getD (words y) q 0) e0 ∙ pasteW-before bs (at.labelsAt s) (labels.encode l′) q (omega (arith, map-fits)) (omega (arith, q-in, row-in))
 
     row-here : rowIn (words im2) s x ≡ o .0
@@ -358,8 +353,14 @@ module _ (bs : List ℕ) (B : Bytes bs) (st : State) (I : Is st bs) (i : ℕ) (s
       (f (hangs bs st I e good ofk few im2 made map2 nodes2 perm2 long2 lab lab2 (λ z. labels2) (λ z. rows2)))
 
 -- ---- the same for the shape in the header
-pub label-ready : (bs : List ℕ) (s : Shape) → Room bs s → LabelsOk bs s
-label-ready bs s R = subst (λ (x : Shape). LabelsOk bs x) (shape-is bs s (R .head) (R .sound .state) (R .sound .is)) (of.tables-ok bs (R .sound .state) (R .sound .is) .labels)
+pub label-ready : (bs : List ℕ) (s : Shape) → Room bs s → s .kind ≡ 1 → labels.SoundFor (s .variables) (s .capacity) (labelBytes bs s)
+label-ready bs s R one =
+    let st = R .sound .state in
+    let I = R .sound .is in
+    let q = shape-is bs s (R .head) st I in
+    let one′ : shapeOf st .kind ≡ 1 = subst (λ (x : Shape). x .kind ≡ 1) (sym q) one in
+    subst (λ (x : Shape). labels.SoundFor (x .variables) (x .capacity) (labelBytes bs x)) q
+    (of-map bs (shapeOf st) (of.range bs st I) (I .room) one′ (st .labels) (of.map-is bs st I (code-ratio (st .kind) one′)))
 
 module _ (bs : List ℕ) (B : Bytes bs) (s : Shape) (R : Room bs s) (i : ℕ) (sign lm im0 : List ℕ) (r : ℕ) where
   -- ---- once the labels are done
@@ -372,9 +373,9 @@ module _ (bs : List ℕ) (B : Bytes bs) (s : Shape) (R : Room bs s) (i : ℕ) (s
       let st = R .sound .state in
       let I = R .sound .is in
       let q = shape-is bs s (R .head) st I in
-      let lab = getD (words im0) (at.labelsAt s + (4 + r * (s .variables + 3) + (s .variables + 2))) 0 in
-      let ima = pasteW im0 16 (updated sign (part (words im0) 16 (s .variables))) in
-      let im1 = pasteW ima 16 (updated lm (part (words ima) 16 (s .variables))) in
+      let lab = getD (words im0) (at.labelAt s r) 0 in
+      let ima = pasteW im0 at.maximaAt (updated sign (part (words im0) at.maximaAt (s .variables))) in
+      let im1 = pasteW ima at.maximaAt (updated lm (part (words ima) at.maximaAt (s .variables))) in
       let im2 = pasteW im1 (at.entryAt s (s .entries)) (ratioRow (s .variables) (mapMaxima (words im1) s) i sign lm r) in
       let C : Calls bs i sign lm im0 r lab ima im1 im2 s = record {
         one = one;

@@ -13,7 +13,7 @@ use Rattle.words.specs.Tables.{part, over}
 use Rattle.words.proofs.Laws.{length-pasteW, pasteW-snoc, putW-paste}
 use Rattle.words.proofs.Tables.{paste-over, over-all, pasteW-append, never}
 use Rattle.monomial.specs.Monomial.{pow}
-use Rattle.divmask.specs.Mask.{mask}
+use Rattle.divmask.specs.Mask.{mask, vector}
 use Rattle.fast_compare.specs.Labels.{known, sorted}
 use Rattle.fast_compare.specs.Map.{Value, Good, State, Valid, cmp, value, place, answer, stored, after, rebuild}
 use Rattle.fast_compare.specs.Layout.{size, encode, Is, Sound, Gave}
@@ -26,9 +26,9 @@ use Rattle.fast_compare.proofs.Kept.{gave-sound, rebuild-is, after-is}
 use Rattle.fast_compare.proofs.Reading.{vars-of}
 use Rattle.fast_compare.proofs.Giving.{at-place, before-place, known-row}
 use Rattle.index_theory.specs.Calls.{relabel}
-use Rattle.index_image.specs.Layout.{slot}
-use Rattle.index_theory.specs.State.{rowOr}
-use Rattle.index_theory.specs.State.{rowOf}
+use Rattle.index_image.specs.Shape as at
+use Rattle.index_image.specs.Layout.{slot, masked}
+use Rattle.index_theory.specs.State.{rowOr, rowOf}
 use Rattle.index_image.proofs.Encoding.{slot-length}
 use Rattle.kd_insert.specs.Labelling.{isNoLabel, settled, ratioRow}
 
@@ -132,21 +132,20 @@ unfolding rowOf rowOr
 no-row l v p e = rw (before-place l v p e .is)
 
 -- ---- the row of an entry, written piece by piece
-pub ratio-row-written : (im a b c d : List ℕ) (i m x y ix row : ℕ) (sign lm : List ℕ) → length sign ≤ m + 1 → length lm ≤ m + 1 → 4 * (i + (2 * m + 6)) ≤ length im
-    → a ≡ pasteW im i (slot m lm ++ (x ∷ [])) → b ≡ putW a (i + (m + 2)) ix → c ≡ pasteW b (i + (m + 3)) (slot m sign ++ (y ∷ [])) → d ≡ putW c (i + (2 * m + 5)) row
-    → d ≡ pasteW im i (slot m lm ++ (x ∷ ix ∷ (slot m sign ++ (y ∷ row ∷ []))))
-ratio-row-written im a b c d i m x y ix row sign lm hs hl h ea eb ec ed =
-    let ll = slot-length m lm hl in
-    let ls = slot-length m sign hs in
-    let u1 = slot m lm ++ (x ∷ []) in
-    let l1 : length u1 ≡ m + 2 = length-append (slot m lm) _ ∙ omega arith in
+pub ratio-row-written : (im a b c d : List ℕ) (i m ix row : ℕ) (xs sign lm : List ℕ) → length sign ≤ at.slotWidth m → length lm ≤ at.slotWidth m → 4 * (i + at.widthOf 1 m) ≤ length im
+    → a ≡ pasteW im i (masked m xs lm []) → b ≡ putW a (i + (m + 3)) ix → c ≡ pasteW b (i + (m + 4)) (masked m xs sign []) → d ≡ putW c (i + (2 * m + 7)) row
+    → d ≡ pasteW im i (masked m xs lm (ix ∷ masked m xs sign (row ∷ [])))
+unfolding masked
+ratio-row-written im a b c d i m ix row xs sign lm hs hl h ea eb ec ed =
+    let u1 = slot m lm ++ (mask m xs (pow 1 lm) ∷ vector m (pow 1 lm) ∷ []) in
+    let v = slot m sign ++ (mask m xs (pow 1 sign) ∷ vector m (pow 1 sign) ∷ []) in
+    let l1 : length u1 ≡ m + 3 = length-append (slot m lm) _ ∙ omega (arith, slot-length m lm hl) in
+    let lv : length v ≡ m + 3 = length-append (slot m sign) _ ∙ omega (arith, slot-length m sign hs) in
     let u2 = u1 ++ (ix ∷ []) in
-    let l2 : length u2 ≡ m + 3 = length-append u1 _ ∙ omega arith in
-    let v = slot m sign ++ (y ∷ []) in
-    let lv : length v ≡ m + 2 = length-append (slot m sign) _ ∙ omega arith in
+    let l2 : length u2 ≡ m + 4 = length-append u1 _ ∙ omega arith in
     let u3 = u2 ++ v in
-    let l3 : length u3 ≡ 2 * m + 5 = length-append u2 v ∙ omega arith in
-    let b2 : b ≡ pasteW im i u2 = eb ∙ rw ea (pasteW-snoc im i u1 (i + (m + 2)) ix (omega arith) (omega arith)) in
-    let c3 : c ≡ pasteW im i u3 = ec ∙ rw b2 (pasteW-append im i u2 (i + (m + 3)) v (omega arith) (omega arith)) in
-    let d4 : d ≡ pasteW im i (u3 ++ (row ∷ [])) = ed ∙ rw c3 (pasteW-snoc im i u3 (i + (2 * m + 5)) row (omega arith) (omega arith)) in
+    let l3 : length u3 ≡ 2 * m + 7 = length-append u2 v ∙ omega arith in
+    let b2 : b ≡ pasteW im i u2 = eb ∙ rw ea (pasteW-snoc im i u1 (i + (m + 3)) ix (omega arith) (omega arith)) in
+    let c3 : c ≡ pasteW im i u3 = ec ∙ rw b2 (pasteW-append im i u2 (i + (m + 4)) v (omega arith) (omega arith)) in
+    let d4 : d ≡ pasteW im i (u3 ++ (row ∷ [])) = ed ∙ rw c3 (pasteW-snoc im i u3 (i + (2 * m + 7)) row (omega arith) (omega arith)) in
     d4 ∙ ap (pasteW im i) (simp append-assoc)

@@ -79,11 +79,11 @@ suc-le (suc n) w h = omega (arith, suc-mul n w)
 
 -- where row k is
 pub record Spot (s : Shape) (k : ℕ) : Type 0 where
-  pub fits : at.nodeAt s k + (s .variables + 6) ≤ at.size s
-  pub small : at.size s ≤ 1405008
+  pub fits : at.nodeAt s k + (at.nodeWidth (s .variables)) ≤ at.size s
+  pub small : at.size s ≤ 1413206
 
 pub spot : (s : Shape) → at.InRange s → (k : ℕ) → k < s .nodes → Spot s k
-spot s R k h = record { fits = omega (arith, row-fits k (2 * s .capacity - 1) (s .variables + 6) (omega (arith, R .nodes-to))); small = size-small s R }
+spot s R k h = record { fits = omega (arith, row-fits k (2 * s .capacity - 1) (at.nodeWidth (s .variables)) (omega (arith, R .nodes-to))); small = size-small s R }
 
 module _ (bs : List ℕ) (s : Shape) (R : at.InRange s) (room : 4 * at.size s ≤ length bs) (lm : List ℕ) (lab k : ℕ) (g : Growth (words bs) s lm lab k) where
   abbrev W : List ℕ
@@ -107,26 +107,26 @@ module _ (bs : List ℕ) (s : Shape) (R : at.InRange s) (room : 4 * at.size s �
   pub spot-here : Spot s k
   spot-here = spot s R k in-rows
 
-  long : (t : Tree) → length (treeWords m xs pw t) ≡ nodes t * (m + 6)
+  long : (t : Tree) → length (treeWords m xs pw t) ≡ nodes t * (at.nodeWidth m)
   long t = tree-length m xs pw (R .vars-to) (g .power-absent) t
 
   wide : (tag key skip : ℕ) (es : List ℕ) → length (nodeWords m xs pw tag key skip es) ≡ m + 6
   wide tag key skip es = node-length m xs pw (R .vars-to) (g .power-absent) tag key skip es
 
-  fit : i + (m + 6) ≤ length W
+  fit : i + (at.nodeWidth m) ≤ length W
   fit = omega (arith, spot-here .fits, length-words bs)
 
   pub record Here (t : Tree) : Type 0 where
     pub row : RowIs m xs pw (R .vars-to) (g .power-small) (g .power-absent) W i (tagOf t) (keyOf t) (skipOf t) (inorder t)
-    pub row-words : part W i (m + 6) ≡ nodeWords m xs pw (tagOf t) (keyOf t) (skipOf t) (inorder t)
-    pub rest : part W (i + (m + 6)) (length (restOf m xs pw t)) ≡ restOf m xs pw t
+    pub row-words : part W i (at.nodeWidth m) ≡ nodeWords m xs pw (tagOf t) (keyOf t) (skipOf t) (inorder t)
+    pub rest : part W (i + at.nodeWidth m) (length (restOf m xs pw t)) ≡ restOf m xs pw t
 
-  here-at : (t : Tree) → part W i (nodes t * (m + 6)) ≡ treeWords m xs pw t → Here t
+  here-at : (t : Tree) → part W i (nodes t * at.nodeWidth m) ≡ treeWords m xs pw t → Here t
   here-at t e =
       let row = nodeWords m xs pw (tagOf t) (keyOf t) (skipOf t) (inorder t) in
       let rest = restOf m xs pw t in
-      let n : nodes t * (m + 6) ≡ (m + 6) + length rest = sym (long t) ∙ ap length (tree-row m xs pw t) ∙ length-append row rest ∙ omega (arith, wide (tagOf t) (keyOf t) (skipOf t) (inorder t)) in
-      let z = part-append W i (m + 6) (length rest) row rest fit (wide (tagOf t) (keyOf t) (skipOf t) (inorder t)) .0 (ap (part W i) (sym n) ∙ e ∙ tree-row m xs pw t) in
+      let n : nodes t * (at.nodeWidth m) ≡ (at.nodeWidth m) + length rest = sym (long t) ∙ ap length (tree-row m xs pw t) ∙ length-append row rest ∙ omega (arith, wide (tagOf t) (keyOf t) (skipOf t) (inorder t)) in
+      let z = part-append W i (at.nodeWidth m) (length rest) row rest fit (wide (tagOf t) (keyOf t) (skipOf t) (inorder t)) .0 (ap (part W i) (sym n) ∙ e ∙ tree-row m xs pw t) in
       record { row = row-is m xs pw (R .vars-to) (g .power-small) (g .power-absent) W i (tagOf t) (keyOf t) (skipOf t) (inorder t) fit (z .0); row-words = z .0; rest = z .1 }
 
   pub here : Here (g .tree)
@@ -153,7 +153,7 @@ module _ (bs : List ℕ) (s : Shape) (R : at.InRange s) (room : 4 * at.size s �
     pub tag-is : getD W i 0 ≡ suc dim
     pub key-is : getD W (i + 1) 0 ≡ key
     pub skip-is : getD W (i + 3) 0 ≡ nodes less
-    pub passed : getD W (i + (m + 8)) 0 ≡ count less
+    pub passed : getD W (at.countAt (i + at.nodeWidth m)) 0 ≡ count less
     pub two : k + 2 ≤ s .nodes
 
   pub at-branch : (getD W i 0 ≡ 0 → ⊥) → AtBranch
@@ -165,13 +165,13 @@ module _ (bs : List ℕ) (s : Shape) (R : at.InRange s) (room : 4 * at.size s �
       go (branch d key l r) e h kd n =
           let a = treeWords m xs pw l in
           let b = treeWords m xs pw r in
-          let la : length a ≡ nodes l * (m + 6) = long l in
-          let sl = suc-le (nodes l) (m + 6) (some-node l) in
-          let rest : part W (i + (m + 6)) (length (restOf m xs pw (branch d key l r))) ≡ restOf m xs pw (branch d key l r) = h .rest in
+          let la : length a ≡ nodes l * (at.nodeWidth m) = long l in
+          let sl = suc-le (nodes l) (at.nodeWidth m) (some-node l) in
+          let rest : part W (i + at.nodeWidth m) (length (restOf m xs pw (branch d key l r))) ≡ restOf m xs pw (branch d key l r) = h .rest in
           let lr : length (restOf m xs pw (branch d key l r)) ≡ length a + length b = ap length (rest-branch m xs pw d key l r) ∙ length-append a b in
-          let e8 : i + (m + 6) + 2 ≡ i + (m + 8) = omega arith in
-          let two : getD W (i + (m + 8)) 0 ≡ getD (restOf m xs pw (branch d key l r)) 2 0 =
-          ap (λ (j : ℕ). getD W j 0) (sym e8) ∙ sym (part-get W (i + (m + 6)) (length (restOf m xs pw (branch d key l r))) 2 (omega arith)) ∙ ap (λ (x : List ℕ). getD x 2 0) rest in
+          let e8 : i + (at.nodeWidth m) + 2 ≡ at.countAt (i + at.nodeWidth m) = omega arith in
+          let two : getD W (at.countAt (i + at.nodeWidth m)) 0 ≡ getD (restOf m xs pw (branch d key l r)) 2 0 =
+          ap (λ (j : ℕ). getD W j 0) (sym e8) ∙ sym (part-get W (i + at.nodeWidth m) (length (restOf m xs pw (branch d key l r))) 2 (omega arith)) ∙ ap (λ (x : List ℕ). getD x 2 0) rest in
           record {
             dim = d;
             key = key;
@@ -213,7 +213,7 @@ module _ (bs : List ℕ) (s : Shape) (R : at.InRange s) (room : 4 * at.size s �
     unfolding wayOf
     less-way h = rw (B .is, h)
 
-    pub other-way : (x y : ℕ) → belowIn (s .kind) pw (g .label) (B .dim) (B .key) (g .entry) ≡ false → x ≡ getD W (i + 3) 0 → y ≡ getD W (i + (m + 8)) 0
+    pub other-way : (x y : ℕ) → belowIn (s .kind) pw (g .label) (B .dim) (B .key) (g .entry) ≡ false → x ≡ getD W (i + 3) 0 → y ≡ getD W (at.countAt (i + at.nodeWidth m)) 0
         → _≡_ {A = Way} (record { stop = false; rows = 1 + x; places = y }) (wayOf (keys g) (g .entry) (g .tree))
     unfolding wayOf
     other-way x y h ex ey =
@@ -221,14 +221,14 @@ module _ (bs : List ℕ) (s : Shape) (R : at.InRange s) (room : 4 * at.size s �
         rw (B .is, h, e, ey ∙ B .passed)
 
     -- what is asked of the test
-    pub ratio-key : (tag key : ℕ) → tag ≡ getD W i 0 → key ≡ getD W (i + 1) 0 → tag ≡ s .kind → (key < s .entries) × (rowIn W s key < s .capacity)
+    pub ratio-key : (tag key : ℕ) → tag ≡ getD W i 0 → key ≡ getD W (i + 1) 0 → tag ≡ s .kind → (key < s .capacity) × (rowIn W s key < s .capacity)
     unfolding KeyOk
     ratio-key tag key et ek e = go (s .kind) refl (B .dim) (B .key) refl refl (B .key-ok)
       where
-        go : (x : ℕ) → s .kind ≡ x → (d q : ℕ) → B .dim ≡ d → B .key ≡ q → KeyOk x (s .entries) d q → (key < s .entries) × (rowIn W s key < s .capacity)
+        go : (x : ℕ) → s .kind ≡ x → (d q : ℕ) → B .dim ≡ d → B .key ≡ q → KeyOk x (s .entries) d q → (key < s .capacity) × (rowIn W s key < s .capacity)
         go zero ex d q ed eq ok = absurd (omega (arith, B .tag-is))
         go (suc y) ex zero q ed eq ok =
             let one : s .kind ≡ 1 = omega (arith, R .kind-to) in
             let z : key ≡ q = ek ∙ B .key-is ∙ eq in
-            rw z (ok, g .rows-in one q ok)
+            rw z (omega (arith, R .few), g .rows-in one q ok)
         go (suc y) ex (suc v) q ed eq ok = absurd (omega (arith, R .kind-to, B .tag-is))

@@ -127,7 +127,14 @@ pub fn next_step(image: &[u8], s: Shape, k: usize, lm: &[u8], label: u64) -> Way
             places: words::get(image, at + fields::COUNT) as usize,
         };
     }
-    if is_below(image, s, tag, words::get(image, at + fields::KEY), lm, label) {
+    if is_below(
+        image,
+        s,
+        tag,
+        words::get(image, at + fields::KEY),
+        lm,
+        label,
+    ) {
         return Way {
             stop: false,
             rows: 1,
@@ -135,7 +142,8 @@ pub fn next_step(image: &[u8], s: Shape, k: usize, lm: &[u8], label: u64) -> Way
         };
     }
     let skip = words::get(image, at + fields::SKIP) as usize;
-    let passed = words::get(image, at + (s.variables + (fields::NODE + fields::COUNT))) as usize;
+    let less = at + (s.variables + fields::NODE);
+    let passed = words::get(image, less + fields::COUNT) as usize;
     Way {
         stop: false,
         rows: 1 + skip,

@@ -68,8 +68,16 @@ pub fn write_masked(image: &mut [u8], s: Shape, i: usize, monomial: &[u8])
 {
     let masks = masks_of(image, s, monomial);
     write_slot(image, i, s.variables, monomial);
-    words::put(image, i + (s.variables + fields::MASK), (masks % 4294967296) as u32);
-    words::put(image, i + (s.variables + fields::VECTOR), (masks / 4294967296) as u32);
+    words::put(
+        image,
+        i + (s.variables + fields::MASK),
+        (masks % 4294967296) as u32,
+    );
+    words::put(
+        image,
+        i + (s.variables + fields::VECTOR),
+        (masks / 4294967296) as u32,
+    );
 }
 
 // Writes the mask and the gcd of the node at word `at`.

@@ -51,7 +51,13 @@ fn write_below(image: &[u8], s: Shape, k: usize, lo: usize, out: &mut [u8]) -> u
 {
     let row = s.node_at(k);
     if words::get(image, row) == 0 {
-        return write_leaf(image, s, lo, words::get(image, row + fields::COUNT) as usize, out);
+        return write_leaf(
+            image,
+            s,
+            lo,
+            words::get(image, row + fields::COUNT) as usize,
+            out,
+        );
     }
     let skip = words::get(image, row + fields::SKIP) as usize;
     let next = row + (s.variables + fields::NODE);

@@ -1,3 +1,4 @@
+use Rattle.monomial.proofs.Firsts.{starts-wide, starts-whole, first-whole}
 use native.Mathlib.Omega.{arith}
 use Rattle.words.specs.Words.{words}
 use Rattle.monomial.proofs.Laws.{canonical-more}
@@ -7,7 +8,7 @@ use Rattle.kd_insert.proofs.descent.is_below.Statement.{statement}
 use Rattle.kd_insert.proofs.descent.is_below.Tie as tie
 use Rattle.kd_insert.proofs.descent.is_below.Reads as reads
 use Rattle.kd_insert.proofs.descent.is_below.Lts as lts
-use Rattle.kd_insert.proofs.descent.label_in.Reads as label-in-reads
+use Rattle.index_image.proofs.walk.label_in.Reads as label-in-reads
 use Rattle.monomial.proofs.power_of.Reads as power-of-reads
 
 -- src/descent.rt:98:24
@@ -32,11 +33,11 @@ cast-power-of c = search needs
 
 -- src/descent.rt:101:5
 power-of-requires : tie.Need-power-of-requires
-power-of-requires c κs = ((omega arith, (omega arith, omega (arith, c .before .before .before .before .before .pre .1 .1 .1 .0 .1, c .before .before .before .before .before .pre .0 .vars-to, c .before .before .before .before .before .pre .0 .kind-to))), canonical-more (omega arith) (omega (arith, c .before .before .before .before .before .pre .0 .vars-to)) (c .before .before .before .before .before .pre .1 .1 .0))
+power-of-requires c κs = ((omega arith, (omega arith, omega (arith, c .before .before .before .before .before .pre .1 .1 .1 .0 .1, c .before .before .before .before .before .pre .0 .vars-to, c .before .before .before .before .before .pre .0 .kind-to))), starts-wide (starts-whole (c .before .before .before .before .before .pre .1 .1 .0)))
 
 -- src/descent.rt:89:1
 returns-2 : tie.Need-returns-2
-returns-2 c = below-power (words (c .before .before .before .before .before .before .args .image .now)) (c .before .before .before .before .before .before .args .s) (words (c .before .before .before .before .before .before .args .lm .now)) (c .before .before .before .before .before .before .args .label) (c .before .before .before .before .before .before .args .tag) (c .before .before .before .before .before .before .args .key) (c .power-of .result) (c .before .before .if1 .left) (c .power-of .ensures)
+returns-2 c = below-power (words (c .before .before .before .before .before .before .args .image .now)) (c .before .before .before .before .before .before .args .s) (words (c .before .before .before .before .before .before .args .lm .now)) (c .before .before .before .before .before .before .args .label) (c .before .before .before .before .before .before .args .tag) (c .before .before .before .before .before .before .args .key) (c .power-of .result) (c .before .before .if1 .left) (rw (first-whole (c .before .before .before .before .before .before .pre .1 .1 .0)) at (c .power-of .ensures))
 
 pub is-below-spec : {M : Type 1} → statement M
 is-below-spec =

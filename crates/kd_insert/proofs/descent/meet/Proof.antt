@@ -1,3 +1,5 @@
+use Rattle.monomial.proofs.Firsts.{starts-wide, starts-whole, first-whole}
+use Rattle.index_image.specs.Shape as shape
 use native.Mathlib.Omega.{arith}
 use Prim.Native.Nat.{_+_}
 use Rattle.words.specs.Words.{words}
@@ -11,7 +13,7 @@ use Rattle.kd_insert.proofs.descent.meet.Tie as tie
 use Rattle.kd_insert.proofs.descent.meet.Reads as reads
 use Rattle.kd_insert.proofs.descent.meet.Lts as lts
 use Rattle.kd_insert.proofs.descent.make_gcd.Reads as make-gcd-reads
-use Rattle.kd_insert.proofs.slots.monomial_in.Reads as monomial-in-reads
+use Rattle.index_image.proofs.walk.monomial_in.Reads as monomial-in-reads
 use Rattle.monomial.proofs.divides.Reads as divides-reads
 
 -- src/descent.rt:52:62
@@ -24,7 +26,7 @@ monomial-in-requires c κs = search needs
 
 -- src/descent.rt:52:8
 divides-requires : tie.Need-divides-requires
-divides-requires c κs = rw (c .monomial-in .ensures .is) (canonical-more (omega arith) (omega (arith, c .before .before .before .before .pre .0 .vars-to)) (in-canonical (words (c .before .before .before .before .args .image .now)) (c .before .before .before .before .args .s .variables) ((c .before .before .before .before .args .at) + 5) (c .before .before .before .before .pre .1 .1 .1 .1 .1 .0)), canonical-more (omega arith) (omega (arith, c .before .before .before .before .pre .0 .vars-to)) (c .before .before .before .before .pre .1 .1 .1 .0))
+divides-requires c κs = rw (c .monomial-in .ensures .is) (starts-wide (starts-whole (in-canonical (words (c .before .before .before .before .args .image .now)) (c .before .before .before .before .args .s .variables) (shape.gcdAt (c .before .before .before .before .args .at)) (c .before .before .before .before .pre .1 .1 .1 .1 .1 .0))), starts-wide (starts-whole (c .before .before .before .before .pre .1 .1 .1 .0)))
 
 -- src/descent.rt:53:9
 same-length : tie.Need-same-length
@@ -32,7 +34,7 @@ same-length c = search needs
 
 -- src/descent.rt:53:9
 returns : tie.Need-returns
-returns c = gcd-stays (c .before .before .before .before .before .before .args .image .now) (c .before .before .before .before .before .before .args .s) (c .before .before .before .before .before .before .args .at) (words (c .before .before .before .before .before .before .args .lm .now)) (λ j. (c .before .before .before .before .before .slice-known .given) j .fits) (c .before .before .before .before .before .before .pre .0 .vars-to) (omega (arith, c .before .before .before .before .before .before .pre .1 .0, c .before .before .before .before .before .before .pre .1 .1 .1 .1 .0)) (in-canonical (words (c .before .before .before .before .before .before .args .image .now)) (c .before .before .before .before .before .before .args .s .variables) ((c .before .before .before .before .before .before .args .at) + 5) (c .before .before .before .before .before .before .pre .1 .1 .1 .1 .1 .0)) (c .before .before .before .before .before .before .pre .1 .1 .1 .0) (c .before .before .before .before .before .before .pre .1 .1 .1 .1 .1 .1) (sym (rw (c .before .before .monomial-in .ensures .is) at (c .before .divides .ensures)) ∙ c .if1 .taken)
+returns c = gcd-stays (c .before .before .before .before .before .before .args .image .now) (c .before .before .before .before .before .before .args .s) (c .before .before .before .before .before .before .args .at) (words (c .before .before .before .before .before .before .args .lm .now)) (λ j. (c .before .before .before .before .before .slice-known .given) j .fits) (c .before .before .before .before .before .before .pre .0 .vars-to) (omega (arith, c .before .before .before .before .before .before .pre .1 .0, c .before .before .before .before .before .before .pre .1 .1 .1 .1 .0)) (in-canonical (words (c .before .before .before .before .before .before .args .image .now)) (c .before .before .before .before .before .before .args .s .variables) (shape.gcdAt (c .before .before .before .before .before .before .args .at)) (c .before .before .before .before .before .before .pre .1 .1 .1 .1 .1 .0)) (c .before .before .before .before .before .before .pre .1 .1 .1 .0) (c .before .before .before .before .before .before .pre .1 .1 .1 .1 .1 .1) (sym (rw (c .before .before .monomial-in .ensures .is, first-whole (in-canonical (words (c .before .before .before .before .before .before .args .image .now)) (c .before .before .before .before .before .before .args .s .variables) (shape.gcdAt (c .before .before .before .before .before .before .args .at)) (c .before .before .before .before .before .before .pre .1 .1 .1 .1 .1 .0)), first-whole (c .before .before .before .before .before .before .pre .1 .1 .1 .0)) at (c .before .divides .ensures)) ∙ c .if1 .taken)
 
 -- src/descent.rt:55:5
 make-gcd-requires : tie.Need-make-gcd-requires

@@ -1,3 +1,5 @@
+use Rattle.monomial.proofs.Firsts.{starts-whole, first-whole}
+use Rattle.index_image.specs.Shape as shape
 use native.Mathlib.Omega.{arith}
 use Rattle.words.specs.Words.{words}
 use Rattle.index_image.proofs.Reading.{part-words}
@@ -41,7 +43,7 @@ cast-update c = search needs
 
 -- src/insertion.rt:27:5
 update-requires : tie.Need-update-requires
-update-requires c κs = (simp (length-take, length-drop) (omega (arith, c .before .before .before .pre .1 .0)), (rw (part-words (c .before .before .before .args .image .now) 16 (c .before .before .before .args .s .variables) (64 + 4 * (c .before .before .before .args .s .variables) - 64) (omega arith)) (c .before .before .before .pre .1 .1 .0), c .before .before .before .pre .1 .1 .1))
+update-requires c κs = (simp (length-take, length-drop) (omega (arith, c .before .before .before .pre .1 .0)), (rw (part-words (c .before .before .before .args .image .now) shape.maximaAt (c .before .before .before .args .s .variables) (4 * shape.maximaAt + 4 * (c .before .before .before .args .s .variables) - 4 * shape.maximaAt) (omega arith)) (c .before .before .before .pre .1 .1 .0), starts-whole (c .before .before .before .pre .1 .1 .1)))
 
 -- src/insertion.rt:17:1
 same-length : tie.Need-same-length
@@ -49,7 +51,7 @@ same-length c = search needs
 
 -- src/insertion.rt:17:1
 returns : tie.Need-returns
-returns c = tracked-back (c .before .before .before .before .before .before .args .image .now) (c .before .before .before .before .before .before .args .s .variables) (64 + 4 * (c .before .before .before .before .before .before .args .s .variables) - 64) (c .before .before .update .last .0) (words (c .before .before .before .before .before .before .args .monomial .now)) (omega arith) (omega (arith, c .before .before .before .before .before .before .pre .1 .0)) (c .before .before .update .ensures)
+returns c = tracked-back (c .before .before .before .before .before .before .args .image .now) (c .before .before .before .before .before .before .args .s .variables) (4 * shape.maximaAt + 4 * (c .before .before .before .before .before .before .args .s .variables) - 4 * shape.maximaAt) (c .before .before .update .last .0) (words (c .before .before .before .before .before .before .args .monomial .now)) (omega arith) (omega (arith, c .before .before .before .before .before .before .pre .1 .0)) (rw (first-whole (c .before .before .before .before .before .before .pre .1 .1 .1)) at (c .before .before .update .ensures))
 
 pub track-spec : {M : Type 1} → statement M
 track-spec =

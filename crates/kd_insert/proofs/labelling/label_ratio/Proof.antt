@@ -2,7 +2,7 @@ use native.Mathlib.Omega.{arith}
 use Rattle.words.specs.Words.{words}
 use Rattle.fast_compare.specs.Map.{valueOf}
 use Rattle.monomial.proofs.Laws.{canonical-more}
-use Rattle.index_sound.proofs.Labels.{map-of}
+use Rattle.index_image.proofs.Labels.{map-of}
 use Rattle.kd_insert.specs.Labelling.{settled}
 use Rattle.kd_insert.proofs.Parts.{lent-ready, read-again, labels-are}
 use borrow.Author.Needs.{needs}

@@ -1,3 +1,5 @@
+use Rattle.index_image.specs.Shape as shape
+use Rattle.monomial.proofs.Firsts.{starts-whole, first-whole}
 use native.Mathlib.Omega.{arith}
 use Rattle.index_image.proofs.Reading.{part-words}
 use Prim.Native.Nat.{_+_, _-_, _*_}
@@ -42,11 +44,11 @@ cast-map c = search needs
 
 -- src/slots.rt:49:5
 map-requires : tie.Need-map-requires
-map-requires c κs = (rw (part-words (c .before .before .before .args .image .now) (16 + (c .before .before .before .args .s .variables)) (c .before .before .before .args .s .variables) (4 * (16 + (c .before .before .before .args .s .variables)) + 4 * (c .before .before .before .args .s .variables) - 4 * (16 + (c .before .before .before .args .s .variables))) (omega arith)) (c .before .before .before .pre .1 .1 .0), c .before .before .before .pre .1 .1 .1)
+map-requires c κs = (rw (part-words (c .before .before .before .args .image .now) (shape.mapAt (c .before .before .before .args .s .variables)) (c .before .before .before .args .s .variables) (4 * shape.mapAt (c .before .before .before .args .s .variables) + 4 * (c .before .before .before .args .s .variables) - 4 * shape.mapAt (c .before .before .before .args .s .variables)) (omega arith)) (c .before .before .before .pre .1 .1 .0), starts-whole (c .before .before .before .pre .1 .1 .1))
 
 -- src/slots.rt:39:1
 returns : tie.Need-returns
-returns c = rw (part-words (c .before .before .before .before .args .image .now) (16 + (c .before .before .before .before .args .s .variables)) (c .before .before .before .before .args .s .variables) (4 * (16 + (c .before .before .before .before .args .s .variables)) + 4 * (c .before .before .before .before .args .s .variables) - 4 * (16 + (c .before .before .before .before .args .s .variables))) (omega arith)) at (c .map .ensures)
+returns c = rw ((part-words (c .before .before .before .before .args .image .now) (shape.mapAt (c .before .before .before .before .args .s .variables)) (c .before .before .before .before .args .s .variables) (4 * shape.mapAt (c .before .before .before .before .args .s .variables) + 4 * (c .before .before .before .before .args .s .variables) - 4 * shape.mapAt (c .before .before .before .before .args .s .variables)) (omega arith)), first-whole (c .before .before .before .before .pre .1 .1 .1)) at (c .map .ensures)
 
 pub mask-of-spec : {M : Type 1} → statement M
 mask-of-spec =
