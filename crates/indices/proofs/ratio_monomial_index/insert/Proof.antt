@@ -1,0 +1,50 @@
+use Rattle.indices.proofs.Inserts.{with-room, refused, accepted, number-small}
+use native.Mathlib.Omega.{arith}
+use borrow.Author.Needs.{needs}
+use Rattle.indices.proofs.ratio_monomial_index.insert.Statement.{statement}
+use Rattle.indices.proofs.ratio_monomial_index.insert.Tie as tie
+use Rattle.indices.proofs.ratio_monomial_index.insert.Reads as reads
+use Rattle.indices.proofs.ratio_monomial_index.insert.Lts as lts
+use Rattle.kd_insert.proofs.insertion.insert_ratio.Reads as insert-ratio-reads
+use Rattle.words.proofs.answer_word.Reads as answer-word-reads
+use Rattle.words.proofs.refusal_word.Reads as refusal-word-reads
+
+-- src/ratio_monomial_index.rt:22:9
+refusal-word-requires : tie.Need-refusal-word-requires
+refusal-word-requires c κs = search needs
+
+-- src/ratio_monomial_index.rt:22:9
+returns : tie.Need-returns
+returns c = refused (c .before .before .before .before .before .before .args .image .now) (c .before .before .before .before .before .before .args .s) _ (c .refusal-word .result) (λ j. (c .before .before .before .before .before .slice-known .given) j .fits) (omega (arith, c .before .if1 .taken)) (c .refusal-word .ensures)
+
+-- src/ratio_monomial_index.rt:24:9
+insert-ratio-requires : tie.Need-insert-ratio-requires
+insert-ratio-requires c κs = (with-room (c .before .before .before .before .before .before .args .image .now) (c .before .before .before .before .before .before .args .s) (c .before .before .before .before .before .before .pre .0) (omega (arith, c .before .if1 .left)), c .before .before .before .before .before .before .pre .1)
+
+-- src/ratio_monomial_index.rt:25:24
+cast-answer-word : tie.Need-cast-answer-word
+cast-answer-word c = omega (arith, number-small (c .before .before .before .before .before .before .before .before .before .args .image .now) (c .before .before .before .before .before .before .before .before .before .args .s) _ (c .before .before .insert-ratio .result) _ (c .before .before .before .before .before .before .before .before .before .pre .0) (omega (arith, c .before .before .before .before .if1 .left)) (c .before .before .insert-ratio .ensures))
+
+-- src/ratio_monomial_index.rt:25:5
+answer-word-requires : tie.Need-answer-word-requires
+answer-word-requires c κs = number-small (c .before .before .before .before .before .before .before .before .before .args .image .now) (c .before .before .before .before .before .before .before .before .before .args .s) _ (c .before .before .insert-ratio .result) _ (c .before .before .before .before .before .before .before .before .before .pre .0) (omega (arith, c .before .before .before .before .if1 .left)) (c .before .before .insert-ratio .ensures)
+
+-- src/ratio_monomial_index.rt:13:1
+same-length : tie.Need-same-length
+same-length c = search needs
+
+-- src/ratio_monomial_index.rt:13:1
+returns-2 : tie.Need-returns-2
+returns-2 c = accepted (c .before .before .before .before .before .before .before .before .before .before .args .image .now) _ (c .before .before .before .before .before .before .before .before .before .before .args .s) _ (c .before .before .before .insert-ratio .result) (c .answer-word .result) (omega (arith, c .before .before .before .before .before .if1 .left)) (c .before .before .before .insert-ratio .ensures) (c .answer-word .ensures)
+
+pub insert-spec : {M : Type 1} → statement M
+insert-spec =
+    tie.close
+    (tie.spec
+    refusal-word-requires
+    returns
+    insert-ratio-requires
+    cast-answer-word
+    answer-word-requires
+    same-length
+    returns-2)

@@ -1,0 +1,3 @@
+// Both indexes on an image: each call over a canonical request.
+pub mod monomial_index;
+pub mod ratio_monomial_index;

@@ -1,0 +1,11 @@
+pub mod Grown
+pub mod Writing
+pub mod Ways
+pub mod Going
+pub mod Inserts
+pub mod Halves
+pub mod Monomials
+pub mod Settling
+pub mod Parts
+pub mod Ratios
+pub mod Kept

@@ -1,0 +1,151 @@
+-- A value gets its label and its row. Assumes nothing.
+use mathlib.Core.Path.{_≡_, refl, sym, ap, _∙_}
+use mathlib.Core.Bool.{Bool, true, false, not}
+use mathlib.Core.Option.{Option, none, some}
+use mathlib.Core.List.{List, [], _∷_, _++_, append-assoc}
+use Prim.Native.Nat.{ℕ, _+_, _-_, _*_, _≤_, _<_}
+use native.Mathlib.Omega.{arith}
+use lib.ListN.{length, getD, take, drop, length-append, length-take, length-drop}
+use borrow.Rule.Slice.PartMut.{putMid}
+use Rattle.words.specs.Kinds.{indexWord}
+use Rattle.words.specs.Words.{words, putW, pasteW}
+use Rattle.words.specs.Tables.{part, over}
+use Rattle.words.proofs.Laws.{length-pasteW, pasteW-snoc, putW-paste}
+use Rattle.words.proofs.Tables.{paste-over, over-all, pasteW-append, never}
+use Rattle.monomial.specs.Monomial.{pow}
+use Rattle.divmask.specs.Mask.{mask, vector}
+use Rattle.fast_compare.specs.Labels.{known, sorted}
+use Rattle.fast_compare.specs.Map.{Value, Good, State, Valid, cmp, value, place, answer, stored, after, rebuild}
+use Rattle.fast_compare.specs.Layout.{size, encode, Is, Sound, Gave}
+use Rattle.fast_compare.specs.declared.Comparer.{Comparer}
+use Rattle.fast_compare.specs.declared.Comparer.the-variants.{Known, New, Full, NoLabel}
+use Rattle.fast_compare.specs.declared.Place.the-variants.{At, Before}
+use Rattle.fast_compare.proofs.Images.{encode-length}
+use Rattle.fast_compare.proofs.Maps.{after-as, stored-same, rebuild-valid, after-valid, retry}
+use Rattle.fast_compare.proofs.Kept.{gave-sound, rebuild-is, after-is}
+use Rattle.fast_compare.proofs.Reading.{vars-of}
+use Rattle.fast_compare.proofs.Giving.{at-place, before-place, known-row}
+use Rattle.index_theory.specs.Calls.{relabel}
+use Rattle.index_image.specs.Shape as at
+use Rattle.index_image.specs.Layout.{slot, masked}
+use Rattle.index_theory.specs.State.{rowOr, rowOf}
+use Rattle.index_image.proofs.Encoding.{slot-length}
+use Rattle.kd_insert.specs.Labelling.{isNoLabel, settled, ratioRow}
+
+-- ---- an image pasted over an image
+pub paste-again : (bs a b d E F : List ℕ) → length E ≡ length F → 4 * length E ≤ length bs → a ≡ pasteW bs 0 E → b ≡ pasteW a 0 F → b ≡ pasteW bs 0 F
+paste-again bs a b d E F l h ea eb = eb ∙ rw ea (paste-over bs E 0 F (omega arith) h ∙ ap (pasteW bs 0) (over-all E F (sym l)))
+
+-- a call keeps the numbers of a map
+pub after-shape : (l : State) (v : Value) → (after l v .variables ≡ l .variables) × (after l v .capacity ≡ l .capacity)
+unfolding after stored
+after-shape l v = go (answer l v)
+  where
+    go : (c : Comparer) → (stored c l v .variables ≡ l .variables) × (stored c l v .capacity ≡ l .capacity)
+    go (Known x) = (refl, refl)
+    go (New x) = (refl, refl)
+    go Full = (refl, refl)
+    go NoLabel = (refl, refl)
+
+pub not-true : (b : Bool) → not b ≡ true → b ≡ false
+not-true true h = never h
+not-true false h = refl
+
+pub not-false : (b : Bool) → not b ≡ false → b ≡ true
+not-false true h = refl
+not-false false h = never (sym h)
+
+-- ---- a label at once
+relabel-first : (c : Comparer) (l : State) (v : Value) → isNoLabel c ≡ false → relabel c l v ≡ after l v
+unfolding isNoLabel relabel
+relabel-first (Known x) l v h = refl
+relabel-first (New x) l v h = refl
+relabel-first Full l v h = refl
+relabel-first NoLabel l v h = never (sym h)
+
+relabel-second : (c : Comparer) (l : State) (v : Value) → isNoLabel c ≡ true → relabel c l v ≡ after (rebuild l) v
+unfolding isNoLabel relabel
+relabel-second (Known x) l v h = never h
+relabel-second (New x) l v h = never h
+relabel-second Full l v h = never h
+relabel-second NoLabel l v h = refl
+
+is-none : (c : Comparer) → isNoLabel c ≡ true → c ≡ NoLabel
+unfolding isNoLabel
+is-none (Known x) h = never h
+is-none (New x) h = never h
+is-none Full h = never h
+is-none NoLabel h = refl
+
+pub first-done : (bs a : List ℕ) (l : State) (v : Value) (r : Comparer) (x : Bool) → Gave l v r bs a → x ≡ isNoLabel r → x ≡ false → a ≡ pasteW bs 0 (encode (settled l v))
+first-done bs a l v r x g ex e = g .bytes ∙ rw (relabel-first (answer l v) l v (ap isNoLabel (sym (g .answers)) ∙ sym ex ∙ e))
+
+-- ---- no label: the map is as it was
+module _ (bs a : List ℕ) (l : State) (v : Value) (r : Comparer) (I : Is l bs) (good : Good (getD (words bs) 1 0) v) (g : Gave l v r bs a) (none-free : isNoLabel r ≡ true) where
+  good-here : Good (l .variables) v
+  good-here = rw (vars-of bs l I) at good
+
+  same : after l v ≡ l
+  same =
+      let e : answer l v ≡ NoLabel = sym (g .answers) ∙ is-none r none-free in
+      after-as l v NoLabel e ∙ stored-same l v NoLabel (λ x z. let y : _≡_ {A = ℕ} 0 1 = cc in omega arith)
+
+  pub still : Is l a
+  still = rw same at (gave-sound bs a l v r I good-here g)
+
+  module _ (b : List ℕ) (eb : b ≡ pasteW a 0 (encode (rebuild l))) where
+    pub dealt : Is (rebuild l) b
+    dealt = rebuild-is a b l still eb
+
+    pub good-again : Good (getD (words b) 1 0) v
+    unfolding rebuild
+    good-again = rw (vars-of b (rebuild l) dealt) good-here
+
+    pub second-done : (d : List ℕ) (q : Comparer) → Gave (rebuild l) v q b d → d ≡ pasteW bs 0 (encode (settled l v))
+    unfolding rebuild
+    second-done d q h =
+        let lv = I .valid in
+        let rv = rebuild-valid l lv in
+        let av = after-is b d (rebuild l) v dealt good-here (h .bytes) .valid in
+        let l0 = encode-length l lv in
+        let l1 = encode-length (rebuild l) rv in
+        let l2 : length (encode (after (rebuild l) v)) ≡ size (l .variables) (l .capacity) = after-long in
+        let ea : a ≡ pasteW bs 0 (encode l) = g .bytes ∙ rw same in
+        let to : b ≡ pasteW bs 0 (encode (rebuild l)) = paste-again bs a b [] (encode l) (encode (rebuild l)) (l0 ∙ sym l1) (omega (arith, I .room)) ea eb in
+        rw (relabel-second (answer l v) l v (ap isNoLabel (sym (g .answers)) ∙ none-free))
+        (paste-again bs b d [] (encode (rebuild l)) (encode (after (rebuild l) v)) (l1 ∙ sym l2) (omega (arith, I .room)) to (h .bytes))
+      where
+        after-long : length (encode (after (rebuild l) v)) ≡ size (l .variables) (l .capacity)
+        after-long =
+            let s = after-shape (rebuild l) v in
+            encode-length (after (rebuild l) v) (after-valid (rebuild l) v (rebuild-valid l (I .valid)) good-here) ∙ rw (s .0, s .1)
+
+-- ---- rows
+pub row-at-place : (l : State) (v : Value) (p r : ℕ) → Valid l → At p ≡ place (l .rows) v → r ≡ getD (sorted cmp (value (l .rows)) (length (l .rows))) p 0 → r ≡ rowOf l v
+unfolding rowOf rowOr
+row-at-place l v p r val e er =
+    let k = at-place l v p e in
+    er ∙ known-row l v val p k .1 ∙ rw (k .is)
+
+pub no-row : (l : State) (v : Value) (p : ℕ) → Before p ≡ place (l .rows) v → 0 ≡ rowOf l v
+unfolding rowOf rowOr
+no-row l v p e = rw (before-place l v p e .is)
+
+-- ---- the row of an entry, written piece by piece
+pub ratio-row-written : (im a b c d : List ℕ) (i m ix row : ℕ) (xs sign lm : List ℕ) → length sign ≤ at.slotWidth m → length lm ≤ at.slotWidth m → 4 * (i + at.widthOf 1 m) ≤ length im
+    → a ≡ pasteW im i (masked m xs lm []) → b ≡ putW a (i + (m + 3)) ix → c ≡ pasteW b (i + (m + 4)) (masked m xs sign []) → d ≡ putW c (i + (2 * m + 7)) row
+    → d ≡ pasteW im i (masked m xs lm (ix ∷ masked m xs sign (row ∷ [])))
+unfolding masked
+ratio-row-written im a b c d i m ix row xs sign lm hs hl h ea eb ec ed =
+    let u1 = slot m lm ++ (mask m xs (pow 1 lm) ∷ vector m (pow 1 lm) ∷ []) in
+    let v = slot m sign ++ (mask m xs (pow 1 sign) ∷ vector m (pow 1 sign) ∷ []) in
+    let l1 : length u1 ≡ m + 3 = length-append (slot m lm) _ ∙ omega (arith, slot-length m lm hl) in
+    let lv : length v ≡ m + 3 = length-append (slot m sign) _ ∙ omega (arith, slot-length m sign hs) in
+    let u2 = u1 ++ (ix ∷ []) in
+    let l2 : length u2 ≡ m + 4 = length-append u1 _ ∙ omega arith in
+    let u3 = u2 ++ v in
+    let l3 : length u3 ≡ 2 * m + 7 = length-append u2 v ∙ omega arith in
+    let b2 : b ≡ pasteW im i u2 = eb ∙ rw ea (pasteW-snoc im i u1 (i + (m + 3)) ix (omega arith) (omega arith)) in
+    let c3 : c ≡ pasteW im i u3 = ec ∙ rw b2 (pasteW-append im i u2 (i + (m + 4)) v (omega arith) (omega arith)) in
+    let d4 : d ≡ pasteW im i (u3 ++ (row ∷ [])) = ed ∙ rw c3 (pasteW-snoc im i u3 (i + (2 * m + 7)) row (omega arith) (omega arith)) in
+    d4 ∙ ap (pasteW im i) (simp append-assoc)

@@ -1,0 +1,56 @@
+use native.Mathlib.Omega.{arith}
+use Rattle.words.specs.Words.{words}
+use Rattle.kd_insert.proofs.Writing.{row-written}
+use borrow.Author.Needs.{needs}
+use Rattle.kd_insert.proofs.descent.grow.Statement.{statement}
+use Rattle.kd_insert.proofs.descent.grow.Tie as tie
+use Rattle.kd_insert.proofs.descent.grow.Reads as reads
+use Rattle.kd_insert.proofs.descent.grow.Lts as lts
+use Rattle.kd_insert.proofs.descent.grow_gcd.Reads as grow-gcd-reads
+use Rattle.words.proofs.get.Reads as get-reads
+use Rattle.words.proofs.put.Reads as put-reads
+
+-- src/descent.rt:90:31
+add-get : tie.Need-add-get
+add-get c = search needs
+
+-- src/descent.rt:90:9
+get-requires : tie.Need-get-requires
+get-requires c κs = search needs
+
+-- src/descent.rt:91:5
+grow-gcd-requires : tie.Need-grow-gcd-requires
+grow-gcd-requires c κs = (c .before .before .before .before .before .pre .0, (c .before .before .before .before .before .pre .1 .0, (c .before .before .before .before .before .pre .1 .1 .0, (c .before .before .before .before .before .pre .1 .1 .1 .0, (c .before .before .before .before .before .pre .1 .1 .1 .1 .0, (c .before .before .before .before .before .pre .1 .1 .1 .1 .1 .0, (c .before .before .before .before .before .pre .1 .1 .1 .1 .1 .1 .0, c .before .before .before .before .before .pre .1 .1 .1 .1 .1 .1 .1 .1)))))))
+
+-- src/descent.rt:92:23
+add-put : tie.Need-add-put
+add-put c = search needs
+
+-- src/descent.rt:92:31
+add-put-2 : tie.Need-add-put-2
+add-put-2 c = search needs
+
+-- src/descent.rt:92:5
+put-requires : tie.Need-put-requires
+put-requires c κs = search needs
+
+-- src/descent.rt:78:1
+same-length : tie.Need-same-length
+same-length c = search needs
+
+-- src/descent.rt:78:1
+returns : tie.Need-returns
+returns c = row-written (c .before .before .before .before .before .before .before .before .before .before .before .before .args .image .now) (c .before .before .before .before .before .before .grow-gcd .last .0) _ (c .before .before .before .before .before .before .before .before .before .before .before .before .args .s) (c .before .before .before .before .before .before .before .before .before .before .before .before .args .at) (c .before .before .before .before .before .before .before .before .get .result) (words (c .before .before .before .before .before .before .before .before .before .before .before .before .args .lm .now)) (c .before .before .before .before .before .before .grow-gcd .kept .0) (omega (arith, c .before .before .before .before .before .before .before .before .before .before .before .before .pre .1 .0, c .before .before .before .before .before .before .before .before .before .before .before .before .pre .1 .1 .1 .1 .1 .0)) (c .before .before .before .before .before .before .before .before .get .ensures) (c .before .before .before .before .before .before .grow-gcd .ensures) (c .before .before .put .ensures)
+
+pub grow-spec : {M : Type 1} → statement M
+grow-spec =
+    tie.close
+    (tie.spec
+    add-get
+    get-requires
+    grow-gcd-requires
+    add-put
+    add-put-2
+    put-requires
+    same-length
+    returns)

@@ -1,0 +1,38 @@
+use Rattle.words.specs.Words.{words}
+use Rattle.kd_insert.proofs.Writing.{first-gcd, other-gcd}
+use borrow.Author.Needs.{needs}
+use Rattle.kd_insert.proofs.descent.grow_gcd.Statement.{statement}
+use Rattle.kd_insert.proofs.descent.grow_gcd.Tie as tie
+use Rattle.kd_insert.proofs.descent.grow_gcd.Reads as reads
+use Rattle.kd_insert.proofs.descent.grow_gcd.Lts as lts
+use Rattle.kd_insert.proofs.descent.meet.Reads as meet-reads
+use Rattle.kd_insert.proofs.slots.write_gcd.Reads as write-gcd-reads
+
+-- src/descent.rt:71:9
+write-gcd-requires : tie.Need-write-gcd-requires
+write-gcd-requires c κs = (c .before .before .before .before .pre .0, (c .before .before .before .before .pre .1 .0, (c .before .before .before .before .pre .1 .1 .0, (c .before .before .before .before .pre .1 .1 .1 .0, (c .before .before .before .before .pre .1 .1 .1 .1 .0, c .before .before .before .before .pre .1 .1 .1 .1 .1 .0)))))
+
+-- src/descent.rt:72:9
+same-length : tie.Need-same-length
+same-length c = search needs
+
+-- src/descent.rt:72:9
+returns : tie.Need-returns
+returns c = rw (← first-gcd (words (c .before .before .before .before .before .before .before .args .image .now)) (c .before .before .before .before .before .before .before .args .s .variables) (c .before .before .before .before .before .before .before .args .at) (c .before .before .before .before .before .before .before .args .c) (words (c .before .before .before .before .before .before .before .args .lm .now)) (c .before .before .before .before .if1 .taken)) (c .before .before .write-gcd .ensures)
+
+-- src/descent.rt:74:5
+meet-requires : tie.Need-meet-requires
+meet-requires c κs = (c .before .before .before .before .pre .0, (c .before .before .before .before .pre .1 .0, (c .before .before .before .before .pre .1 .1 .0, (c .before .before .before .before .pre .1 .1 .1 .0, (c .before .before .before .before .pre .1 .1 .1 .1 .1 .0, (c .before .before .before .before .pre .1 .1 .1 .1 .1 .1 .0, c .before .before .before .before .pre .1 .1 .1 .1 .1 .1 .1))))))
+
+-- src/descent.rt:59:1
+same-length-2 : tie.Need-same-length-2
+same-length-2 c = search needs
+
+-- src/descent.rt:59:1
+returns-2 : tie.Need-returns-2
+returns-2 c = rw (← other-gcd (words (c .before .before .before .before .before .before .before .args .image .now)) (c .before .before .before .before .before .before .before .args .s .variables) (c .before .before .before .before .before .before .before .args .at) (c .before .before .before .before .before .before .before .args .c) (words (c .before .before .before .before .before .before .before .args .lm .now)) (c .before .before .before .before .if1 .left)) (c .before .before .meet .ensures)
+
+pub grow-gcd-spec : {M : Type 1} → statement M
+grow-gcd-spec =
+    tie.close
+    (tie.spec write-gcd-requires same-length returns meet-requires same-length-2 returns-2)

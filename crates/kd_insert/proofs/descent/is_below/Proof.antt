@@ -1,0 +1,45 @@
+use Rattle.monomial.proofs.Firsts.{starts-wide, starts-whole, first-whole}
+use native.Mathlib.Omega.{arith}
+use Rattle.words.specs.Words.{words}
+use Rattle.monomial.proofs.Laws.{canonical-more}
+use Rattle.kd_insert.proofs.Ways.{below-ratio, below-power}
+use borrow.Author.Needs.{needs}
+use Rattle.kd_insert.proofs.descent.is_below.Statement.{statement}
+use Rattle.kd_insert.proofs.descent.is_below.Tie as tie
+use Rattle.kd_insert.proofs.descent.is_below.Reads as reads
+use Rattle.kd_insert.proofs.descent.is_below.Lts as lts
+use Rattle.index_image.proofs.walk.label_in.Reads as label-in-reads
+use Rattle.monomial.proofs.power_of.Reads as power-of-reads
+
+-- src/descent.rt:98:24
+label-in-requires : tie.Need-label-in-requires
+label-in-requires c κs = (c .before .before .before .before .pre .0, (c .before .before .before .before .pre .1 .0, ((omega (arith, c .if1 .taken, c .before .before .before .before .pre .1 .1 .1 .0 .0, c .before .before .before .before .pre .0 .kind-to), ((c .before .before .before .before .pre .1 .1 .1 .1) (c .if1 .taken)) .0), ((c .before .before .before .before .pre .1 .1 .1 .1) (c .if1 .taken)) .1)))
+
+-- src/descent.rt:98:9
+returns : tie.Need-returns
+returns c = below-ratio (words (c .before .before .before .before .before .args .image .now)) (c .before .before .before .before .before .args .s) (words (c .before .before .before .before .before .args .lm .now)) (c .before .before .before .before .before .args .label) (c .before .before .before .before .before .args .tag) (c .before .before .before .before .before .args .key) (c .label-in .result) (c .before .if1 .taken) (c .label-in .ensures)
+
+-- src/descent.rt:100:13
+sub-v : tie.Need-sub-v
+sub-v c = search needs
+
+-- src/descent.rt:100:13
+sub-v-2 : tie.Need-sub-v-2
+sub-v-2 c = search needs
+
+-- src/descent.rt:101:31
+cast-power-of : tie.Need-cast-power-of
+cast-power-of c = search needs
+
+-- src/descent.rt:101:5
+power-of-requires : tie.Need-power-of-requires
+power-of-requires c κs = ((omega arith, (omega arith, omega (arith, c .before .before .before .before .before .pre .1 .1 .1 .0 .1, c .before .before .before .before .before .pre .0 .vars-to, c .before .before .before .before .before .pre .0 .kind-to))), starts-wide (starts-whole (c .before .before .before .before .before .pre .1 .1 .0)))
+
+-- src/descent.rt:89:1
+returns-2 : tie.Need-returns-2
+returns-2 c = below-power (words (c .before .before .before .before .before .before .args .image .now)) (c .before .before .before .before .before .before .args .s) (words (c .before .before .before .before .before .before .args .lm .now)) (c .before .before .before .before .before .before .args .label) (c .before .before .before .before .before .before .args .tag) (c .before .before .before .before .before .before .args .key) (c .power-of .result) (c .before .before .if1 .left) (rw (first-whole (c .before .before .before .before .before .before .pre .1 .1 .0)) at (c .power-of .ensures))
+
+pub is-below-spec : {M : Type 1} → statement M
+is-below-spec =
+    tie.close
+    (tie.spec label-in-requires returns sub-v sub-v-2 cast-power-of power-of-requires returns-2)

@@ -1,0 +1,76 @@
+use Rattle.monomial.proofs.Firsts.{starts-wide, starts-whole, first-whole}
+use Rattle.index_image.specs.Shape as shape
+use native.Mathlib.Omega.{arith}
+use Prim.Native.Nat.{_+_}
+use Rattle.words.specs.Words.{words}
+use Rattle.monomial.specs.declared.ordered_ops.Op.{Op}
+use Rattle.monomial.proofs.Laws.{canonical-more}
+use Rattle.index_image.specs.Rows.{monomialIn}
+use Rattle.index_image.proofs.Gcds.{in-canonical}
+use Rattle.index_image.proofs.Reading.{gcd-fits}
+use Rattle.index_image.proofs.Slots.{MadeAside, made-aside}
+use Rattle.kd_insert.proofs.Writing.{gcd-good}
+use mathlib.Core.Path.{refl, sym}
+use borrow.Author.Needs.{needs}
+use Rattle.kd_insert.proofs.descent.make_gcd.Statement.{statement}
+use Rattle.kd_insert.proofs.descent.make_gcd.Tie as tie
+use Rattle.kd_insert.proofs.descent.make_gcd.Reads as reads
+use Rattle.kd_insert.proofs.descent.make_gcd.Lts as lts
+use Rattle.index_image.proofs.walk.monomial_in.Reads as monomial-in-reads
+use Rattle.kd_insert.proofs.slots.write_gcd.Reads as write-gcd-reads
+use Rattle.monomial.proofs.gcd.Reads as gcd-reads
+
+-- src/descent.rt:35:63
+add-monomial-in : tie.Need-add-monomial-in
+add-monomial-in c = search needs
+
+-- src/descent.rt:35:27
+monomial-in-requires : tie.Need-monomial-in-requires
+monomial-in-requires c κs = search needs
+
+-- src/descent.rt:35:76
+slice-aggregate-gcd : tie.Need-slice-aggregate-gcd
+slice-aggregate-gcd c = search needs
+
+-- src/descent.rt:35:9
+gcd-requires : tie.Need-gcd-requires
+gcd-requires c κs = rw (c .before .monomial-in .ensures .is) (starts-wide (starts-whole (in-canonical (words (c .before .before .before .before .before .args .image .now)) (c .before .before .before .before .before .args .s .variables) (shape.gcdAt (c .before .before .before .before .before .args .at)) (c .before .before .before .before .before .pre .1 .1 .1 .1 .1))), (starts-wide (starts-whole (c .before .before .before .before .before .pre .1 .1 .1 .0)), rw (first-whole (in-canonical (words (c .before .before .before .before .before .args .image .now)) (c .before .before .before .before .before .args .s .variables) (shape.gcdAt (c .before .before .before .before .before .args .at)) (c .before .before .before .before .before .pre .1 .1 .1 .1 .1)), first-whole (c .before .before .before .before .before .pre .1 .1 .1 .0)) (omega (arith, gcd-fits (monomialIn (words (c .before .before .before .before .before .args .image .now)) (c .before .before .before .before .before .args .s .variables) (shape.gcdAt (c .before .before .before .before .before .args .at))) (words (c .before .before .before .before .before .args .lm .now)) (canonical-more (omega arith) (c .before .before .before .before .before .pre .0 .vars-to) (in-canonical (words (c .before .before .before .before .before .args .image .now)) (c .before .before .before .before .before .args .s .variables) (shape.gcdAt (c .before .before .before .before .before .args .at)) (c .before .before .before .before .before .pre .1 .1 .1 .1 .1))) (canonical-more (omega arith) (c .before .before .before .before .before .pre .0 .vars-to) (c .before .before .before .before .before .pre .1 .1 .1 .0))))))
+
+-- src/descent.rt:36:13
+mul-e : tie.Need-mul-e
+mul-e c = omega (arith, gcd-fits (monomialIn (words (c .before .before .before .before .before .before .before .args .image .now)) (c .before .before .before .before .before .before .before .args .s .variables) (shape.gcdAt (c .before .before .before .before .before .before .before .args .at))) (words (c .before .before .before .before .before .before .before .args .lm .now)) (canonical-more (omega arith) (c .before .before .before .before .before .before .before .pre .0 .vars-to) (in-canonical (words (c .before .before .before .before .before .before .before .args .image .now)) (c .before .before .before .before .before .before .before .args .s .variables) (shape.gcdAt (c .before .before .before .before .before .before .before .args .at)) (c .before .before .before .before .before .before .before .pre .1 .1 .1 .1 .1))) (canonical-more (omega arith) (c .before .before .before .before .before .before .before .pre .0 .vars-to) (c .before .before .before .before .before .before .before .pre .1 .1 .1 .0)), rw (c .before .before .before .monomial-in .ensures .is, first-whole (in-canonical (words (c .before .before .before .before .before .before .before .args .image .now)) (c .before .before .before .before .before .before .before .args .s .variables) (shape.gcdAt (c .before .before .before .before .before .before .before .args .at)) (c .before .before .before .before .before .before .before .pre .1 .1 .1 .1 .1)), first-whole (c .before .before .before .before .before .before .before .pre .1 .1 .1 .0)) at (c .before .gcd .ensures .0))
+
+-- src/descent.rt:37:43
+array-share-prefix-made : tie.Need-array-share-prefix-made
+array-share-prefix-made c = (made-aside Op.Gcd (monomialIn (words (c .before .before .before .before .before .before .before .before .args .image .now)) (c .before .before .before .before .before .before .before .before .args .s .variables) (shape.gcdAt (c .before .before .before .before .before .before .before .before .args .at))) (words (c .before .before .before .before .before .before .before .before .args .lm .now)) _ (c .before .before .gcd .last .1 .1 .0) (c .before .before .gcd .result) (canonical-more (omega arith) (c .before .before .before .before .before .before .before .before .pre .0 .vars-to) (in-canonical (words (c .before .before .before .before .before .before .before .before .args .image .now)) (c .before .before .before .before .before .before .before .before .args .s .variables) (shape.gcdAt (c .before .before .before .before .before .before .before .before .args .at)) (c .before .before .before .before .before .before .before .before .pre .1 .1 .1 .1 .1))) (canonical-more (omega arith) (c .before .before .before .before .before .before .before .before .pre .0 .vars-to) (c .before .before .before .before .before .before .before .before .pre .1 .1 .1 .0)) refl (rw (c .before .before .before .before .monomial-in .ensures .is, first-whole (in-canonical (words (c .before .before .before .before .before .before .before .before .args .image .now)) (c .before .before .before .before .before .before .before .before .args .s .variables) (shape.gcdAt (c .before .before .before .before .before .before .before .before .args .at)) (c .before .before .before .before .before .before .before .before .pre .1 .1 .1 .1 .1)), first-whole (c .before .before .before .before .before .before .before .before .pre .1 .1 .1 .0)) at (c .before .before .gcd .ensures .0)) (rw (c .before .before .before .before .monomial-in .ensures .is, first-whole (in-canonical (words (c .before .before .before .before .before .before .before .before .args .image .now)) (c .before .before .before .before .before .before .before .before .args .s .variables) (shape.gcdAt (c .before .before .before .before .before .before .before .before .args .at)) (c .before .before .before .before .before .before .before .before .pre .1 .1 .1 .1 .1)), first-whole (c .before .before .before .before .before .before .before .before .pre .1 .1 .1 .0)) at (c .before .before .gcd .ensures .1))) .room
+
+-- src/descent.rt:37:43
+slice-aggregate-write-gcd : tie.Need-slice-aggregate-write-gcd
+slice-aggregate-write-gcd c = sym ((made-aside Op.Gcd (monomialIn (words (c .before .before .before .before .before .before .before .before .before .args .image .now)) (c .before .before .before .before .before .before .before .before .before .args .s .variables) (shape.gcdAt (c .before .before .before .before .before .before .before .before .before .args .at))) (words (c .before .before .before .before .before .before .before .before .before .args .lm .now)) _ (c .before .before .before .gcd .last .1 .1 .0) (c .before .before .before .gcd .result) (canonical-more (omega arith) (c .before .before .before .before .before .before .before .before .before .pre .0 .vars-to) (in-canonical (words (c .before .before .before .before .before .before .before .before .before .args .image .now)) (c .before .before .before .before .before .before .before .before .before .args .s .variables) (shape.gcdAt (c .before .before .before .before .before .before .before .before .before .args .at)) (c .before .before .before .before .before .before .before .before .before .pre .1 .1 .1 .1 .1))) (canonical-more (omega arith) (c .before .before .before .before .before .before .before .before .before .pre .0 .vars-to) (c .before .before .before .before .before .before .before .before .before .pre .1 .1 .1 .0)) refl (rw (c .before .before .before .before .before .monomial-in .ensures .is, first-whole (in-canonical (words (c .before .before .before .before .before .before .before .before .before .args .image .now)) (c .before .before .before .before .before .before .before .before .before .args .s .variables) (shape.gcdAt (c .before .before .before .before .before .before .before .before .before .args .at)) (c .before .before .before .before .before .before .before .before .before .pre .1 .1 .1 .1 .1)), first-whole (c .before .before .before .before .before .before .before .before .before .pre .1 .1 .1 .0)) at (c .before .before .before .gcd .ensures .0)) (rw (c .before .before .before .before .before .monomial-in .ensures .is, first-whole (in-canonical (words (c .before .before .before .before .before .before .before .before .before .args .image .now)) (c .before .before .before .before .before .before .before .before .before .args .s .variables) (shape.gcdAt (c .before .before .before .before .before .before .before .before .before .args .at)) (c .before .before .before .before .before .before .before .before .before .pre .1 .1 .1 .1 .1)), first-whole (c .before .before .before .before .before .before .before .before .before .pre .1 .1 .1 .0)) at (c .before .before .before .gcd .ensures .1))) .size)
+
+-- src/descent.rt:37:5
+write-gcd-requires : tie.Need-write-gcd-requires
+write-gcd-requires c κs = let d = (made-aside Op.Gcd (monomialIn (words (c .before .before .before .before .before .before .before .before .before .args .image .now)) (c .before .before .before .before .before .before .before .before .before .args .s .variables) (shape.gcdAt (c .before .before .before .before .before .before .before .before .before .args .at))) (words (c .before .before .before .before .before .before .before .before .before .args .lm .now)) _ (c .before .before .before .gcd .last .1 .1 .0) (c .before .before .before .gcd .result) (canonical-more (omega arith) (c .before .before .before .before .before .before .before .before .before .pre .0 .vars-to) (in-canonical (words (c .before .before .before .before .before .before .before .before .before .args .image .now)) (c .before .before .before .before .before .before .before .before .before .args .s .variables) (shape.gcdAt (c .before .before .before .before .before .before .before .before .before .args .at)) (c .before .before .before .before .before .before .before .before .before .pre .1 .1 .1 .1 .1))) (canonical-more (omega arith) (c .before .before .before .before .before .before .before .before .before .pre .0 .vars-to) (c .before .before .before .before .before .before .before .before .before .pre .1 .1 .1 .0)) refl (rw (c .before .before .before .before .before .monomial-in .ensures .is, first-whole (in-canonical (words (c .before .before .before .before .before .before .before .before .before .args .image .now)) (c .before .before .before .before .before .before .before .before .before .args .s .variables) (shape.gcdAt (c .before .before .before .before .before .before .before .before .before .args .at)) (c .before .before .before .before .before .before .before .before .before .pre .1 .1 .1 .1 .1)), first-whole (c .before .before .before .before .before .before .before .before .before .pre .1 .1 .1 .0)) at (c .before .before .before .gcd .ensures .0)) (rw (c .before .before .before .before .before .monomial-in .ensures .is, first-whole (in-canonical (words (c .before .before .before .before .before .before .before .before .before .args .image .now)) (c .before .before .before .before .before .before .before .before .before .args .s .variables) (shape.gcdAt (c .before .before .before .before .before .before .before .before .before .args .at)) (c .before .before .before .before .before .before .before .before .before .pre .1 .1 .1 .1 .1)), first-whole (c .before .before .before .before .before .before .before .before .before .pre .1 .1 .1 .0)) at (c .before .before .before .gcd .ensures .1))) in (c .before .before .before .before .before .before .before .before .before .pre .0, (c .before .before .before .before .before .before .before .before .before .pre .1 .0, (c .before .before .before .before .before .before .before .before .before .pre .1 .1 .0, (rw (d .are) (gcd-good (c .before .before .before .before .before .before .before .before .before .args .s .variables) (monomialIn (words (c .before .before .before .before .before .before .before .before .before .args .image .now)) (c .before .before .before .before .before .before .before .before .before .args .s .variables) (shape.gcdAt (c .before .before .before .before .before .before .before .before .before .args .at))) (words (c .before .before .before .before .before .before .before .before .before .args .lm .now)) (c .before .before .before .before .before .before .before .before .before .pre .0 .vars-to) (in-canonical (words (c .before .before .before .before .before .before .before .before .before .args .image .now)) (c .before .before .before .before .before .before .before .before .before .args .s .variables) (shape.gcdAt (c .before .before .before .before .before .before .before .before .before .args .at)) (c .before .before .before .before .before .before .before .before .before .pre .1 .1 .1 .1 .1)) (c .before .before .before .before .before .before .before .before .before .pre .1 .1 .1 .0)), (rw (d .size) (omega arith), c .before .before .before .before .before .before .before .before .before .pre .1 .1 .1 .1 .0)))))
+
+-- src/descent.rt:25:1
+same-length : tie.Need-same-length
+same-length c = search needs
+
+-- src/descent.rt:25:1
+returns : tie.Need-returns
+returns c = rw ((made-aside Op.Gcd (monomialIn (words (c .before .before .before .before .before .before .before .before .before .before .before .before .args .image .now)) (c .before .before .before .before .before .before .before .before .before .before .before .before .args .s .variables) (shape.gcdAt (c .before .before .before .before .before .before .before .before .before .before .before .before .args .at))) (words (c .before .before .before .before .before .before .before .before .before .before .before .before .args .lm .now)) _ (c .before .before .before .before .before .before .gcd .last .1 .1 .0) (c .before .before .before .before .before .before .gcd .result) (canonical-more (omega arith) (c .before .before .before .before .before .before .before .before .before .before .before .before .pre .0 .vars-to) (in-canonical (words (c .before .before .before .before .before .before .before .before .before .before .before .before .args .image .now)) (c .before .before .before .before .before .before .before .before .before .before .before .before .args .s .variables) (shape.gcdAt (c .before .before .before .before .before .before .before .before .before .before .before .before .args .at)) (c .before .before .before .before .before .before .before .before .before .before .before .before .pre .1 .1 .1 .1 .1))) (canonical-more (omega arith) (c .before .before .before .before .before .before .before .before .before .before .before .before .pre .0 .vars-to) (c .before .before .before .before .before .before .before .before .before .before .before .before .pre .1 .1 .1 .0)) refl (rw (c .before .before .before .before .before .before .before .before .monomial-in .ensures .is, first-whole (in-canonical (words (c .before .before .before .before .before .before .before .before .before .before .before .before .args .image .now)) (c .before .before .before .before .before .before .before .before .before .before .before .before .args .s .variables) (shape.gcdAt (c .before .before .before .before .before .before .before .before .before .before .before .before .args .at)) (c .before .before .before .before .before .before .before .before .before .before .before .before .pre .1 .1 .1 .1 .1)), first-whole (c .before .before .before .before .before .before .before .before .before .before .before .before .pre .1 .1 .1 .0)) at (c .before .before .before .before .before .before .gcd .ensures .0)) (rw (c .before .before .before .before .before .before .before .before .monomial-in .ensures .is, first-whole (in-canonical (words (c .before .before .before .before .before .before .before .before .before .before .before .before .args .image .now)) (c .before .before .before .before .before .before .before .before .before .before .before .before .args .s .variables) (shape.gcdAt (c .before .before .before .before .before .before .before .before .before .before .before .before .args .at)) (c .before .before .before .before .before .before .before .before .before .before .before .before .pre .1 .1 .1 .1 .1)), first-whole (c .before .before .before .before .before .before .before .before .before .before .before .before .pre .1 .1 .1 .0)) at (c .before .before .before .before .before .before .gcd .ensures .1))) .are) at (c .before .before .write-gcd .ensures)
+
+pub make-gcd-spec : {M : Type 1} → statement M
+make-gcd-spec =
+    tie.close
+    (tie.spec
+    add-monomial-in
+    monomial-in-requires
+    slice-aggregate-gcd
+    gcd-requires
+    mul-e
+    array-share-prefix-made
+    slice-aggregate-write-gcd
+    write-gcd-requires
+    same-length
+    returns)

@@ -1,0 +1,76 @@
+use native.Mathlib.Omega.{arith}
+use Rattle.words.specs.Words.{words}
+use Rattle.index_image.proofs.Bounds.{size-small}
+use Rattle.kd_insert.specs.Growing as growing
+use Rattle.kd_theory.proofs.PlaceLaws.{place-inside}
+use Rattle.kd_insert.proofs.Inserts.{hung-is}
+use mathlib.Core.Path.{_∙_}
+use borrow.Author.Needs.{needs}
+use Rattle.kd_insert.proofs.insertion.hang.Statement.{statement}
+use Rattle.kd_insert.proofs.insertion.hang.Tie as tie
+use Rattle.kd_insert.proofs.insertion.hang.Reads as reads
+use Rattle.kd_insert.proofs.insertion.hang.Lts as lts
+use Rattle.index_image.proofs.Shape.permutation_at.Reads as permutation-at-reads
+use Rattle.kd_insert.proofs.descent.descend.Reads as descend-reads
+use Rattle.words.proofs.put.Reads as put-reads
+use Rattle.words.proofs.runs.insert.Reads as insert-reads
+
+-- src/insertion.rt:42:9
+permutation-at-requires : tie.Need-permutation-at-requires
+permutation-at-requires c κs = search needs
+
+-- src/insertion.rt:43:9
+descend-requires : tie.Need-descend-requires
+descend-requires c κs = (c .before .before .before .before .pre .0, (c .before .before .before .before .pre .1 .0, (c .before .before .before .before .pre .1 .1 .0, (c .before .before .before .before .pre .1 .1 .1 .0, (c .before .before .before .before .pre .1 .1 .1 .1 .0, (c .before .before .before .before .pre .1 .1 .1 .1 .1 .1) .growth)))))
+
+-- src/insertion.rt:44:32
+add-insert : tie.Need-add-insert
+add-insert c = omega (arith, c .before .before .before .before .before .permutation-at .ensures, (c .before .before .before .descend .ensures) ((c .before .before .before .before .before .before .before .before .pre .1 .1 .1 .1 .1 .1) .growth) .0, place-inside (growing.keys ((c .before .before .before .before .before .before .before .before .pre .1 .1 .1 .1 .1 .1) .growth)) ((c .before .before .before .before .before .before .before .before .pre .1 .1 .1 .1 .1 .1) .growth .entry) ((c .before .before .before .before .before .before .before .before .pre .1 .1 .1 .1 .1 .1) .growth .tree), (c .before .before .before .before .before .before .before .before .pre .1 .1 .1 .1 .1 .1) .all, size-small (c .before .before .before .before .before .before .before .before .args .s) (c .before .before .before .before .before .before .before .before .pre .0), c .before .before .before .before .before .before .before .before .pre .1 .1 .1 .1 .1 .0)
+
+-- src/insertion.rt:44:40
+add-insert-2 : tie.Need-add-insert-2
+add-insert-2 c = search needs
+
+-- src/insertion.rt:44:48
+cast-insert : tie.Need-cast-insert
+cast-insert c = search needs
+
+-- src/insertion.rt:44:5
+insert-requires : tie.Need-insert-requires
+insert-requires c κs = (omega (arith, (c .before .before .before .descend .ensures) ((c .before .before .before .before .before .before .before .before .pre .1 .1 .1 .1 .1 .1) .growth) .0, place-inside (growing.keys ((c .before .before .before .before .before .before .before .before .pre .1 .1 .1 .1 .1 .1) .growth)) ((c .before .before .before .before .before .before .before .before .pre .1 .1 .1 .1 .1 .1) .growth .entry) ((c .before .before .before .before .before .before .before .before .pre .1 .1 .1 .1 .1 .1) .growth .tree), (c .before .before .before .before .before .before .before .before .pre .1 .1 .1 .1 .1 .1) .all), omega (arith, c .before .before .before .before .before .permutation-at .ensures, c .before .before .before .descend .kept .0, c .before .before .before .before .before .before .before .before .pre .1 .0, c .before .before .before .before .before .before .before .before .pre .1 .1 .1 .1 .1 .0))
+
+-- src/insertion.rt:45:26
+cast-put : tie.Need-cast-put
+cast-put c = search needs
+
+-- src/insertion.rt:45:26
+add-put : tie.Need-add-put
+add-put c = search needs
+
+-- src/insertion.rt:45:5
+put-requires : tie.Need-put-requires
+put-requires c κs = search needs
+
+-- src/insertion.rt:31:1
+same-length : tie.Need-same-length
+same-length c = search needs
+
+-- src/insertion.rt:31:1
+returns : tie.Need-returns
+returns c = λ h. hung-is (c .before .before .before .before .before .before .before .before .before .before .before .before .before .before .before .args .image .now) (c .before .before .before .before .before .before .before .before .before .before .descend .last .0) (c .before .before .before .before .before .before .insert .last .0) _ (c .before .before .before .before .before .before .before .before .before .before .before .before .before .before .before .args .s) (words (c .before .before .before .before .before .before .before .before .before .before .before .before .before .before .before .args .lm .now)) (c .before .before .before .before .before .before .before .before .before .before .before .before .before .before .before .args .label) (c .before .before .before .before .before .before .before .before .before .before .before .before .permutation-at .result) (c .before .before .before .before .before .before .before .before .before .before .descend .result) (h .growth) (c .before .before .before .before .before .before .before .before .before .before .before .before .before .before .before .pre .0) (c .before .before .before .before .before .before .before .before .before .before .before .before .before .before .before .pre .1 .0) (h .all) (c .before .before .before .before .before .before .before .before .before .before .before .before .before .before .before .pre .1 .1 .1 .1 .1 .0) (c .before .before .before .before .before .before .before .before .before .before .before .before .permutation-at .ensures) ((c .before .before .before .before .before .before .before .before .before .before .descend .ensures) (h .growth) .0) ((c .before .before .before .before .before .before .before .before .before .before .descend .ensures) (h .growth) .1) (c .before .before .before .before .before .before .insert .ensures) (c .before .before .put .ensures) (c .before .before .before .before .before .before .insert .kept .0 ∙ c .before .before .before .before .before .before .before .before .before .before .descend .kept .0)
+
+pub hang-spec : {M : Type 1} → statement M
+hang-spec =
+    tie.close
+    (tie.spec
+    permutation-at-requires
+    descend-requires
+    add-insert
+    add-insert-2
+    cast-insert
+    insert-requires
+    cast-put
+    add-put
+    put-requires
+    same-length
+    returns)

@@ -1,0 +1,69 @@
+use Rattle.monomial.proofs.Firsts.{starts-whole, first-whole}
+use Rattle.index_image.specs.Shape as shape
+use native.Mathlib.Omega.{arith}
+use Rattle.words.specs.Words.{words}
+use Rattle.index_image.proofs.Reading.{part-words}
+use Rattle.kd_insert.proofs.Writing.{tracked-back}
+use lib.ListN.{length-take, length-drop}
+use Prim.Native.Nat.{_+_, _-_, _*_}
+use borrow.Author.Needs.{needs}
+use Rattle.kd_insert.proofs.insertion.track.Statement.{statement}
+use Rattle.kd_insert.proofs.insertion.track.Tie as tie
+use Rattle.kd_insert.proofs.insertion.track.Reads as reads
+use Rattle.kd_insert.proofs.insertion.track.Lts as lts
+use Rattle.divmask.proofs.tracker.update.Reads as update-reads
+
+-- src/insertion.rt:25:13
+mul-a : tie.Need-mul-a
+mul-a c = search needs
+
+-- src/insertion.rt:26:17
+mul-b : tie.Need-mul-b
+mul-b c = search needs
+
+-- src/insertion.rt:26:13
+add-b : tie.Need-add-b
+add-b c = search needs
+
+-- src/insertion.rt:27:30
+sub-update : tie.Need-sub-update
+sub-update c = search needs
+
+-- src/insertion.rt:27:30
+part-update-start : tie.Need-part-update-start
+part-update-start c = search needs
+
+-- src/insertion.rt:27:30
+part-update-end : tie.Need-part-update-end
+part-update-end c = search needs
+
+-- src/insertion.rt:27:48
+cast-update : tie.Need-cast-update
+cast-update c = search needs
+
+-- src/insertion.rt:27:5
+update-requires : tie.Need-update-requires
+update-requires c κs = (simp (length-take, length-drop) (omega (arith, c .before .before .before .pre .1 .0)), (rw (part-words (c .before .before .before .args .image .now) shape.maximaAt (c .before .before .before .args .s .variables) (4 * shape.maximaAt + 4 * (c .before .before .before .args .s .variables) - 4 * shape.maximaAt) (omega arith)) (c .before .before .before .pre .1 .1 .0), starts-whole (c .before .before .before .pre .1 .1 .1)))
+
+-- src/insertion.rt:17:1
+same-length : tie.Need-same-length
+same-length c = search needs
+
+-- src/insertion.rt:17:1
+returns : tie.Need-returns
+returns c = tracked-back (c .before .before .before .before .before .before .args .image .now) (c .before .before .before .before .before .before .args .s .variables) (4 * shape.maximaAt + 4 * (c .before .before .before .before .before .before .args .s .variables) - 4 * shape.maximaAt) (c .before .before .update .last .0) (words (c .before .before .before .before .before .before .args .monomial .now)) (omega arith) (omega (arith, c .before .before .before .before .before .before .pre .1 .0)) (rw (first-whole (c .before .before .before .before .before .before .pre .1 .1 .1)) at (c .before .before .update .ensures))
+
+pub track-spec : {M : Type 1} → statement M
+track-spec =
+    tie.close
+    (tie.spec
+    mul-a
+    mul-b
+    add-b
+    sub-update
+    part-update-start
+    part-update-end
+    cast-update
+    update-requires
+    same-length
+    returns)

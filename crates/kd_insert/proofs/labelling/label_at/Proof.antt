@@ -1,0 +1,68 @@
+use native.Mathlib.Omega.{arith}
+use Rattle.index_image.proofs.Bounds.{spots}
+use mathlib.Core.Path.{_≡_, ap, _∙_}
+use Rattle.words.specs.Words.{words}
+use Prim.Native.Nat.{ℕ, _+_, _*_}
+use lib.ListN.{getD}
+use borrow.Author.Needs.{needs}
+use Rattle.kd_insert.proofs.labelling.label_at.Statement.{statement}
+use Rattle.kd_insert.proofs.labelling.label_at.Tie as tie
+use Rattle.kd_insert.proofs.labelling.label_at.Reads as reads
+use Rattle.kd_insert.proofs.labelling.label_at.Lts as lts
+use Rattle.index_image.proofs.Shape.labels_at.Reads as labels-at-reads
+use Rattle.words.proofs.get.Reads as get-reads
+
+-- src/labelling.rt:97:23
+labels-at-requires : tie.Need-labels-at-requires
+labels-at-requires c κs = search needs
+
+-- src/labelling.rt:97:51
+add-get : tie.Need-add-get
+add-get c = search needs
+
+-- src/labelling.rt:97:44
+mul-get : tie.Need-mul-get
+mul-get c = let z = spots (c .before .before .args .s) (c .before .before .pre .0) (c .before .before .pre .1 .1 .0) 0 (c .before .before .args .row) (omega (arith, c .before .before .pre .0 .cap-from)) (c .before .before .pre .1 .1 .1) in omega arith
+
+-- src/labelling.rt:97:40
+add-get-2 : tie.Need-add-get-2
+add-get-2 c = let z = spots (c .before .before .args .s) (c .before .before .pre .0) (c .before .before .pre .1 .1 .0) 0 (c .before .before .args .row) (omega (arith, c .before .before .pre .0 .cap-from)) (c .before .before .pre .1 .1 .1) in omega arith
+
+-- src/labelling.rt:97:61
+add-get-3 : tie.Need-add-get-3
+add-get-3 c = search needs
+
+-- src/labelling.rt:97:40
+add-get-4 : tie.Need-add-get-4
+add-get-4 c = let z = spots (c .before .before .args .s) (c .before .before .pre .0) (c .before .before .pre .1 .1 .0) 0 (c .before .before .args .row) (omega (arith, c .before .before .pre .0 .cap-from)) (c .before .before .pre .1 .1 .1) in omega (arith, c .before .before .pre .0 .vars-to)
+
+-- src/labelling.rt:97:23
+add-get-5 : tie.Need-add-get-5
+add-get-5 c = let z = spots (c .before .before .args .s) (c .before .before .pre .0) (c .before .before .pre .1 .1 .0) 0 (c .before .before .args .row) (omega (arith, c .before .before .pre .0 .cap-from)) (c .before .before .pre .1 .1 .1) in omega (arith, c .before .before .pre .0 .vars-to, c .labels-at .ensures)
+
+-- src/labelling.rt:97:5
+get-requires : tie.Need-get-requires
+get-requires c κs = let z = spots (c .before .before .args .s) (c .before .before .pre .0) (c .before .before .pre .1 .1 .0) 0 (c .before .before .args .row) (omega (arith, c .before .before .pre .0 .cap-from)) (c .before .before .pre .1 .1 .1) in omega (arith, c .labels-at .ensures, c .before .before .pre .1 .0)
+
+-- src/labelling.rt:97:5
+cast-result : tie.Need-cast-result
+cast-result c = search needs
+
+-- src/labelling.rt:90:1
+returns : tie.Need-returns
+returns c = c .get .ensures ∙ ap (λ (j : ℕ). getD (words (c .before .before .before .args .image .now)) (j + (4 + (c .before .before .before .args .row) * ((c .before .before .before .args .s .variables) + 3) + ((c .before .before .before .args .s .variables) + 2))) 0) (c .before .labels-at .ensures)
+
+pub label-at-spec : {M : Type 1} → statement M
+label-at-spec =
+    tie.close
+    (tie.spec
+    labels-at-requires
+    add-get
+    mul-get
+    add-get-2
+    add-get-3
+    add-get-4
+    add-get-5
+    get-requires
+    cast-result
+    returns)

@@ -1,0 +1,60 @@
+use Rattle.monomial.proofs.Firsts.{starts-wide, starts-whole, first-whole}
+use native.Mathlib.Omega.{arith}
+use Rattle.words.specs.Words.{words}
+use Rattle.monomial.specs.declared.ordered_ops.Op.{Op}
+use Rattle.monomial.proofs.Laws.{canonical-more, length-result}
+use Rattle.index_image.proofs.Slots.{MadeAside, made-aside}
+use Rattle.kd_insert.proofs.Parts.{ratio-good, as-quotient}
+use mathlib.Core.Path.{refl, sym}
+use borrow.Author.Needs.{needs}
+use Rattle.kd_insert.proofs.labelling.label_entry.Statement.{statement}
+use Rattle.kd_insert.proofs.labelling.label_entry.Tie as tie
+use Rattle.kd_insert.proofs.labelling.label_entry.Reads as reads
+use Rattle.kd_insert.proofs.labelling.label_entry.Lts as lts
+use Rattle.kd_insert.proofs.labelling.label_ratio.Reads as label-ratio-reads
+use Rattle.monomial.proofs.fraction_division.Reads as fraction-division-reads
+
+-- src/labelling.rt:84:51
+slice-aggregate-fraction-division : tie.Need-slice-aggregate-fraction-division
+slice-aggregate-fraction-division c = search needs
+
+-- src/labelling.rt:84:9
+fraction-division-requires : tie.Need-fraction-division-requires
+fraction-division-requires c κs = (starts-wide (starts-whole (c .before .before .before .before .pre .1 .1 .1 .1 .1 .0)), (starts-wide (starts-whole (c .before .before .before .before .pre .1 .1 .1 .1 .1 .1)), rw (first-whole (c .before .before .before .before .pre .1 .1 .1 .1 .1 .0), first-whole (c .before .before .before .before .pre .1 .1 .1 .1 .1 .1)) (omega (arith, length-result 64 (words (c .before .before .before .before .args .sign .now)) (words (c .before .before .before .before .args .lm .now)) (canonical-more (omega arith) (c .before .before .before .before .pre .0 .vars-to) (c .before .before .before .before .pre .1 .1 .1 .1 .1 .0)) (canonical-more (omega arith) (c .before .before .before .before .pre .0 .vars-to) (c .before .before .before .before .pre .1 .1 .1 .1 .1 .1)) Op.Ratio (omega arith)))))
+
+-- src/labelling.rt:85:13
+mul-e : tie.Need-mul-e
+mul-e c = omega (arith, (rw (first-whole (c .before .before .before .before .before .before .pre .1 .1 .1 .1 .1 .0), first-whole (c .before .before .before .before .before .before .pre .1 .1 .1 .1 .1 .1)) at (c .before .fraction-division .ensures .0)), length-result 64 (words (c .before .before .before .before .before .before .args .sign .now)) (words (c .before .before .before .before .before .before .args .lm .now)) (canonical-more (omega arith) (c .before .before .before .before .before .before .pre .0 .vars-to) (c .before .before .before .before .before .before .pre .1 .1 .1 .1 .1 .0)) (canonical-more (omega arith) (c .before .before .before .before .before .before .pre .0 .vars-to) (c .before .before .before .before .before .before .pre .1 .1 .1 .1 .1 .1)) Op.Ratio (omega arith))
+
+-- src/labelling.rt:86:34
+array-share-prefix-made : tie.Need-array-share-prefix-made
+array-share-prefix-made c = (made-aside Op.Ratio (words (c .before .before .before .before .before .before .before .args .sign .now)) (words (c .before .before .before .before .before .before .before .args .lm .now)) _ (c .before .before .fraction-division .last .1 .1 .0) (c .before .before .fraction-division .result) (canonical-more (omega arith) (c .before .before .before .before .before .before .before .pre .0 .vars-to) (c .before .before .before .before .before .before .before .pre .1 .1 .1 .1 .1 .0)) (canonical-more (omega arith) (c .before .before .before .before .before .before .before .pre .0 .vars-to) (c .before .before .before .before .before .before .before .pre .1 .1 .1 .1 .1 .1)) refl (rw (first-whole (c .before .before .before .before .before .before .before .pre .1 .1 .1 .1 .1 .0), first-whole (c .before .before .before .before .before .before .before .pre .1 .1 .1 .1 .1 .1)) at (c .before .before .fraction-division .ensures .0)) (rw (first-whole (c .before .before .before .before .before .before .before .pre .1 .1 .1 .1 .1 .0), first-whole (c .before .before .before .before .before .before .before .pre .1 .1 .1 .1 .1 .1)) at (c .before .before .fraction-division .ensures .1))) .room
+
+-- src/labelling.rt:86:34
+slice-aggregate-label-ratio : tie.Need-slice-aggregate-label-ratio
+slice-aggregate-label-ratio c = sym ((made-aside Op.Ratio (words (c .before .before .before .before .before .before .before .before .args .sign .now)) (words (c .before .before .before .before .before .before .before .before .args .lm .now)) _ (c .before .before .before .fraction-division .last .1 .1 .0) (c .before .before .before .fraction-division .result) (canonical-more (omega arith) (c .before .before .before .before .before .before .before .before .pre .0 .vars-to) (c .before .before .before .before .before .before .before .before .pre .1 .1 .1 .1 .1 .0)) (canonical-more (omega arith) (c .before .before .before .before .before .before .before .before .pre .0 .vars-to) (c .before .before .before .before .before .before .before .before .pre .1 .1 .1 .1 .1 .1)) refl (rw (first-whole (c .before .before .before .before .before .before .before .before .pre .1 .1 .1 .1 .1 .0), first-whole (c .before .before .before .before .before .before .before .before .pre .1 .1 .1 .1 .1 .1)) at (c .before .before .before .fraction-division .ensures .0)) (rw (first-whole (c .before .before .before .before .before .before .before .before .pre .1 .1 .1 .1 .1 .0), first-whole (c .before .before .before .before .before .before .before .before .pre .1 .1 .1 .1 .1 .1)) at (c .before .before .before .fraction-division .ensures .1))) .size)
+
+-- src/labelling.rt:86:5
+label-ratio-requires : tie.Need-label-ratio-requires
+label-ratio-requires c κs = (c .before .before .before .before .before .before .before .before .pre .0, (c .before .before .before .before .before .before .before .before .pre .1 .0, (c .before .before .before .before .before .before .before .before .pre .1 .1 .0, (c .before .before .before .before .before .before .before .before .pre .1 .1 .1 .0, rw ((made-aside Op.Ratio (words (c .before .before .before .before .before .before .before .before .args .sign .now)) (words (c .before .before .before .before .before .before .before .before .args .lm .now)) _ (c .before .before .before .fraction-division .last .1 .1 .0) (c .before .before .before .fraction-division .result) (canonical-more (omega arith) (c .before .before .before .before .before .before .before .before .pre .0 .vars-to) (c .before .before .before .before .before .before .before .before .pre .1 .1 .1 .1 .1 .0)) (canonical-more (omega arith) (c .before .before .before .before .before .before .before .before .pre .0 .vars-to) (c .before .before .before .before .before .before .before .before .pre .1 .1 .1 .1 .1 .1)) refl (rw (first-whole (c .before .before .before .before .before .before .before .before .pre .1 .1 .1 .1 .1 .0), first-whole (c .before .before .before .before .before .before .before .before .pre .1 .1 .1 .1 .1 .1)) at (c .before .before .before .fraction-division .ensures .0)) (rw (first-whole (c .before .before .before .before .before .before .before .before .pre .1 .1 .1 .1 .1 .0), first-whole (c .before .before .before .before .before .before .before .before .pre .1 .1 .1 .1 .1 .1)) at (c .before .before .before .fraction-division .ensures .1))) .are) (ratio-good (c .before .before .before .before .before .before .before .before .args .s .variables) (c .before .before .before .before .before .before .before .before .args .index) (words (c .before .before .before .before .before .before .before .before .args .sign .now)) (words (c .before .before .before .before .before .before .before .before .args .lm .now)) (c .before .before .before .before .before .before .before .before .pre .0 .vars-to) (c .before .before .before .before .before .before .before .before .pre .1 .1 .1 .1 .0) (c .before .before .before .before .before .before .before .before .pre .1 .1 .1 .1 .1 .0) (c .before .before .before .before .before .before .before .before .pre .1 .1 .1 .1 .1 .1))))))
+
+-- src/labelling.rt:73:1
+same-length : tie.Need-same-length
+same-length c = search needs
+
+-- src/labelling.rt:73:1
+returns : tie.Need-returns
+returns c = λ l m. as-quotient (c .before .before .before .before .before .before .before .before .before .before .before .args .s) l (c .before .before .before .before .before .before .before .before .before .before .before .args .index) (c .before .before .label-ratio .result) (words (c .before .before .before .before .before .before .before .before .before .before .before .args .sign .now)) (words (c .before .before .before .before .before .before .before .before .before .before .before .args .lm .now)) _ (c .before .before .before .before .before .before .before .before .before .before .before .args .image .now) _ ((made-aside Op.Ratio (words (c .before .before .before .before .before .before .before .before .before .before .before .args .sign .now)) (words (c .before .before .before .before .before .before .before .before .before .before .before .args .lm .now)) _ (c .before .before .before .before .before .before .fraction-division .last .1 .1 .0) (c .before .before .before .before .before .before .fraction-division .result) (canonical-more (omega arith) (c .before .before .before .before .before .before .before .before .before .before .before .pre .0 .vars-to) (c .before .before .before .before .before .before .before .before .before .before .before .pre .1 .1 .1 .1 .1 .0)) (canonical-more (omega arith) (c .before .before .before .before .before .before .before .before .before .before .before .pre .0 .vars-to) (c .before .before .before .before .before .before .before .before .before .before .before .pre .1 .1 .1 .1 .1 .1)) refl (rw (first-whole (c .before .before .before .before .before .before .before .before .before .before .before .pre .1 .1 .1 .1 .1 .0), first-whole (c .before .before .before .before .before .before .before .before .before .before .before .pre .1 .1 .1 .1 .1 .1)) at (c .before .before .before .before .before .before .fraction-division .ensures .0)) (rw (first-whole (c .before .before .before .before .before .before .before .before .before .before .before .pre .1 .1 .1 .1 .1 .0), first-whole (c .before .before .before .before .before .before .before .before .before .before .before .pre .1 .1 .1 .1 .1 .1)) at (c .before .before .before .before .before .before .fraction-division .ensures .1))) .are) ((c .before .before .label-ratio .ensures) l m)
+
+pub label-entry-spec : {M : Type 1} → statement M
+label-entry-spec =
+    tie.close
+    (tie.spec
+    slice-aggregate-fraction-division
+    fraction-division-requires
+    mul-e
+    array-share-prefix-made
+    slice-aggregate-label-ratio
+    label-ratio-requires
+    same-length
+    returns)

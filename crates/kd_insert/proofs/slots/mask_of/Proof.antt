@@ -1,0 +1,66 @@
+use Rattle.index_image.specs.Shape as shape
+use Rattle.monomial.proofs.Firsts.{starts-whole, first-whole}
+use native.Mathlib.Omega.{arith}
+use Rattle.index_image.proofs.Reading.{part-words}
+use Prim.Native.Nat.{_+_, _-_, _*_}
+use borrow.Author.Needs.{needs}
+use Rattle.kd_insert.proofs.slots.mask_of.Statement.{statement}
+use Rattle.kd_insert.proofs.slots.mask_of.Tie as tie
+use Rattle.kd_insert.proofs.slots.mask_of.Reads as reads
+use Rattle.kd_insert.proofs.slots.mask_of.Lts as lts
+use Rattle.divmask.proofs.map.Reads as map-reads
+
+-- src/slots.rt:47:18
+add-x : tie.Need-add-x
+add-x c = search needs
+
+-- src/slots.rt:47:13
+mul-x : tie.Need-mul-x
+mul-x c = search needs
+
+-- src/slots.rt:48:17
+mul-y : tie.Need-mul-y
+mul-y c = search needs
+
+-- src/slots.rt:48:13
+add-y : tie.Need-add-y
+add-y c = search needs
+
+-- src/slots.rt:49:18
+sub-map : tie.Need-sub-map
+sub-map c = search needs
+
+-- src/slots.rt:49:18
+part-map-start : tie.Need-part-map-start
+part-map-start c = search needs
+
+-- src/slots.rt:49:18
+part-map-end : tie.Need-part-map-end
+part-map-end c = search needs
+
+-- src/slots.rt:49:32
+cast-map : tie.Need-cast-map
+cast-map c = search needs
+
+-- src/slots.rt:49:5
+map-requires : tie.Need-map-requires
+map-requires c κs = (rw (part-words (c .before .before .before .args .image .now) (shape.mapAt (c .before .before .before .args .s .variables)) (c .before .before .before .args .s .variables) (4 * shape.mapAt (c .before .before .before .args .s .variables) + 4 * (c .before .before .before .args .s .variables) - 4 * shape.mapAt (c .before .before .before .args .s .variables)) (omega arith)) (c .before .before .before .pre .1 .1 .0), starts-whole (c .before .before .before .pre .1 .1 .1))
+
+-- src/slots.rt:39:1
+returns : tie.Need-returns
+returns c = rw ((part-words (c .before .before .before .before .args .image .now) (shape.mapAt (c .before .before .before .before .args .s .variables)) (c .before .before .before .before .args .s .variables) (4 * shape.mapAt (c .before .before .before .before .args .s .variables) + 4 * (c .before .before .before .before .args .s .variables) - 4 * shape.mapAt (c .before .before .before .before .args .s .variables)) (omega arith)), first-whole (c .before .before .before .before .pre .1 .1 .1)) at (c .map .ensures)
+
+pub mask-of-spec : {M : Type 1} → statement M
+mask-of-spec =
+    tie.close
+    (tie.spec
+    add-x
+    mul-x
+    mul-y
+    add-y
+    sub-map
+    part-map-start
+    part-map-end
+    cast-map
+    map-requires
+    returns)

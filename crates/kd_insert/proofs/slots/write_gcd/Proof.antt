@@ -1,0 +1,52 @@
+use native.Mathlib.Omega.{arith}
+use Rattle.words.specs.Words.{words}
+use Rattle.index_image.specs.Walk.{mapMaxima}
+use Rattle.kd_insert.proofs.Writing.{gcd-written}
+use borrow.Author.Needs.{needs}
+use Rattle.kd_insert.proofs.slots.write_gcd.Statement.{statement}
+use Rattle.kd_insert.proofs.slots.write_gcd.Tie as tie
+use Rattle.kd_insert.proofs.slots.write_gcd.Reads as reads
+use Rattle.kd_insert.proofs.slots.write_gcd.Lts as lts
+use Rattle.kd_insert.proofs.slots.mask_of.Reads as mask-of-reads
+use Rattle.kd_insert.proofs.slots.write_slot.Reads as write-slot-reads
+use Rattle.words.proofs.put.Reads as put-reads
+
+-- src/slots.rt:77:9
+mask-of-requires : tie.Need-mask-of-requires
+mask-of-requires c κs = search needs
+
+-- src/slots.rt:78:23
+add-put : tie.Need-add-put
+add-put c = search needs
+
+-- src/slots.rt:78:5
+put-requires : tie.Need-put-requires
+put-requires c κs = search needs
+
+-- src/slots.rt:79:23
+add-write-slot : tie.Need-add-write-slot
+add-write-slot c = search needs
+
+-- src/slots.rt:79:5
+write-slot-requires : tie.Need-write-slot-requires
+write-slot-requires c κs = search needs
+
+-- src/slots.rt:68:1
+same-length : tie.Need-same-length
+same-length c = search needs
+
+-- src/slots.rt:68:1
+returns : tie.Need-returns
+returns c = gcd-written (c .before .before .before .before .before .before .before .before .before .before .before .before .args .image .now) (c .before .before .before .before .before .before .before .before .before .before .before .before .args .at) (c .before .before .before .before .before .before .before .before .before .before .before .before .args .s .variables) (mapMaxima (words (c .before .before .before .before .before .before .before .before .before .before .before .before .args .image .now)) (c .before .before .before .before .before .before .before .before .before .before .before .before .args .s)) (words (c .before .before .before .before .before .before .before .before .before .before .before .before .args .gcd .now)) (c .before .before .before .before .before .before .put .last .0) _ (c .before .before .before .before .before .before .before .before .mask-of .result) (omega (arith, c .before .before .before .before .before .before .before .before .before .before .before .before .pre .1 .0, c .before .before .before .before .before .before .before .before .before .before .before .before .pre .1 .1 .1 .1 .1)) (c .before .before .before .before .before .before .before .before .mask-of .ensures) (c .before .before .before .before .before .before .put .ensures) (c .before .before .write-slot .ensures)
+
+pub write-gcd-spec : {M : Type 1} → statement M
+write-gcd-spec =
+    tie.close
+    (tie.spec
+    mask-of-requires
+    add-put
+    put-requires
+    add-write-slot
+    write-slot-requires
+    same-length
+    returns)

@@ -1,0 +1,78 @@
+use native.Mathlib.Omega.{arith}
+use Rattle.words.specs.Words.{words}
+use Rattle.monomial.proofs.Powers.{canonical-length}
+use Rattle.index_image.specs.Walk.{mapMaxima}
+use Rattle.kd_insert.proofs.Writing.{masked-written}
+use borrow.Author.Needs.{needs}
+use Rattle.kd_insert.proofs.slots.write_masked.Statement.{statement}
+use Rattle.kd_insert.proofs.slots.write_masked.Tie as tie
+use Rattle.kd_insert.proofs.slots.write_masked.Reads as reads
+use Rattle.kd_insert.proofs.slots.write_masked.Lts as lts
+use Rattle.kd_insert.proofs.slots.masks_of.Reads as masks-of-reads
+use Rattle.kd_insert.proofs.slots.write_slot.Reads as write-slot-reads
+use Rattle.words.proofs.put.Reads as put-reads
+
+-- src/slots.rt:69:9
+masks-of-requires : tie.Need-masks-of-requires
+masks-of-requires c κs = search needs
+
+-- src/slots.rt:70:5
+write-slot-requires : tie.Need-write-slot-requires
+write-slot-requires c κs = search needs
+
+-- src/slots.rt:71:28
+add-put : tie.Need-add-put
+add-put c = search needs
+
+-- src/slots.rt:71:23
+add-put-2 : tie.Need-add-put-2
+add-put-2 c = search needs
+
+-- src/slots.rt:71:57
+cast-put : tie.Need-cast-put
+cast-put c = search needs
+
+-- src/slots.rt:71:5
+put-requires : tie.Need-put-requires
+put-requires c κs = search needs
+
+-- src/slots.rt:72:28
+add-put-3 : tie.Need-add-put-3
+add-put-3 c = search needs
+
+-- src/slots.rt:72:23
+add-put-4 : tie.Need-add-put-4
+add-put-4 c = search needs
+
+-- src/slots.rt:72:59
+cast-put-2 : tie.Need-cast-put-2
+cast-put-2 c = search needs
+
+-- src/slots.rt:72:5
+put-requires-2 : tie.Need-put-requires-2
+put-requires-2 c κs = search needs
+
+-- src/slots.rt:60:1
+same-length : tie.Need-same-length
+same-length c = search needs
+
+-- src/slots.rt:60:1
+returns : tie.Need-returns
+returns c = masked-written (c .before .before .before .before .before .before .before .before .before .before .before .before .before .before .before .before .before .before .args .image .now) (c .before .before .before .before .before .before .before .before .before .before .before .before .before .before .before .before .before .before .args .i) (c .before .before .before .before .before .before .before .before .before .before .before .before .before .before .before .before .before .before .args .s .variables) (c .before .before .before .before .before .before .before .before .before .before .before .before .before .before .masks-of .result) (mapMaxima (words (c .before .before .before .before .before .before .before .before .before .before .before .before .before .before .before .before .before .before .args .image .now)) (c .before .before .before .before .before .before .before .before .before .before .before .before .before .before .before .before .before .before .args .s)) (words (c .before .before .before .before .before .before .before .before .before .before .before .before .before .before .before .before .before .before .args .monomial .now)) (c .before .before .before .before .before .before .before .before .before .before .before .before .write-slot .last .0) (c .before .before .before .before .before .before .before .put .last .0) (c .before .before .put2 .last .0) (canonical-length 1 (c .before .before .before .before .before .before .before .before .before .before .before .before .before .before .before .before .before .before .args .s .variables) (words (c .before .before .before .before .before .before .before .before .before .before .before .before .before .before .before .before .before .before .args .monomial .now)) (omega arith) (omega (arith, c .before .before .before .before .before .before .before .before .before .before .before .before .before .before .before .before .before .before .pre .0 .vars-to)) (c .before .before .before .before .before .before .before .before .before .before .before .before .before .before .before .before .before .before .pre .1 .1 .1 .0)) (omega (arith, c .before .before .before .before .before .before .before .before .before .before .before .before .before .before .before .before .before .before .pre .1 .0, c .before .before .before .before .before .before .before .before .before .before .before .before .before .before .before .before .before .before .pre .1 .1 .1 .1 .1)) (c .before .before .before .before .before .before .before .before .before .before .before .before .before .before .masks-of .ensures) (c .before .before .before .before .before .before .before .before .before .before .before .before .write-slot .ensures) (c .before .before .before .before .before .before .before .put .ensures) (c .before .before .put2 .ensures)
+
+pub write-masked-spec : {M : Type 1} → statement M
+write-masked-spec =
+    tie.close
+    (tie.spec
+    masks-of-requires
+    write-slot-requires
+    add-put
+    add-put-2
+    cast-put
+    put-requires
+    add-put-3
+    add-put-4
+    cast-put-2
+    put-requires-2
+    same-length
+    returns)

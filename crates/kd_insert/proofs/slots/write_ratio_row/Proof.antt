@@ -1,0 +1,92 @@
+use native.Mathlib.Omega.{arith}
+use Rattle.words.specs.Words.{words}
+use Rattle.monomial.proofs.Powers.{canonical-length}
+use Rattle.kd_insert.proofs.Monomials.{map-entered}
+use Rattle.words.proofs.Laws.{putW-paste}
+use Rattle.kd_insert.proofs.Settling.{ratio-row-written}
+use Rattle.index_image.specs.Walk.{mapMaxima}
+use mathlib.Core.Path.{_≡_, sym, ap, _∙_}
+use Prim.Native.Nat.{ℕ, _+_}
+use borrow.Author.Needs.{needs}
+use Rattle.kd_insert.proofs.slots.write_ratio_row.Statement.{statement}
+use Rattle.kd_insert.proofs.slots.write_ratio_row.Tie as tie
+use Rattle.kd_insert.proofs.slots.write_ratio_row.Reads as reads
+use Rattle.kd_insert.proofs.slots.write_ratio_row.Lts as lts
+use Rattle.kd_insert.proofs.slots.write_masked.Reads as write-masked-reads
+use Rattle.words.proofs.index_word.Reads as index-word-reads
+use Rattle.words.proofs.put.Reads as put-reads
+
+-- src/slots.rt:95:5
+write-masked-requires : tie.Need-write-masked-requires
+write-masked-requires c κs = (c .before .before .before .before .pre .0, (c .before .before .before .before .pre .1 .0, (c .before .before .before .before .pre .1 .1 .0, (c .before .before .before .before .pre .1 .1 .1 .1 .0 .0, (c .before .before .before .before .pre .1 .1 .1 .1 .0 .1, omega (arith, c .before .before .before .before .pre .1 .1 .1 .1 .1 .1 .1))))))
+
+-- src/slots.rt:96:28
+add-put : tie.Need-add-put
+add-put c = search needs
+
+-- src/slots.rt:96:23
+add-put-2 : tie.Need-add-put-2
+add-put-2 c = search needs
+
+-- src/slots.rt:96:36
+index-word-requires : tie.Need-index-word-requires
+index-word-requires c κs = search needs
+
+-- src/slots.rt:96:5
+put-requires : tie.Need-put-requires
+put-requires c κs = search needs
+
+-- src/slots.rt:97:33
+add-write-masked : tie.Need-add-write-masked
+add-write-masked c = search needs
+
+-- src/slots.rt:97:28
+add-write-masked-2 : tie.Need-add-write-masked-2
+add-write-masked-2 c = search needs
+
+-- src/slots.rt:97:5
+write-masked-requires-2 : tie.Need-write-masked-requires-2
+write-masked-requires-2 c κs = (c .before .before .before .before .before .before .before .before .before .before .before .before .before .pre .0, (omega (arith, c .before .before .before .put .kept .0, c .before .before .before .before .before .before .before .before .write-masked .kept .0, c .before .before .before .before .before .before .before .before .before .before .before .before .before .pre .1 .0), (rw (map-entered (c .before .before .before .before .before .before .before .before .write-masked .last .0) (c .before .before .before .put .last .0) (c .before .before .before .before .before .before .before .before .before .before .before .before .before .args .s) ((c .before .before .before .before .before .before .before .before .before .before .before .before .before .args .i) + ((c .before .before .before .before .before .before .before .before .before .before .before .before .before .args .s .variables) + 3)) _ (omega (arith, c .before .before .before .before .before .before .before .before .before .before .before .before .before .pre .1 .0, c .before .before .before .before .before .before .before .before .before .before .before .before .before .pre .1 .1 .1 .1 .1 .1 .1, c .before .before .before .before .before .before .before .before .write-masked .kept .0)) (omega (arith, c .before .before .before .before .before .before .before .before .before .before .before .before .before .pre .1 .1 .1 .1 .1 .1 .0)) (c .before .before .before .put .ensures ∙ putW-paste (c .before .before .before .before .before .before .before .before .write-masked .last .0) ((c .before .before .before .before .before .before .before .before .before .before .before .before .before .args .i) + ((c .before .before .before .before .before .before .before .before .before .before .before .before .before .args .s .variables) + 3)) _ (omega (arith, c .before .before .before .before .before .before .before .before .before .before .before .before .before .pre .1 .0, c .before .before .before .before .before .before .before .before .before .before .before .before .before .pre .1 .1 .1 .1 .1 .1 .1, c .before .before .before .before .before .before .before .before .write-masked .kept .0))) ∙ map-entered (c .before .before .before .before .before .before .before .before .before .before .before .before .before .args .image .now) (c .before .before .before .before .before .before .before .before .write-masked .last .0) (c .before .before .before .before .before .before .before .before .before .before .before .before .before .args .s) (c .before .before .before .before .before .before .before .before .before .before .before .before .before .args .i) _ (omega (arith, c .before .before .before .before .before .before .before .before .before .before .before .before .before .pre .1 .0, c .before .before .before .before .before .before .before .before .before .before .before .before .before .pre .1 .1 .1 .1 .1 .1 .1)) (c .before .before .before .before .before .before .before .before .before .before .before .before .before .pre .1 .1 .1 .1 .1 .1 .0) (c .before .before .before .before .before .before .before .before .write-masked .ensures)) (c .before .before .before .before .before .before .before .before .before .before .before .before .before .pre .1 .1 .0), (c .before .before .before .before .before .before .before .before .before .before .before .before .before .pre .1 .1 .1 .0 .0, (c .before .before .before .before .before .before .before .before .before .before .before .before .before .pre .1 .1 .1 .0 .1, omega (arith, c .before .before .before .before .before .before .before .before .before .before .before .before .before .pre .1 .1 .1 .1 .1 .1 .1))))))
+
+-- src/slots.rt:98:28
+mul-put : tie.Need-mul-put
+mul-put c = search needs
+
+-- src/slots.rt:98:28
+add-put-3 : tie.Need-add-put-3
+add-put-3 c = search needs
+
+-- src/slots.rt:98:23
+add-put-4 : tie.Need-add-put-4
+add-put-4 c = search needs
+
+-- src/slots.rt:98:5
+put-requires-2 : tie.Need-put-requires-2
+put-requires-2 c κs = search needs
+
+-- src/slots.rt:84:1
+same-length : tie.Need-same-length
+same-length c = search needs
+
+-- src/slots.rt:84:1
+returns : tie.Need-returns
+returns c = ratio-row-written (c .before .before .before .before .before .before .before .before .before .before .before .before .before .before .before .before .before .before .before .before .args .image .now) (c .before .before .before .before .before .before .before .before .before .before .before .before .before .before .before .write-masked .last .0) (c .before .before .before .before .before .before .before .before .before .before .put .last .0) (c .before .before .before .before .before .before .write-masked2 .last .0) _ (c .before .before .before .before .before .before .before .before .before .before .before .before .before .before .before .before .before .before .before .before .args .i) (c .before .before .before .before .before .before .before .before .before .before .before .before .before .before .before .before .before .before .before .before .args .s .variables) _ (c .before .before .before .before .before .before .before .before .before .before .before .before .before .before .before .before .before .before .before .before .args .row) (mapMaxima (words (c .before .before .before .before .before .before .before .before .before .before .before .before .before .before .before .before .before .before .before .before .args .image .now)) (c .before .before .before .before .before .before .before .before .before .before .before .before .before .before .before .before .before .before .before .before .args .s)) (words (c .before .before .before .before .before .before .before .before .before .before .before .before .before .before .before .before .before .before .before .before .args .sign .now)) (words (c .before .before .before .before .before .before .before .before .before .before .before .before .before .before .before .before .before .before .before .before .args .lm .now)) (canonical-length 1 (c .before .before .before .before .before .before .before .before .before .before .before .before .before .before .before .before .before .before .before .before .args .s .variables) (words (c .before .before .before .before .before .before .before .before .before .before .before .before .before .before .before .before .before .before .before .before .args .sign .now)) (omega arith) (omega (arith, c .before .before .before .before .before .before .before .before .before .before .before .before .before .before .before .before .before .before .before .before .pre .0 .vars-to)) (c .before .before .before .before .before .before .before .before .before .before .before .before .before .before .before .before .before .before .before .before .pre .1 .1 .1 .0 .0)) (canonical-length 1 (c .before .before .before .before .before .before .before .before .before .before .before .before .before .before .before .before .before .before .before .before .args .s .variables) (words (c .before .before .before .before .before .before .before .before .before .before .before .before .before .before .before .before .before .before .before .before .args .lm .now)) (omega arith) (omega (arith, c .before .before .before .before .before .before .before .before .before .before .before .before .before .before .before .before .before .before .before .before .pre .0 .vars-to)) (c .before .before .before .before .before .before .before .before .before .before .before .before .before .before .before .before .before .before .before .before .pre .1 .1 .1 .1 .0 .0)) (omega (arith, c .before .before .before .before .before .before .before .before .before .before .before .before .before .before .before .before .before .before .before .before .pre .1 .0, c .before .before .before .before .before .before .before .before .before .before .before .before .before .before .before .before .before .before .before .before .pre .1 .1 .1 .1 .1 .1 .1)) (c .before .before .before .before .before .before .before .before .before .before .before .before .before .before .before .write-masked .ensures) (rw (c .before .before .before .before .before .before .before .before .before .before .before .index-word .ensures) at (c .before .before .before .before .before .before .before .before .before .before .put .ensures)) (rw (map-entered (c .before .before .before .before .before .before .before .before .before .before .before .before .before .before .before .write-masked .last .0) (c .before .before .before .before .before .before .before .before .before .before .put .last .0) (c .before .before .before .before .before .before .before .before .before .before .before .before .before .before .before .before .before .before .before .before .args .s) ((c .before .before .before .before .before .before .before .before .before .before .before .before .before .before .before .before .before .before .before .before .args .i) + ((c .before .before .before .before .before .before .before .before .before .before .before .before .before .before .before .before .before .before .before .before .args .s .variables) + 3)) _ (omega (arith, c .before .before .before .before .before .before .before .before .before .before .before .before .before .before .before .before .before .before .before .before .pre .1 .0, c .before .before .before .before .before .before .before .before .before .before .before .before .before .before .before .before .before .before .before .before .pre .1 .1 .1 .1 .1 .1 .1, c .before .before .before .before .before .before .before .before .before .before .before .before .before .before .before .write-masked .kept .0)) (omega (arith, c .before .before .before .before .before .before .before .before .before .before .before .before .before .before .before .before .before .before .before .before .pre .1 .1 .1 .1 .1 .1 .0)) (c .before .before .before .before .before .before .before .before .before .before .put .ensures ∙ putW-paste (c .before .before .before .before .before .before .before .before .before .before .before .before .before .before .before .write-masked .last .0) ((c .before .before .before .before .before .before .before .before .before .before .before .before .before .before .before .before .before .before .before .before .args .i) + ((c .before .before .before .before .before .before .before .before .before .before .before .before .before .before .before .before .before .before .before .before .args .s .variables) + 3)) _ (omega (arith, c .before .before .before .before .before .before .before .before .before .before .before .before .before .before .before .before .before .before .before .before .pre .1 .0, c .before .before .before .before .before .before .before .before .before .before .before .before .before .before .before .before .before .before .before .before .pre .1 .1 .1 .1 .1 .1 .1, c .before .before .before .before .before .before .before .before .before .before .before .before .before .before .before .write-masked .kept .0))) ∙ map-entered (c .before .before .before .before .before .before .before .before .before .before .before .before .before .before .before .before .before .before .before .before .args .image .now) (c .before .before .before .before .before .before .before .before .before .before .before .before .before .before .before .write-masked .last .0) (c .before .before .before .before .before .before .before .before .before .before .before .before .before .before .before .before .before .before .before .before .args .s) (c .before .before .before .before .before .before .before .before .before .before .before .before .before .before .before .before .before .before .before .before .args .i) _ (omega (arith, c .before .before .before .before .before .before .before .before .before .before .before .before .before .before .before .before .before .before .before .before .pre .1 .0, c .before .before .before .before .before .before .before .before .before .before .before .before .before .before .before .before .before .before .before .before .pre .1 .1 .1 .1 .1 .1 .1)) (c .before .before .before .before .before .before .before .before .before .before .before .before .before .before .before .before .before .before .before .before .pre .1 .1 .1 .1 .1 .1 .0) (c .before .before .before .before .before .before .before .before .before .before .before .before .before .before .before .write-masked .ensures)) at (c .before .before .before .before .before .before .write-masked2 .ensures)) (c .before .before .put2 .ensures)
+
+pub write-ratio-row-spec : {M : Type 1} → statement M
+write-ratio-row-spec =
+    tie.close
+    (tie.spec
+    write-masked-requires
+    add-put
+    add-put-2
+    index-word-requires
+    put-requires
+    add-write-masked
+    add-write-masked-2
+    write-masked-requires-2
+    mul-put
+    add-put-3
+    add-put-4
+    put-requires-2
+    same-length
+    returns)

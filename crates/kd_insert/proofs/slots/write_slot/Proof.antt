@@ -1,0 +1,48 @@
+use native.Mathlib.Omega.{arith}
+use Rattle.words.proofs.Laws.{length-words}
+use Rattle.words.specs.Words.{words}
+use Rattle.monomial.proofs.Powers.{canonical-length}
+use Rattle.kd_insert.proofs.Writing.{slot-written}
+use lib.ListN.{length}
+use Prim.Native.Nat.{_/_}
+use mathlib.Core.Path.{sym}
+use borrow.Author.Needs.{needs}
+use Rattle.kd_insert.proofs.slots.write_slot.Statement.{statement}
+use Rattle.kd_insert.proofs.slots.write_slot.Tie as tie
+use Rattle.kd_insert.proofs.slots.write_slot.Reads as reads
+use Rattle.kd_insert.proofs.slots.write_slot.Lts as lts
+use Rattle.words.proofs.runs.clear.Reads as clear-reads
+use Rattle.words.proofs.runs.paste.Reads as paste-reads
+
+-- src/slots.rt:26:5
+paste-requires : tie.Need-paste-requires
+paste-requires c κs = omega (arith, canonical-length 1 (c .before .before .before .args .variables) (words (c .before .before .before .args .monomial .now)) (omega arith) (omega (arith, c .before .before .before .pre .0)) (c .before .before .before .pre .1 .0), length-words (c .before .before .before .args .monomial .now), c .before .before .before .pre .1 .1)
+
+-- src/slots.rt:27:31
+add-clear : tie.Need-add-clear
+add-clear c = search needs
+
+-- src/slots.rt:27:38
+add-clear-2 : tie.Need-add-clear-2
+add-clear-2 c = search needs
+
+-- src/slots.rt:27:38
+sub-clear : tie.Need-sub-clear
+sub-clear c = omega (arith, canonical-length 1 (c .before .before .before .before .before .before .before .args .variables) (words (c .before .before .before .before .before .before .before .args .monomial .now)) (omega arith) (omega (arith, c .before .before .before .before .before .before .before .pre .0)) (c .before .before .before .before .before .before .before .pre .1 .0), length-words (c .before .before .before .before .before .before .before .args .monomial .now), c .before .before .before .before .before .before .before .pre .1 .1)
+
+-- src/slots.rt:27:5
+clear-requires : tie.Need-clear-requires
+clear-requires c κs = omega (arith, canonical-length 1 (c .before .before .before .before .before .before .before .args .variables) (words (c .before .before .before .before .before .before .before .args .monomial .now)) (omega arith) (omega (arith, c .before .before .before .before .before .before .before .pre .0)) (c .before .before .before .before .before .before .before .pre .1 .0), length-words (c .before .before .before .before .before .before .before .args .monomial .now), c .before .before .before .before .before .before .before .pre .1 .1)
+
+-- src/slots.rt:18:1
+same-length : tie.Need-same-length
+same-length c = search needs
+
+-- src/slots.rt:18:1
+returns : tie.Need-returns
+returns c = slot-written (c .before .before .before .before .before .before .before .before .before .before .args .image .now) (c .before .before .before .before .before .before .before .before .before .before .args .i) (c .before .before .before .before .before .before .before .before .before .before .args .variables) (length (c .before .before .before .before .before .before .before .before .before .before .args .monomial .now) / 4) (words (c .before .before .before .before .before .before .before .before .before .before .args .monomial .now)) (c .before .before .before .before .before .before .paste .last .0) _ (sym (length-words (c .before .before .before .before .before .before .before .before .before .before .args .monomial .now))) (omega (arith, canonical-length 1 (c .before .before .before .before .before .before .before .before .before .before .args .variables) (words (c .before .before .before .before .before .before .before .before .before .before .args .monomial .now)) (omega arith) (omega (arith, c .before .before .before .before .before .before .before .before .before .before .pre .0)) (c .before .before .before .before .before .before .before .before .before .before .pre .1 .0), length-words (c .before .before .before .before .before .before .before .before .before .before .args .monomial .now))) (c .before .before .before .before .before .before .before .before .before .before .pre .1 .1 .1) (c .before .before .before .before .before .before .paste .ensures) (c .before .before .clear .ensures)
+
+pub write-slot-spec : {M : Type 1} → statement M
+write-slot-spec =
+    tie.close
+    (tie.spec paste-requires add-clear add-clear-2 sub-clear clear-requires same-length returns)

@@ -1,0 +1,3 @@
+pub mod Monomials
+pub mod Rows
+pub mod Wholes
