@@ -8,7 +8,7 @@ ghost use Rattle.divmask.specs.Doors as spec;
 
 // Writes the mask of a monomial at the front of out, as a bare word.
 #[no_mangle]
-pub extern "C" fn divmask_mask(
+pub extern "C" fn divisor_index_divmask_mask(
     variables: u32,
     maxima: &[u8],
     monomial: &[u8],
@@ -32,7 +32,7 @@ pub extern "C" fn divmask_mask(
 
 // The mask test of two masks: 0 not divisible, 1 unsure.
 #[no_mangle]
-pub extern "C" fn divmask_divides(a: u32, b: u32) -> u32
+pub extern "C" fn divisor_index_divmask_divides(a: u32, b: u32) -> u32
     ensures { λ r. ⌜ r ≡ spec.testNumber (tested a b) ⌝ }
 {
     match crate::divides(a, b) {
@@ -43,7 +43,11 @@ pub extern "C" fn divmask_divides(a: u32, b: u32) -> u32
 
 // Raises the lent maxima to the powers of a monomial.
 #[no_mangle]
-pub extern "C" fn divmask_update(variables: u32, maxima: &mut [u8], monomial: &[u8]) -> u32
+pub extern "C" fn divisor_index_divmask_update(
+    variables: u32,
+    maxima: &mut [u8],
+    monomial: &[u8],
+) -> u32
     ensures { λ r. ⌜ r ≡ spec.updateNumber variables (now (maxima .entry)) (now (monomial .entry)) ⌝ }
     ensures { λ _. ⌜ now (maxima .exit) ≡ spec.updateBytes variables (now (maxima .entry)) (now (monomial .entry)) ⌝ }
 {
@@ -59,7 +63,7 @@ pub extern "C" fn divmask_update(variables: u32, maxima: &mut [u8], monomial: &[
 
 // Writes at the front of out whether the maxima have grown beyond a percentage, yes 1 or no 0.
 #[no_mangle]
-pub extern "C" fn divmask_growth(
+pub extern "C" fn divisor_index_divmask_growth(
     variables: u32,
     maxima: &[u8],
     percentage: u8,

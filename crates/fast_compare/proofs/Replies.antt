@@ -3,7 +3,8 @@ use mathlib.Core.Path.{_≡_, refl, sym, ap, _∙_}
 use mathlib.Core.Bool.{Bool, true, false, _&&_}
 use mathlib.Core.List.{List}
 use mathlib.Core.Logic.{_↔_}
-use Prim.Native.Nat.{ℕ, _*_, _≤_, _<_}
+use Prim.Native.Nat.{ℕ, _+_, _*_, _≤_, _<_}
+use native.Mathlib.Nat.{mul-le-mul}
 use native.Mathlib.Omega.{arith}
 use lib.Dec.{leb, ltb}
 use lib.ListN.{length}
@@ -46,13 +47,18 @@ not-asked : (m c : ℕ) → (Asked m c → ⊥) → askedFor m c ≡ false
 not-asked m c h = not-true (askedFor m c) (λ e. h (asked-iff m c .0 e))
 
 module _ (m c : ℕ) where
-  pub length-refused : (Asked m c → ⊥) → 4294967296 ≡ lengthFor m c
+  pub length-refused : (Asked m c → ⊥) → 1 ≡ lengthFor m c
   unfolding lengthFor
   length-refused h = rw (not-asked m c h)
 
   pub length-served : Asked m c → 4 * size m c ≡ lengthFor m c
   unfolding lengthFor
   length-served a = rw (asked-iff m c .1 a)
+
+  pub length-small : Asked m c → 4 * size m c ≤ 1114128
+  length-small a =
+      let most : c * (m + 3) ≤ 4096 * 67 = mul-le-mul (a .cap-to) (omega (arith, a .vars-to)) in
+      omega (arith, a .cap-to)
 
   pub open-unasked : (bs : List ℕ) → (Asked m c → ⊥) → (1 ≡ openingFor m c (length bs)) × (bs ≡ openedBytes m c bs)
   unfolding openingFor openedBytes

@@ -25,7 +25,7 @@ askedFor m c = leb 1 m && (leb m 64 && (leb 1 c && leb c 4096))
 
 -- the length in bytes, or 1
 unfoldable pub lengthFor : ℕ → ℕ → ℕ
-lengthFor m c = cond (askedFor m c) (4 * size m c) (refusal 1)
+lengthFor m c = cond (askedFor m c) (4 * size m c) 1
 
 -- questions 1 and 2 of a buffer of len bytes; 0 is served
 unfoldable pub openingFor : ℕ → ℕ → ℕ → ℕ

@@ -57,20 +57,24 @@ fn number(a: Answer) -> u64
     }
 }
 
-// The length of a map's image in bytes; for question 1, its number in the upper half.
+// The length of a map's image in bytes, which is above 16; or 1, for question 1.
 #[no_mangle]
-pub extern "C" fn fast_compare_length(variables: u32, capacity: u32) -> u64
+pub extern "C" fn divisor_index_fast_compare_length(variables: u32, capacity: u32) -> u32
     ensures { λ r. ⌜ r ≡ Door.lengthFor variables capacity ⌝ }
 {
     if !crate::asked(variables as usize, capacity as usize) {
-        return 4294967296;
+        return 1;
     }
-    crate::length(variables as usize, capacity as usize) as u64
+    crate::length(variables as usize, capacity as usize) as u32
 }
 
 // Writes an empty map; 0, or the number of the question that says no.
 #[no_mangle]
-pub extern "C" fn fast_compare_open(variables: u32, capacity: u32, image: &mut [u8]) -> u32
+pub extern "C" fn divisor_index_fast_compare_open(
+    variables: u32,
+    capacity: u32,
+    image: &mut [u8],
+) -> u32
     ensures { λ r. ⌜ (r ≡ Door.openingFor variables capacity (length (now (image .entry)))) × (now (image .exit) ≡ Door.openedBytes variables capacity (now (image .entry))) ⌝ }
 {
     let v = variables as usize;
@@ -87,7 +91,11 @@ pub extern "C" fn fast_compare_open(variables: u32, capacity: u32, image: &mut [
 
 // The label of a value, which is stored where it is new; or a refusal's number in the upper half.
 #[no_mangle]
-pub extern "C" fn fast_compare_get_comparer(image: &mut [u8], index: u32, ratio: &[u8]) -> u64
+pub extern "C" fn divisor_index_fast_compare_get_comparer(
+    image: &mut [u8],
+    index: u32,
+    ratio: &[u8],
+) -> u64
     ensures { λ r. ⌜ Door.Replied index (now (ratio .entry)) r (now (image .entry)) (now (image .exit)) ⌝ }
 {
     let a = ask(image, index, ratio);
@@ -96,7 +104,7 @@ pub extern "C" fn fast_compare_get_comparer(image: &mut [u8], index: u32, ratio:
 
 // Spaces the labels evenly; 0, or 3.
 #[no_mangle]
-pub extern "C" fn fast_compare_rebuild(image: &mut [u8]) -> u32
+pub extern "C" fn divisor_index_fast_compare_rebuild(image: &mut [u8]) -> u32
     ensures { λ r. ⌜ Door.Rebuilt r (now (image .entry)) (now (image .exit)) ⌝ }
 {
     if !crate::soundness::sound(image) {

@@ -175,7 +175,7 @@ pub fn sound(image: &[u8]) -> bool
 
 // The door of question 3 alone: 0 where the bytes begin with the image of a valid index, else 3. It reads only.
 #[no_mangle]
-pub extern "C" fn index_image_check(image: &[u8]) -> u32
+pub extern "C" fn divisor_index_check(image: &[u8]) -> u32
     ensures { λ r. ⌜ check.Judged (now (image .entry)) r ⌝ }
 {
     if sound(image) { 0 } else { 3 }

@@ -20,7 +20,7 @@ fn answer(r: u64) {
 
 // The answer for the value of this index and the ratio one.
 fn ask(map: &mut [u8], index: u32) -> u64 {
-    doors::fast_compare_get_comparer(map, index, b"\x00\x00\x00\x00")
+    doors::divisor_index_fast_compare_get_comparer(map, index, b"\x00\x00\x00\x00")
 }
 
 fn report(count: u32, last: u64, r: u64) {
@@ -54,7 +54,7 @@ fn rising(map: &mut [u8]) {
     let mut last: u64 = 0;
     while k < 40 {
         words::put(&mut ratio, 0, 536903681 + k);
-        let r = doors::fast_compare_get_comparer(map, 7, &ratio);
+        let r = doors::divisor_index_fast_compare_get_comparer(map, 7, &ratio);
         if 4294967295 < r {
             return report(k, last, r);
         }
@@ -112,26 +112,26 @@ fn damaged(map: &mut [u8], more: u32) {
 }
 
 fn main() {
-    answer(doors::fast_compare_length(1, 40));
-    answer(doors::fast_compare_length(0, 40));
-    answer(doors::fast_compare_length(64, 4096));
+    answer(doors::divisor_index_fast_compare_length(1, 40) as u64);
+    answer(doors::divisor_index_fast_compare_length(0, 40) as u64);
+    answer(doors::divisor_index_fast_compare_length(64, 4096) as u64);
     io::write_all(1, b"\n");
     let mut wide = [0u8; 816];
-    number(doors::fast_compare_open(1, 40, &mut wide) as u64);
-    number(doors::fast_compare_open(1, 41, &mut wide) as u64);
-    number(doors::fast_compare_open(65, 40, &mut wide) as u64);
+    number(doors::divisor_index_fast_compare_open(1, 40, &mut wide) as u64);
+    number(doors::divisor_index_fast_compare_open(1, 41, &mut wide) as u64);
+    number(doors::divisor_index_fast_compare_open(65, 40, &mut wide) as u64);
     io::write_all(1, b"\n");
     falling(&mut wide);
-    number(doors::fast_compare_rebuild(&mut wide) as u64);
+    number(doors::divisor_index_fast_compare_rebuild(&mut wide) as u64);
     answer(ask(&mut wide, 1));
     io::write_all(1, b"\n");
-    number(doors::fast_compare_open(1, 40, &mut wide) as u64);
+    number(doors::divisor_index_fast_compare_open(1, 40, &mut wide) as u64);
     io::write_all(1, b"\n");
     rising(&mut wide);
     let mut small = [0u8; 88];
-    number(doors::fast_compare_open(2, 3, &mut small) as u64);
+    number(doors::divisor_index_fast_compare_open(2, 3, &mut small) as u64);
     capacity(&mut small);
-    number(doors::fast_compare_open(2, 3, &mut small) as u64);
+    number(doors::divisor_index_fast_compare_open(2, 3, &mut small) as u64);
     answer(ask(&mut small, 5));
     answer(ask(&mut small, 3));
     io::write_all(1, b"\n");

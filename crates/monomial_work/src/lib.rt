@@ -147,7 +147,12 @@ pub fn serve(w: Work, variables: u32, a: &[u8], b: &[u8], out: &mut [u8]) -> u32
 
 // The greatest common divisor.
 #[no_mangle]
-pub extern "C" fn monomial_gcd(variables: u32, a: &[u8], b: &[u8], out: &mut [u8]) -> u32
+pub extern "C" fn divisor_index_monomial_gcd(
+    variables: u32,
+    a: &[u8],
+    b: &[u8],
+    out: &mut [u8],
+) -> u32
     ensures { λ r. ⌜ spec.Served Work.Gcd variables (now (a .entry)) (now (b .entry)) (now (out .entry)) r (now (out .exit)) ⌝ }
 {
     serve(Work::Gcd, variables, a, b, out)
@@ -155,7 +160,12 @@ pub extern "C" fn monomial_gcd(variables: u32, a: &[u8], b: &[u8], out: &mut [u8
 
 // The product; 9 where a power is above 32,767.
 #[no_mangle]
-pub extern "C" fn monomial_mul(variables: u32, a: &[u8], b: &[u8], out: &mut [u8]) -> u32
+pub extern "C" fn divisor_index_monomial_mul(
+    variables: u32,
+    a: &[u8],
+    b: &[u8],
+    out: &mut [u8],
+) -> u32
     ensures { λ r. ⌜ spec.Served Work.Mul variables (now (a .entry)) (now (b .entry)) (now (out .entry)) r (now (out .exit)) ⌝ }
 {
     serve(Work::Mul, variables, a, b, out)
@@ -163,7 +173,12 @@ pub extern "C" fn monomial_mul(variables: u32, a: &[u8], b: &[u8], out: &mut [u8
 
 // The quotient a / b, or a kind 4 word with payload 0 where b does not divide a.
 #[no_mangle]
-pub extern "C" fn monomial_whole_division(variables: u32, a: &[u8], b: &[u8], out: &mut [u8]) -> u32
+pub extern "C" fn divisor_index_monomial_whole_division(
+    variables: u32,
+    a: &[u8],
+    b: &[u8],
+    out: &mut [u8],
+) -> u32
     ensures { λ r. ⌜ spec.Served Work.WholeDivision variables (now (a .entry)) (now (b .entry)) (now (out .entry)) r (now (out .exit)) ⌝ }
 {
     serve(Work::WholeDivision, variables, a, b, out)
@@ -171,7 +186,7 @@ pub extern "C" fn monomial_whole_division(variables: u32, a: &[u8], b: &[u8], ou
 
 // The ratio a / b.
 #[no_mangle]
-pub extern "C" fn monomial_fraction_division(
+pub extern "C" fn divisor_index_monomial_fraction_division(
     variables: u32,
     a: &[u8],
     b: &[u8],
@@ -184,7 +199,12 @@ pub extern "C" fn monomial_fraction_division(
 
 // Whether a divides b.
 #[no_mangle]
-pub extern "C" fn monomial_divides(variables: u32, a: &[u8], b: &[u8], out: &mut [u8]) -> u32
+pub extern "C" fn divisor_index_monomial_divides(
+    variables: u32,
+    a: &[u8],
+    b: &[u8],
+    out: &mut [u8],
+) -> u32
     ensures { λ r. ⌜ spec.Served Work.Divides variables (now (a .entry)) (now (b .entry)) (now (out .entry)) r (now (out .exit)) ⌝ }
 {
     serve(Work::Divides, variables, a, b, out)
@@ -192,7 +212,12 @@ pub extern "C" fn monomial_divides(variables: u32, a: &[u8], b: &[u8], out: &mut
 
 // Whether two monomials are equal.
 #[no_mangle]
-pub extern "C" fn monomial_eq(variables: u32, a: &[u8], b: &[u8], out: &mut [u8]) -> u32
+pub extern "C" fn divisor_index_monomial_eq(
+    variables: u32,
+    a: &[u8],
+    b: &[u8],
+    out: &mut [u8],
+) -> u32
     ensures { λ r. ⌜ spec.Served Work.Eq variables (now (a .entry)) (now (b .entry)) (now (out .entry)) r (now (out .exit)) ⌝ }
 {
     serve(Work::Eq, variables, a, b, out)
@@ -200,7 +225,12 @@ pub extern "C" fn monomial_eq(variables: u32, a: &[u8], b: &[u8], out: &mut [u8]
 
 // How two monomials compare: less 0, equal 1, greater 2.
 #[no_mangle]
-pub extern "C" fn monomial_cmp(variables: u32, a: &[u8], b: &[u8], out: &mut [u8]) -> u32
+pub extern "C" fn divisor_index_monomial_cmp(
+    variables: u32,
+    a: &[u8],
+    b: &[u8],
+    out: &mut [u8],
+) -> u32
     ensures { λ r. ⌜ spec.Served Work.Cmp variables (now (a .entry)) (now (b .entry)) (now (out .entry)) r (now (out .exit)) ⌝ }
 {
     serve(Work::Cmp, variables, a, b, out)
@@ -208,7 +238,7 @@ pub extern "C" fn monomial_cmp(variables: u32, a: &[u8], b: &[u8], out: &mut [u8
 
 // Whether two ratios are equal.
 #[no_mangle]
-pub extern "C" fn ratio_eq(variables: u32, a: &[u8], b: &[u8], out: &mut [u8]) -> u32
+pub extern "C" fn divisor_index_ratio_eq(variables: u32, a: &[u8], b: &[u8], out: &mut [u8]) -> u32
     ensures { λ r. ⌜ spec.Served Work.RatioEq variables (now (a .entry)) (now (b .entry)) (now (out .entry)) r (now (out .exit)) ⌝ }
 {
     serve(Work::RatioEq, variables, a, b, out)
@@ -216,7 +246,7 @@ pub extern "C" fn ratio_eq(variables: u32, a: &[u8], b: &[u8], out: &mut [u8]) -
 
 // How two ratios compare.
 #[no_mangle]
-pub extern "C" fn ratio_cmp(variables: u32, a: &[u8], b: &[u8], out: &mut [u8]) -> u32
+pub extern "C" fn divisor_index_ratio_cmp(variables: u32, a: &[u8], b: &[u8], out: &mut [u8]) -> u32
     ensures { λ r. ⌜ spec.Served Work.RatioCmp variables (now (a .entry)) (now (b .entry)) (now (out .entry)) r (now (out .exit)) ⌝ }
 {
     serve(Work::RatioCmp, variables, a, b, out)

@@ -116,7 +116,7 @@ impl LabelSample {
         let start = Instant::now();
         for value in &self.known {
             let image = black_box(&mut image[..]);
-            let refused = doors::fast_compare_get_comparer(image, 1 << 28, &value.words);
+            let refused = doors::divisor_index_fast_compare_get_comparer(image, 1 << 28, &value.words);
             assert_eq!(refused, 7 << 32);
         }
         start.elapsed()
@@ -124,7 +124,7 @@ impl LabelSample {
 }
 
 fn ask_port(image: &mut [u8], value: &Value) -> u64 {
-    let label = doors::fast_compare_get_comparer(image, value.index, &value.words);
+    let label = doors::divisor_index_fast_compare_get_comparer(image, value.index, &value.words);
     assert!(label >> 32 == 0, "a label");
     label
 }

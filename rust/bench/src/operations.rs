@@ -21,19 +21,19 @@ pub const OPERATIONS: [Operation; 8] = [
         name: "divides",
         inputs: Inputs::HalfDivide,
         original: |s| timed(s, |p| p, |p| p.small.monomial.divides(&p.large.monomial)),
-        port: |s| through(s, doors::monomial_divides),
+        port: |s| through(s, doors::divisor_index_monomial_divides),
     },
     Operation {
         name: "gcd",
         inputs: Inputs::HalfDivide,
         original: |s| timed(s, owned_large, |(a, p)| a.gcd(&p.small.monomial)),
-        port: |s| through(s, doors::monomial_gcd),
+        port: |s| through(s, doors::divisor_index_monomial_gcd),
     },
     Operation {
         name: "mul",
         inputs: Inputs::HalfDivide,
         original: |s| timed(s, both_owned, |(a, b)| a * b),
-        port: |s| through(s, doors::monomial_mul),
+        port: |s| through(s, doors::divisor_index_monomial_mul),
     },
     Operation {
         name: "whole_division",
@@ -41,7 +41,7 @@ pub const OPERATIONS: [Operation; 8] = [
         original: |s| timed(s, owned_large, |(a, p)| a.whole_division(&p.small.monomial)),
         port: |s| {
             through(s, |v, a, b, out| {
-                doors::monomial_whole_division(v, b, a, out)
+                doors::divisor_index_monomial_whole_division(v, b, a, out)
             })
         },
     },
@@ -55,25 +55,25 @@ pub const OPERATIONS: [Operation; 8] = [
                 |p| p.small.monomial.fraction_division(&p.large.monomial),
             )
         },
-        port: |s| through(s, doors::monomial_fraction_division),
+        port: |s| through(s, doors::divisor_index_monomial_fraction_division),
     },
     Operation {
         name: "cmp",
         inputs: Inputs::HalfDivide,
         original: |s| timed(s, |p| p, |p| p.small.monomial.cmp(&p.large.monomial)),
-        port: |s| through(s, doors::monomial_cmp),
+        port: |s| through(s, doors::divisor_index_monomial_cmp),
     },
     Operation {
         name: "cmp, equal totals",
         inputs: Inputs::EqualTotals,
         original: |s| timed(s, |p| p, |p| p.small.monomial.cmp(&p.large.monomial)),
-        port: |s| through(s, doors::monomial_cmp),
+        port: |s| through(s, doors::divisor_index_monomial_cmp),
     },
     Operation {
         name: "mask",
         inputs: Inputs::HalfDivide,
         original: |s| timed(s, |p| p, |p| s.map.map(&p.large.monomial)),
-        port: |s| through(s, |v, _, b, out| doors::divmask_mask(v, &s.maxima, b, out)),
+        port: |s| through(s, |v, _, b, out| doors::divisor_index_divmask_mask(v, &s.maxima, b, out)),
     },
 ];
 
@@ -81,7 +81,7 @@ pub const OPERATIONS: [Operation; 8] = [
 /// second is refused there for its wrong count.
 pub fn questions(sample: &Sample) -> Duration {
     through(sample, |v, a, b, out| {
-        match doors::monomial_eq(v, a, b, out) {
+        match doors::divisor_index_monomial_eq(v, a, b, out) {
             7 => 0,
             number => panic!("{number} for a wrong count"),
         }

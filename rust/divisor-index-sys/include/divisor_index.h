@@ -31,36 +31,37 @@ enum divisor_index_refusal {
 };
 
 /* libmonomial_work.a: two monomials, or two ratios. */
-uint32_t monomial_gcd(uint32_t variables, const uint8_t *a, size_t a_len, const uint8_t *b, size_t b_len, uint8_t *out, size_t out_len);
-uint32_t monomial_mul(uint32_t variables, const uint8_t *a, size_t a_len, const uint8_t *b, size_t b_len, uint8_t *out, size_t out_len);
-uint32_t monomial_whole_division(uint32_t variables, const uint8_t *a, size_t a_len, const uint8_t *b, size_t b_len, uint8_t *out, size_t out_len);
-uint32_t monomial_fraction_division(uint32_t variables, const uint8_t *a, size_t a_len, const uint8_t *b, size_t b_len, uint8_t *out, size_t out_len);
-uint32_t monomial_divides(uint32_t variables, const uint8_t *a, size_t a_len, const uint8_t *b, size_t b_len, uint8_t *out, size_t out_len);
-uint32_t monomial_eq(uint32_t variables, const uint8_t *a, size_t a_len, const uint8_t *b, size_t b_len, uint8_t *out, size_t out_len);
-uint32_t monomial_cmp(uint32_t variables, const uint8_t *a, size_t a_len, const uint8_t *b, size_t b_len, uint8_t *out, size_t out_len);
-uint32_t ratio_eq(uint32_t variables, const uint8_t *a, size_t a_len, const uint8_t *b, size_t b_len, uint8_t *out, size_t out_len);
-uint32_t ratio_cmp(uint32_t variables, const uint8_t *a, size_t a_len, const uint8_t *b, size_t b_len, uint8_t *out, size_t out_len);
+uint32_t divisor_index_monomial_gcd(uint32_t variables, const uint8_t *a, size_t a_len, const uint8_t *b, size_t b_len, uint8_t *out, size_t out_len);
+uint32_t divisor_index_monomial_mul(uint32_t variables, const uint8_t *a, size_t a_len, const uint8_t *b, size_t b_len, uint8_t *out, size_t out_len);
+uint32_t divisor_index_monomial_whole_division(uint32_t variables, const uint8_t *a, size_t a_len, const uint8_t *b, size_t b_len, uint8_t *out, size_t out_len);
+uint32_t divisor_index_monomial_fraction_division(uint32_t variables, const uint8_t *a, size_t a_len, const uint8_t *b, size_t b_len, uint8_t *out, size_t out_len);
+uint32_t divisor_index_monomial_divides(uint32_t variables, const uint8_t *a, size_t a_len, const uint8_t *b, size_t b_len, uint8_t *out, size_t out_len);
+uint32_t divisor_index_monomial_eq(uint32_t variables, const uint8_t *a, size_t a_len, const uint8_t *b, size_t b_len, uint8_t *out, size_t out_len);
+uint32_t divisor_index_monomial_cmp(uint32_t variables, const uint8_t *a, size_t a_len, const uint8_t *b, size_t b_len, uint8_t *out, size_t out_len);
+uint32_t divisor_index_ratio_eq(uint32_t variables, const uint8_t *a, size_t a_len, const uint8_t *b, size_t b_len, uint8_t *out, size_t out_len);
+uint32_t divisor_index_ratio_cmp(uint32_t variables, const uint8_t *a, size_t a_len, const uint8_t *b, size_t b_len, uint8_t *out, size_t out_len);
 
-/* libdivmask.a: masks, maxima and growth. divmask_divides returns 0 for not
- * divisible and 1 for unsure; it refuses nothing. divmask_update changes the
+/* libdivmask.a: masks, maxima and growth. divisor_index_divmask_divides returns 0 for not
+ * divisible and 1 for unsure; it refuses nothing. divisor_index_divmask_update changes the
  * maxima in place. */
-uint32_t divmask_mask(uint32_t variables, const uint8_t *maxima, size_t maxima_len, const uint8_t *monomial, size_t monomial_len, uint8_t *out, size_t out_len);
-uint32_t divmask_divides(uint32_t a, uint32_t b);
-uint32_t divmask_update(uint32_t variables, uint8_t *maxima, size_t maxima_len, const uint8_t *monomial, size_t monomial_len);
-uint32_t divmask_growth(uint32_t variables, const uint8_t *maxima, size_t maxima_len, uint8_t percentage, uint8_t *out, size_t out_len);
+uint32_t divisor_index_divmask_mask(uint32_t variables, const uint8_t *maxima, size_t maxima_len, const uint8_t *monomial, size_t monomial_len, uint8_t *out, size_t out_len);
+uint32_t divisor_index_divmask_divides(uint32_t a, uint32_t b);
+uint32_t divisor_index_divmask_update(uint32_t variables, uint8_t *maxima, size_t maxima_len, const uint8_t *monomial, size_t monomial_len);
+uint32_t divisor_index_divmask_growth(uint32_t variables, const uint8_t *maxima, size_t maxima_len, uint8_t percentage, uint8_t *out, size_t out_len);
 
 /* libfast_compare.a: the label map, in an image of the caller's.
- * fast_compare_length returns the image's length in bytes and
- * fast_compare_get_comparer a label; both return a refusal in the upper 32
- * bits. fast_compare_open and fast_compare_rebuild return 0 or a refusal. */
-uint64_t fast_compare_length(uint32_t variables, uint32_t capacity);
-uint32_t fast_compare_open(uint32_t variables, uint32_t capacity, uint8_t *image, size_t image_len);
-uint64_t fast_compare_get_comparer(uint8_t *image, size_t image_len, uint32_t index, const uint8_t *ratio, size_t ratio_len);
-uint32_t fast_compare_rebuild(uint8_t *image, size_t image_len);
+ * divisor_index_fast_compare_length returns the image's length in bytes, which is
+ * above 16, or 1. divisor_index_fast_compare_get_comparer returns a label, or a
+ * refusal in the upper 32 bits. divisor_index_fast_compare_open and
+ * divisor_index_fast_compare_rebuild return 0 or a refusal. */
+uint32_t divisor_index_fast_compare_length(uint32_t variables, uint32_t capacity);
+uint32_t divisor_index_fast_compare_open(uint32_t variables, uint32_t capacity, uint8_t *image, size_t image_len);
+uint64_t divisor_index_fast_compare_get_comparer(uint8_t *image, size_t image_len, uint32_t index, const uint8_t *ratio, size_t ratio_len);
+uint32_t divisor_index_fast_compare_rebuild(uint8_t *image, size_t image_len);
 
 /* libindex_sound.a: whether the bytes begin with the image of a valid index, 0
  * or 3. Nothing is changed. */
-uint32_t index_image_check(const uint8_t *image, size_t image_len);
+uint32_t divisor_index_check(const uint8_t *image, size_t image_len);
 
 /* To come: the indexes' divisor_index_*. */
 

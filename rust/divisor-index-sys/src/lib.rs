@@ -50,29 +50,29 @@ macro_rules! on_two {
 // crates/monomial_work. Refusals: 1 variables, 7 words, 9 powers, 5 room.
 on_two! {
     /// The greatest common divisor.
-    monomial_gcd;
+    divisor_index_monomial_gcd;
     /// The product.
-    monomial_mul;
+    divisor_index_monomial_mul;
     /// The quotient a / b, or a kind 4 word with payload 0 for none.
-    monomial_whole_division;
+    divisor_index_monomial_whole_division;
     /// The ratio a / b.
-    monomial_fraction_division;
+    divisor_index_monomial_fraction_division;
     /// Whether a divides b: a kind 4 word, yes 1, no 0.
-    monomial_divides;
+    divisor_index_monomial_divides;
     /// Whether two monomials are equal: a kind 4 word, yes 1, no 0.
-    monomial_eq;
+    divisor_index_monomial_eq;
     /// How two monomials compare: a kind 4 word, less 0, equal 1, greater 2.
-    monomial_cmp;
+    divisor_index_monomial_cmp;
     /// Whether two ratios are equal.
-    ratio_eq;
+    divisor_index_ratio_eq;
     /// How two ratios compare.
-    ratio_cmp;
+    divisor_index_ratio_cmp;
 }
 
 // crates/divmask. Refusals: 1 variables and maxima, 7 words, 5 room.
 extern "C" {
     /// The mask of a monomial, as a bare word.
-    pub fn divmask_mask(
+    pub fn divisor_index_divmask_mask(
         variables: u32,
         maxima: *const u8,
         maxima_len: usize,
@@ -83,10 +83,10 @@ extern "C" {
     ) -> u32;
 
     /// What two masks say of divisibility: 0 not divisible, 1 unsure.
-    pub fn divmask_divides(a: u32, b: u32) -> u32;
+    pub fn divisor_index_divmask_divides(a: u32, b: u32) -> u32;
 
     /// Raises the lent maxima to the powers of a monomial.
-    pub fn divmask_update(
+    pub fn divisor_index_divmask_update(
         variables: u32,
         maxima: *mut u8,
         maxima_len: usize,
@@ -96,7 +96,7 @@ extern "C" {
 
     /// Whether the maxima have grown beyond a percentage: a kind 4 word, yes 1,
     /// no 0.
-    pub fn divmask_growth(
+    pub fn divisor_index_divmask_growth(
         variables: u32,
         maxima: *const u8,
         maxima_len: usize,
@@ -111,10 +111,10 @@ extern "C" {
 extern "C" {
     /// The length in bytes of a label map's image. A refusal stands in the upper
     /// 32 bits.
-    pub fn fast_compare_length(variables: u32, capacity: u32) -> u64;
+    pub fn divisor_index_fast_compare_length(variables: u32, capacity: u32) -> u32;
 
     /// Writes an empty label map.
-    pub fn fast_compare_open(
+    pub fn divisor_index_fast_compare_open(
         variables: u32,
         capacity: u32,
         image: *mut u8,
@@ -123,7 +123,7 @@ extern "C" {
 
     /// The label of a value, which is stored if it is new. A refusal stands in
     /// the upper 32 bits.
-    pub fn fast_compare_get_comparer(
+    pub fn divisor_index_fast_compare_get_comparer(
         image: *mut u8,
         image_len: usize,
         index: u32,
@@ -132,14 +132,14 @@ extern "C" {
     ) -> u64;
 
     /// Spaces the labels evenly.
-    pub fn fast_compare_rebuild(image: *mut u8, image_len: usize) -> u32;
+    pub fn divisor_index_fast_compare_rebuild(image: *mut u8, image_len: usize) -> u32;
 }
 
 // crates/index_sound. Refusal: 3 image.
 extern "C" {
     /// Whether the bytes begin with the image of a valid index. It changes
     /// nothing.
-    pub fn index_image_check(image: *const u8, image_len: usize) -> u32;
+    pub fn divisor_index_check(image: *const u8, image_len: usize) -> u32;
 }
 
 // To come, with a line in exports.txt: the indexes' divisor_index_*.

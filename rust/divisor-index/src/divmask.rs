@@ -21,7 +21,7 @@ impl DivMap {
     pub fn map(&self, monomial: &[u32]) -> Result<DivMask, Refusal> {
         let variables = self.maxima.len() as u32;
         let made = Word::of(|out| {
-            doors::divmask_mask(variables, bytes(&self.maxima), bytes(monomial), out)
+            doors::divisor_index_divmask_mask(variables, bytes(&self.maxima), bytes(monomial), out)
         })?;
         Ok(DivMask(made.bare()))
     }
@@ -33,7 +33,7 @@ pub struct DivMask(pub u32);
 
 impl DivMask {
     pub fn divides(&self, other: &DivMask) -> DivMaskTestResult {
-        match doors::divmask_divides(self.0, other.0) {
+        match doors::divisor_index_divmask_divides(self.0, other.0) {
             0 => DivMaskTestResult::NotDivisible,
             _ => DivMaskTestResult::Unsure,
         }
@@ -80,13 +80,13 @@ impl MaximumExponentsTracker {
     pub fn update(&mut self, monomial: &[u32]) -> Result<(), Refusal> {
         let variables = self.len() as u32;
         let maxima = bytes_mut(&mut self.max_exponents);
-        Refusal::check(doors::divmask_update(variables, maxima, bytes(monomial)))
+        Refusal::check(doors::divisor_index_divmask_update(variables, maxima, bytes(monomial)))
     }
 
     pub fn has_grown_beyond_percentage(&self, percentage: u8) -> Result<bool, Refusal> {
         let variables = self.len() as u32;
         let maxima = bytes(&self.max_exponents);
-        let made = Word::of(|out| doors::divmask_growth(variables, maxima, percentage, out))?;
+        let made = Word::of(|out| doors::divisor_index_divmask_growth(variables, maxima, percentage, out))?;
         Ok(made.yes())
     }
 }

@@ -21,57 +21,57 @@ fn on_two(door: sys::OnTwo, variables: u32, a: &[u8], b: &[u8], out: &mut [u8]) 
     }
 }
 
-pub fn monomial_gcd(variables: u32, a: &[u8], b: &[u8], out: &mut [u8]) -> u32 {
-    on_two(sys::monomial_gcd, variables, a, b, out)
+pub fn divisor_index_monomial_gcd(variables: u32, a: &[u8], b: &[u8], out: &mut [u8]) -> u32 {
+    on_two(sys::divisor_index_monomial_gcd, variables, a, b, out)
 }
 
-pub fn monomial_mul(variables: u32, a: &[u8], b: &[u8], out: &mut [u8]) -> u32 {
-    on_two(sys::monomial_mul, variables, a, b, out)
+pub fn divisor_index_monomial_mul(variables: u32, a: &[u8], b: &[u8], out: &mut [u8]) -> u32 {
+    on_two(sys::divisor_index_monomial_mul, variables, a, b, out)
 }
 
-pub fn monomial_whole_division(variables: u32, a: &[u8], b: &[u8], out: &mut [u8]) -> u32 {
-    on_two(sys::monomial_whole_division, variables, a, b, out)
+pub fn divisor_index_monomial_whole_division(variables: u32, a: &[u8], b: &[u8], out: &mut [u8]) -> u32 {
+    on_two(sys::divisor_index_monomial_whole_division, variables, a, b, out)
 }
 
-pub fn monomial_fraction_division(variables: u32, a: &[u8], b: &[u8], out: &mut [u8]) -> u32 {
-    on_two(sys::monomial_fraction_division, variables, a, b, out)
+pub fn divisor_index_monomial_fraction_division(variables: u32, a: &[u8], b: &[u8], out: &mut [u8]) -> u32 {
+    on_two(sys::divisor_index_monomial_fraction_division, variables, a, b, out)
 }
 
-pub fn monomial_divides(variables: u32, a: &[u8], b: &[u8], out: &mut [u8]) -> u32 {
-    on_two(sys::monomial_divides, variables, a, b, out)
+pub fn divisor_index_monomial_divides(variables: u32, a: &[u8], b: &[u8], out: &mut [u8]) -> u32 {
+    on_two(sys::divisor_index_monomial_divides, variables, a, b, out)
 }
 
-pub fn monomial_eq(variables: u32, a: &[u8], b: &[u8], out: &mut [u8]) -> u32 {
-    on_two(sys::monomial_eq, variables, a, b, out)
+pub fn divisor_index_monomial_eq(variables: u32, a: &[u8], b: &[u8], out: &mut [u8]) -> u32 {
+    on_two(sys::divisor_index_monomial_eq, variables, a, b, out)
 }
 
-pub fn monomial_cmp(variables: u32, a: &[u8], b: &[u8], out: &mut [u8]) -> u32 {
-    on_two(sys::monomial_cmp, variables, a, b, out)
+pub fn divisor_index_monomial_cmp(variables: u32, a: &[u8], b: &[u8], out: &mut [u8]) -> u32 {
+    on_two(sys::divisor_index_monomial_cmp, variables, a, b, out)
 }
 
-pub fn ratio_eq(variables: u32, a: &[u8], b: &[u8], out: &mut [u8]) -> u32 {
-    on_two(sys::ratio_eq, variables, a, b, out)
+pub fn divisor_index_ratio_eq(variables: u32, a: &[u8], b: &[u8], out: &mut [u8]) -> u32 {
+    on_two(sys::divisor_index_ratio_eq, variables, a, b, out)
 }
 
-pub fn ratio_cmp(variables: u32, a: &[u8], b: &[u8], out: &mut [u8]) -> u32 {
-    on_two(sys::ratio_cmp, variables, a, b, out)
+pub fn divisor_index_ratio_cmp(variables: u32, a: &[u8], b: &[u8], out: &mut [u8]) -> u32 {
+    on_two(sys::divisor_index_ratio_cmp, variables, a, b, out)
 }
 
-pub fn divmask_mask(variables: u32, maxima: &[u8], monomial: &[u8], out: &mut [u8]) -> u32 {
-    on_two(sys::divmask_mask, variables, maxima, monomial, out)
+pub fn divisor_index_divmask_mask(variables: u32, maxima: &[u8], monomial: &[u8], out: &mut [u8]) -> u32 {
+    on_two(sys::divisor_index_divmask_mask, variables, maxima, monomial, out)
 }
 
 /// 0 not divisible, 1 unsure; it refuses nothing.
-pub fn divmask_divides(a: u32, b: u32) -> u32 {
+pub fn divisor_index_divmask_divides(a: u32, b: u32) -> u32 {
     // SAFETY: it takes all numbers.
-    unsafe { sys::divmask_divides(a, b) }
+    unsafe { sys::divisor_index_divmask_divides(a, b) }
 }
 
 /// Changes the maxima in place.
-pub fn divmask_update(variables: u32, maxima: &mut [u8], monomial: &[u8]) -> u32 {
+pub fn divisor_index_divmask_update(variables: u32, maxima: &mut [u8], monomial: &[u8]) -> u32 {
     // SAFETY: as in `on_two`, with `maxima` exclusive.
     unsafe {
-        sys::divmask_update(
+        sys::divisor_index_divmask_update(
             variables,
             maxima.as_mut_ptr(),
             maxima.len(),
@@ -81,10 +81,10 @@ pub fn divmask_update(variables: u32, maxima: &mut [u8], monomial: &[u8]) -> u32
     }
 }
 
-pub fn divmask_growth(variables: u32, maxima: &[u8], percentage: u8, out: &mut [u8]) -> u32 {
+pub fn divisor_index_divmask_growth(variables: u32, maxima: &[u8], percentage: u8, out: &mut [u8]) -> u32 {
     // SAFETY: as in `on_two`.
     unsafe {
-        sys::divmask_growth(
+        sys::divisor_index_divmask_growth(
             variables,
             maxima.as_ptr(),
             maxima.len(),
@@ -95,24 +95,23 @@ pub fn divmask_growth(variables: u32, maxima: &[u8], percentage: u8, out: &mut [
     }
 }
 
-/// The length in bytes of a label map's image, or a refusal in the upper 32
-/// bits.
-pub fn fast_compare_length(variables: u32, capacity: u32) -> u64 {
+/// The length in bytes of a label map's image, which is above 16, or a refusal.
+pub fn divisor_index_fast_compare_length(variables: u32, capacity: u32) -> u32 {
     // SAFETY: it takes all numbers.
-    unsafe { sys::fast_compare_length(variables, capacity) }
+    unsafe { sys::divisor_index_fast_compare_length(variables, capacity) }
 }
 
 /// Writes an empty label map.
-pub fn fast_compare_open(variables: u32, capacity: u32, image: &mut [u8]) -> u32 {
+pub fn divisor_index_fast_compare_open(variables: u32, capacity: u32, image: &mut [u8]) -> u32 {
     // SAFETY: as in `on_two`, with `image` exclusive.
-    unsafe { sys::fast_compare_open(variables, capacity, image.as_mut_ptr(), image.len()) }
+    unsafe { sys::divisor_index_fast_compare_open(variables, capacity, image.as_mut_ptr(), image.len()) }
 }
 
 /// The label of a value, or a refusal in the upper 32 bits.
-pub fn fast_compare_get_comparer(image: &mut [u8], index: u32, ratio: &[u8]) -> u64 {
+pub fn divisor_index_fast_compare_get_comparer(image: &mut [u8], index: u32, ratio: &[u8]) -> u64 {
     // SAFETY: as in `on_two`, with `image` exclusive.
     unsafe {
-        sys::fast_compare_get_comparer(
+        sys::divisor_index_fast_compare_get_comparer(
             image.as_mut_ptr(),
             image.len(),
             index,
@@ -122,13 +121,13 @@ pub fn fast_compare_get_comparer(image: &mut [u8], index: u32, ratio: &[u8]) -> 
     }
 }
 
-pub fn fast_compare_rebuild(image: &mut [u8]) -> u32 {
+pub fn divisor_index_fast_compare_rebuild(image: &mut [u8]) -> u32 {
     // SAFETY: as in `on_two`, with `image` exclusive.
-    unsafe { sys::fast_compare_rebuild(image.as_mut_ptr(), image.len()) }
+    unsafe { sys::divisor_index_fast_compare_rebuild(image.as_mut_ptr(), image.len()) }
 }
 
 /// Whether the bytes begin with the image of a valid index: 0 or 3.
-pub fn index_image_check(image: &[u8]) -> u32 {
+pub fn divisor_index_check(image: &[u8]) -> u32 {
     // SAFETY: as in `on_two`, and nothing is written.
-    unsafe { sys::index_image_check(image.as_ptr(), image.len()) }
+    unsafe { sys::divisor_index_check(image.as_ptr(), image.len()) }
 }

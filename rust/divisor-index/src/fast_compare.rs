@@ -4,7 +4,10 @@ use crate::{answer::bytes, doors, Refusal};
 
 /// The length in bytes of a map's image.
 pub fn length(variables: u32, capacity: u32) -> Result<usize, Refusal> {
-    let length = Refusal::or_answer(doors::fast_compare_length(variables, capacity))?;
+    let length = doors::divisor_index_fast_compare_length(variables, capacity);
+    if length <= 16 {
+        Refusal::check(length)?;
+    }
     Ok(length as usize)
 }
 
@@ -25,7 +28,7 @@ impl ComparerMap<Vec<u8>> {
 impl<I: AsRef<[u8]> + AsMut<[u8]>> ComparerMap<I> {
     /// An empty map in these bytes. Those past its length are not touched.
     pub fn open(variables: u32, capacity: u32, mut image: I) -> Result<Self, Refusal> {
-        let number = doors::fast_compare_open(variables, capacity, image.as_mut());
+        let number = doors::divisor_index_fast_compare_open(variables, capacity, image.as_mut());
         Refusal::check(number)?;
         Ok(ComparerMap { image })
     }
@@ -47,12 +50,12 @@ impl<I: AsRef<[u8]> + AsMut<[u8]>> ComparerMap<I> {
     /// [`Refusal::NoLabel`] a rebuild is needed.
     pub fn get_comparer(&mut self, index: u32, ratio: &[u32]) -> Result<u32, Refusal> {
         let image = self.image.as_mut();
-        Refusal::or_answer(doors::fast_compare_get_comparer(image, index, bytes(ratio)))
+        Refusal::or_answer(doors::divisor_index_fast_compare_get_comparer(image, index, bytes(ratio)))
     }
 
     /// Spaces the comparers of all values evenly. Those given before no longer
     /// count.
     pub fn rebuild(&mut self) -> Result<(), Refusal> {
-        Refusal::check(doors::fast_compare_rebuild(self.image.as_mut()))
+        Refusal::check(doors::divisor_index_fast_compare_rebuild(self.image.as_mut()))
     }
 }

@@ -5,5 +5,5 @@ use crate::{doors, Refusal};
 /// Whether the bytes begin with the image of a valid index, else
 /// [`Refusal::Unsound`]. Bytes past its length are not judged.
 pub fn check(image: &[u8]) -> Result<(), Refusal> {
-    Refusal::check(doors::index_image_check(image))
+    Refusal::check(doors::divisor_index_check(image))
 }

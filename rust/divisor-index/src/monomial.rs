@@ -8,43 +8,43 @@ use crate::{
 };
 
 pub fn gcd(variables: u32, a: &[u32], b: &[u32]) -> Result<Vec<u32>, Refusal> {
-    let made = Product::of(|out| doors::monomial_gcd(variables, bytes(a), bytes(b), out))?;
+    let made = Product::of(|out| doors::divisor_index_monomial_gcd(variables, bytes(a), bytes(b), out))?;
     Ok(made.words())
 }
 
 /// The product of a and b.
 pub fn mul(variables: u32, a: &[u32], b: &[u32]) -> Result<Vec<u32>, Refusal> {
-    let made = Product::of(|out| doors::monomial_mul(variables, bytes(a), bytes(b), out))?;
+    let made = Product::of(|out| doors::divisor_index_monomial_mul(variables, bytes(a), bytes(b), out))?;
     Ok(made.words())
 }
 
 /// a / b, or none where b does not divide a.
 pub fn whole_division(variables: u32, a: &[u32], b: &[u32]) -> Result<Option<Vec<u32>>, Refusal> {
     let made =
-        Product::of(|out| doors::monomial_whole_division(variables, bytes(a), bytes(b), out))?;
+        Product::of(|out| doors::divisor_index_monomial_whole_division(variables, bytes(a), bytes(b), out))?;
     Ok(made.quotient())
 }
 
 /// The ratio a / b.
 pub fn fraction_division(variables: u32, a: &[u32], b: &[u32]) -> Result<Vec<u32>, Refusal> {
     let made =
-        Product::of(|out| doors::monomial_fraction_division(variables, bytes(a), bytes(b), out))?;
+        Product::of(|out| doors::divisor_index_monomial_fraction_division(variables, bytes(a), bytes(b), out))?;
     Ok(made.words())
 }
 
 /// Whether a divides b.
 pub fn divides(variables: u32, a: &[u32], b: &[u32]) -> Result<bool, Refusal> {
-    let made = Word::of(|out| doors::monomial_divides(variables, bytes(a), bytes(b), out))?;
+    let made = Word::of(|out| doors::divisor_index_monomial_divides(variables, bytes(a), bytes(b), out))?;
     Ok(made.yes())
 }
 
 pub fn eq(variables: u32, a: &[u32], b: &[u32]) -> Result<bool, Refusal> {
-    let made = Word::of(|out| doors::monomial_eq(variables, bytes(a), bytes(b), out))?;
+    let made = Word::of(|out| doors::divisor_index_monomial_eq(variables, bytes(a), bytes(b), out))?;
     Ok(made.yes())
 }
 
 /// How a and b compare in the graded reverse lexicographic order.
 pub fn ord(variables: u32, a: &[u32], b: &[u32]) -> Result<Ordering, Refusal> {
-    let made = Word::of(|out| doors::monomial_cmp(variables, bytes(a), bytes(b), out))?;
+    let made = Word::of(|out| doors::divisor_index_monomial_cmp(variables, bytes(a), bytes(b), out))?;
     Ok(made.ordering())
 }

@@ -8,12 +8,12 @@ use crate::{
 };
 
 pub fn eq(variables: u32, a: &[u32], b: &[u32]) -> Result<bool, Refusal> {
-    let made = Word::of(|out| doors::ratio_eq(variables, bytes(a), bytes(b), out))?;
+    let made = Word::of(|out| doors::divisor_index_ratio_eq(variables, bytes(a), bytes(b), out))?;
     Ok(made.yes())
 }
 
 /// How a and b compare in the graded reverse lexicographic order.
 pub fn ord(variables: u32, a: &[u32], b: &[u32]) -> Result<Ordering, Refusal> {
-    let made = Word::of(|out| doors::ratio_cmp(variables, bytes(a), bytes(b), out))?;
+    let made = Word::of(|out| doors::divisor_index_ratio_cmp(variables, bytes(a), bytes(b), out))?;
     Ok(made.ordering())
 }

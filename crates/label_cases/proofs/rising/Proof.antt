@@ -6,7 +6,7 @@ use Rattle.label_cases.proofs.rising.Statement.{statement}
 use Rattle.label_cases.proofs.rising.Tie as tie
 use Rattle.label_cases.proofs.rising.Reads as reads
 use Rattle.label_cases.proofs.rising.Lts as lts
-use Rattle.fast_compare.proofs.doors.fast_compare_get_comparer.Reads as fast-compare-get-comparer-reads
+use Rattle.fast_compare.proofs.doors.divisor_index_fast_compare_get_comparer.Reads as divisor-index-fast-compare-get-comparer-reads
 use Rattle.label_cases.proofs.report.Reads as report-reads
 use Rattle.words.proofs.put.Reads as put-reads
 
@@ -46,8 +46,8 @@ slice-aggregate-fast-compare-get-comparer :
 slice-aggregate-fast-compare-get-comparer c = search needs
 
 -- src/main.rt:57:13
-fast-compare-get-comparer-requires : tie.Need-fast-compare-get-comparer-requires Inv-loop μ-loop
-fast-compare-get-comparer-requires c κs = search needs
+divisor-index-fast-compare-get-comparer-requires : tie.Need-fast-compare-get-comparer-requires Inv-loop μ-loop
+divisor-index-fast-compare-get-comparer-requires c κs = search needs
 
 -- src/main.rt:59:13
 report-requires : tie.Need-report-requires Inv-loop μ-loop
@@ -94,7 +94,7 @@ rising-spec =
     add-put
     put-requires-2
     slice-aggregate-fast-compare-get-comparer
-    fast-compare-get-comparer-requires
+    divisor-index-fast-compare-get-comparer-requires
     report-requires
     same-length
     returns

@@ -8,7 +8,7 @@ use Rattle.oracle_replay.proofs.comparer.Tie as tie
 use Rattle.oracle_replay.proofs.comparer.Reads as reads
 use Rattle.oracle_replay.proofs.comparer.Lts as lts
 use Rattle.bytes.proofs.copy.Reads as copy-reads
-use Rattle.fast_compare.proofs.doors.fast_compare_get_comparer.Reads as fast-compare-get-comparer-reads
+use Rattle.fast_compare.proofs.doors.divisor_index_fast_compare_get_comparer.Reads as divisor-index-fast-compare-get-comparer-reads
 use Rattle.oracle_replay.proofs.holds.Reads as holds-reads
 
 -- src/main.rt:115:9
@@ -32,8 +32,8 @@ slice-aggregate-fast-compare-get-comparer : tie.Need-slice-aggregate-fast-compar
 slice-aggregate-fast-compare-get-comparer c = sym (length-take-le (length (c .before .before .before .before .before .before .before .before .args .a .now)) _ (omega (arith, c .before .before .copy .kept)))
 
 -- src/main.rt:118:9
-fast-compare-get-comparer-requires : tie.Need-fast-compare-get-comparer-requires
-fast-compare-get-comparer-requires c κs = search needs
+divisor-index-fast-compare-get-comparer-requires : tie.Need-fast-compare-get-comparer-requires
+divisor-index-fast-compare-get-comparer-requires c κs = search needs
 
 -- src/main.rt:119:26
 cast-if2 : tie.Need-cast-if2
@@ -68,7 +68,7 @@ comparer-spec =
     copy-requires
     array-borrow-prefix-out
     slice-aggregate-fast-compare-get-comparer
-    fast-compare-get-comparer-requires
+    divisor-index-fast-compare-get-comparer-requires
     cast-if2
     returns-2
     cast-if3

@@ -6,7 +6,7 @@ use Rattle.oracle_replay.proofs.growth.Statement.{statement}
 use Rattle.oracle_replay.proofs.growth.Tie as tie
 use Rattle.oracle_replay.proofs.growth.Reads as reads
 use Rattle.oracle_replay.proofs.growth.Lts as lts
-use Rattle.divmask.proofs.doors.divmask_growth.Reads as divmask-growth-reads
+use Rattle.divmask.proofs.doors.divisor_index_divmask_growth.Reads as divisor-index-divmask-growth-reads
 use Rattle.oracle_replay.proofs.holds.Reads as holds-reads
 
 -- src/main.rt:96:9
@@ -30,8 +30,8 @@ slice-aggregate-divmask-growth : tie.Need-slice-aggregate-divmask-growth
 slice-aggregate-divmask-growth c = sym (length-take-le (c .before .before .before .before .before .before .before .args .c .room) _ (omega arith))
 
 -- src/main.rt:101:9
-divmask-growth-requires : tie.Need-divmask-growth-requires
-divmask-growth-requires c κs = search needs
+divisor-index-divmask-growth-requires : tie.Need-divmask-growth-requires
+divisor-index-divmask-growth-requires c κs = search needs
 
 -- src/main.rt:103:9
 returns-3 : tie.Need-returns-3
@@ -54,7 +54,7 @@ growth-spec =
     shared-slice-read-divmask-growth
     array-borrow-prefix-out
     slice-aggregate-divmask-growth
-    divmask-growth-requires
+    divisor-index-divmask-growth-requires
     returns-3
     holds-requires
     returns-4)

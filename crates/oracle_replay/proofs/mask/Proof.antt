@@ -6,7 +6,7 @@ use Rattle.oracle_replay.proofs.mask.Statement.{statement}
 use Rattle.oracle_replay.proofs.mask.Tie as tie
 use Rattle.oracle_replay.proofs.mask.Reads as reads
 use Rattle.oracle_replay.proofs.mask.Lts as lts
-use Rattle.divmask.proofs.doors.divmask_mask.Reads as divmask-mask-reads
+use Rattle.divmask.proofs.doors.divisor_index_divmask_mask.Reads as divisor-index-divmask-mask-reads
 use Rattle.oracle_replay.proofs.holds.Reads as holds-reads
 
 -- src/main.rt:59:9
@@ -22,8 +22,8 @@ slice-aggregate-divmask-mask : tie.Need-slice-aggregate-divmask-mask
 slice-aggregate-divmask-mask c = sym (length-take-le (c .before .before .before .before .before .args .c .room) _ (omega arith))
 
 -- src/main.rt:61:9
-divmask-mask-requires : tie.Need-divmask-mask-requires
-divmask-mask-requires c κs = search needs
+divisor-index-divmask-mask-requires : tie.Need-divmask-mask-requires
+divisor-index-divmask-mask-requires c κs = search needs
 
 -- src/main.rt:63:9
 returns-2 : tie.Need-returns-2
@@ -44,7 +44,7 @@ mask-spec =
     returns
     array-borrow-prefix-out
     slice-aggregate-divmask-mask
-    divmask-mask-requires
+    divisor-index-divmask-mask-requires
     returns-2
     holds-requires
     returns-3)

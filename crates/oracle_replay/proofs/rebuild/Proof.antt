@@ -8,7 +8,7 @@ use Rattle.oracle_replay.proofs.rebuild.Tie as tie
 use Rattle.oracle_replay.proofs.rebuild.Reads as reads
 use Rattle.oracle_replay.proofs.rebuild.Lts as lts
 use Rattle.bytes.proofs.copy.Reads as copy-reads
-use Rattle.fast_compare.proofs.doors.fast_compare_rebuild.Reads as fast-compare-rebuild-reads
+use Rattle.fast_compare.proofs.doors.divisor_index_fast_compare_rebuild.Reads as divisor-index-fast-compare-rebuild-reads
 use Rattle.oracle_replay.proofs.holds.Reads as holds-reads
 
 -- src/main.rt:132:9
@@ -32,8 +32,8 @@ slice-aggregate-fast-compare-rebuild : tie.Need-slice-aggregate-fast-compare-reb
 slice-aggregate-fast-compare-rebuild c = sym (length-take-le (length (c .before .before .before .before .before .before .before .args .a .now)) _ (omega (arith, c .before .before .copy .kept)))
 
 -- src/main.rt:135:9
-fast-compare-rebuild-requires : tie.Need-fast-compare-rebuild-requires
-fast-compare-rebuild-requires c κs = search needs
+divisor-index-fast-compare-rebuild-requires : tie.Need-fast-compare-rebuild-requires
+divisor-index-fast-compare-rebuild-requires c κs = search needs
 
 -- src/main.rt:137:9
 returns-2 : tie.Need-returns-2
@@ -56,7 +56,7 @@ rebuild-spec =
     copy-requires
     array-borrow-prefix-out
     slice-aggregate-fast-compare-rebuild
-    fast-compare-rebuild-requires
+    divisor-index-fast-compare-rebuild-requires
     returns-2
     holds-requires
     returns-3)

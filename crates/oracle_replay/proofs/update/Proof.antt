@@ -8,7 +8,7 @@ use Rattle.oracle_replay.proofs.update.Tie as tie
 use Rattle.oracle_replay.proofs.update.Reads as reads
 use Rattle.oracle_replay.proofs.update.Lts as lts
 use Rattle.bytes.proofs.copy.Reads as copy-reads
-use Rattle.divmask.proofs.doors.divmask_update.Reads as divmask-update-reads
+use Rattle.divmask.proofs.doors.divisor_index_divmask_update.Reads as divisor-index-divmask-update-reads
 use Rattle.oracle_replay.proofs.holds.Reads as holds-reads
 
 -- src/main.rt:82:9
@@ -32,8 +32,8 @@ slice-aggregate-divmask-update : tie.Need-slice-aggregate-divmask-update
 slice-aggregate-divmask-update c = sym (length-take-le (length (c .before .before .before .before .before .before .before .before .args .a .now)) _ (omega (arith, c .before .before .copy .kept)))
 
 -- src/main.rt:85:9
-divmask-update-requires : tie.Need-divmask-update-requires
-divmask-update-requires c κs = search needs
+divisor-index-divmask-update-requires : tie.Need-divmask-update-requires
+divisor-index-divmask-update-requires c κs = search needs
 
 -- src/main.rt:87:9
 returns-2 : tie.Need-returns-2
@@ -56,7 +56,7 @@ update-spec =
     copy-requires
     array-borrow-prefix-out
     slice-aggregate-divmask-update
-    divmask-update-requires
+    divisor-index-divmask-update-requires
     returns-2
     holds-requires
     returns-3)

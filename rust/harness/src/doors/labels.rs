@@ -100,13 +100,13 @@ pub fn compare_opening(
     buffer: usize,
     tally: &mut Tally,
 ) -> Result<Option<(LabelMap, Vec<u8>)>, String> {
-    let length = doors::fast_compare_length(variables, capacity);
+    let length = doors::divisor_index_fast_compare_length(variables, capacity);
     let expected = size(variables, capacity).map(|size| 4 * size as u32);
     let bounded = expected.is_ok_and(|length| {
         let most = 256 * (variables + 2) * (capacity + 1);
         length > 16 && length <= most
     });
-    if length != number(expected) || expected.is_ok() != bounded {
+    if length != expected.unwrap_or_else(|refusal| refusal) || expected.is_ok() != bounded {
         return Err(format!(
             "length for {variables} and {capacity}: {length:x}, expected {expected:x?}"
         ));
@@ -297,10 +297,10 @@ fn by_port(image: &[u8], call: Call) -> (u64, Memory) {
     let (image, ratio, _) = memory.split();
     let number = match call {
         Call::Open(variables, capacity) => {
-            doors::fast_compare_open(variables, capacity, image).into()
+            doors::divisor_index_fast_compare_open(variables, capacity, image).into()
         }
-        Call::Ask(value) => doors::fast_compare_get_comparer(image, value.index, ratio),
-        Call::Rebuild => doors::fast_compare_rebuild(image).into(),
+        Call::Ask(value) => doors::divisor_index_fast_compare_get_comparer(image, value.index, ratio),
+        Call::Rebuild => doors::divisor_index_fast_compare_rebuild(image).into(),
     };
     (number, memory)
 }

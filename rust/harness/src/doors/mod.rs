@@ -72,19 +72,19 @@ fn by_port(lent: &Lent) -> Outcome {
     let v = lent.variables;
     let (first, second, out) = memory.split();
     let number = match lent.leaf {
-        Leaf::Gcd => doors::monomial_gcd(v, first, second, out),
-        Leaf::WholeDivision => doors::monomial_whole_division(v, first, second, out),
-        Leaf::Divides => doors::monomial_divides(v, first, second, out),
-        Leaf::FractionDivision => doors::monomial_fraction_division(v, first, second, out),
-        Leaf::Mul => doors::monomial_mul(v, first, second, out),
-        Leaf::Eq => doors::monomial_eq(v, first, second, out),
-        Leaf::Ord => doors::monomial_cmp(v, first, second, out),
-        Leaf::EqRatio => doors::ratio_eq(v, first, second, out),
-        Leaf::OrdRatio => doors::ratio_cmp(v, first, second, out),
-        Leaf::Mask => doors::divmask_mask(v, first, second, out),
-        Leaf::MaskDivides => doors::divmask_divides(mask(first), mask(second)),
-        Leaf::Update => doors::divmask_update(v, first, second),
-        Leaf::Growth => doors::divmask_growth(v, first, lent.percentage, out),
+        Leaf::Gcd => doors::divisor_index_monomial_gcd(v, first, second, out),
+        Leaf::WholeDivision => doors::divisor_index_monomial_whole_division(v, first, second, out),
+        Leaf::Divides => doors::divisor_index_monomial_divides(v, first, second, out),
+        Leaf::FractionDivision => doors::divisor_index_monomial_fraction_division(v, first, second, out),
+        Leaf::Mul => doors::divisor_index_monomial_mul(v, first, second, out),
+        Leaf::Eq => doors::divisor_index_monomial_eq(v, first, second, out),
+        Leaf::Ord => doors::divisor_index_monomial_cmp(v, first, second, out),
+        Leaf::EqRatio => doors::divisor_index_ratio_eq(v, first, second, out),
+        Leaf::OrdRatio => doors::divisor_index_ratio_cmp(v, first, second, out),
+        Leaf::Mask => doors::divisor_index_divmask_mask(v, first, second, out),
+        Leaf::MaskDivides => doors::divisor_index_divmask_divides(mask(first), mask(second)),
+        Leaf::Update => doors::divisor_index_divmask_update(v, first, second),
+        Leaf::Growth => doors::divisor_index_divmask_growth(v, first, lent.percentage, out),
     };
     Outcome {
         number,

@@ -111,7 +111,7 @@ pub fn compare(image: &[u8], tally: &mut Tally) -> Result<(), String> {
 fn ask(image: &[u8], behind: usize) -> Result<u32, String> {
     let whole = [image, &vec![0; behind]].concat();
     let mut memory = Memory::new(&whole, &[], 0);
-    let number = doors::index_image_check(&memory.split().0[..image.len()]);
+    let number = doors::divisor_index_check(&memory.split().0[..image.len()]);
     match memory.bytes == Memory::new(&whole, &[], 0).bytes {
         true => Ok(number),
         false => Err(format!("a byte was changed, {}", show(image))),

@@ -36,7 +36,7 @@ pub fn deepest(kind: Kind, form: Form) -> Vec<u8> {
 /// If they are too few, the process ends.
 fn check_in_thread(image: Vec<u8>, stack: usize) -> u32 {
     let thread = thread::Builder::new().stack_size(stack);
-    let thread = thread.spawn(move || doors::index_image_check(&image));
+    let thread = thread.spawn(move || doors::divisor_index_check(&image));
     thread.expect("a thread").join().expect("a number")
 }
 

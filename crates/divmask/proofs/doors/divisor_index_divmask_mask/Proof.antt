@@ -10,10 +10,10 @@ use Rattle.monomial.proofs.Laws.{lent-canonical}
 use Rattle.divmask.proofs.Served.{put-one}
 use Rattle.divmask.specs.Doors.{maskNumber, maskBytes}
 use borrow.Author.Needs.{needs}
-use Rattle.divmask.proofs.doors.divmask_mask.Statement.{statement}
-use Rattle.divmask.proofs.doors.divmask_mask.Tie as tie
-use Rattle.divmask.proofs.doors.divmask_mask.Reads as reads
-use Rattle.divmask.proofs.doors.divmask_mask.Lts as lts
+use Rattle.divmask.proofs.doors.divisor_index_divmask_mask.Statement.{statement}
+use Rattle.divmask.proofs.doors.divisor_index_divmask_mask.Tie as tie
+use Rattle.divmask.proofs.doors.divisor_index_divmask_mask.Reads as reads
+use Rattle.divmask.proofs.doors.divisor_index_divmask_mask.Lts as lts
 use Rattle.divmask.proofs.map.Reads as map-reads
 use Rattle.divmask.proofs.tracker.maxima_good.Reads as maxima-good-reads
 use Rattle.monomial.proofs.is_canonical.Reads as is-canonical-reads
@@ -59,8 +59,8 @@ returns-4 : tie.Need-returns-4
 unfolding maskNumber maskBytes
 returns-4 c = let w = c .before .before .before .map .ensures ∙ mask-whole (words (c .before .before .before .before .before .before .before .before .before .before .before .before .before .args .maxima .now)) (lent-canonical 1 (c .before .before .before .before .before .before .before .before .before .before .before .before .before .args .variables) (c .before .before .before .before .before .before .before .before .before .before .before .before .before .args .monomial .now) .0 (sym (c .before .before .before .before .before .before .before .is-canonical .ensures) ∙ not-false _ (c .before .before .before .before .before .before .if2 .left)) .1) in rw (sym (c .before .before .before .before .before .before .before .before .before .maxima-good .ensures) ∙ not-false _ (c .before .before .before .before .before .before .before .before .if1 .left), sym (c .before .before .before .before .before .before .before .is-canonical .ensures) ∙ not-false _ (c .before .before .before .before .before .before .if2 .left), le-leb 4 (length (c .before .before .before .before .before .before .before .before .before .before .before .before .before .args .out .now)) (omega arith), ← w) (refl, c .before .before .put .ensures ∙ put-one (c .before .before .before .before .before .before .before .before .before .before .before .before .before .args .out .now) (c .before .before .before .map .result) (omega arith))
 
-pub divmask-mask-spec : {M : Type 1} → statement M
-divmask-mask-spec =
+pub divisor-index-divmask-mask-spec : {M : Type 1} → statement M
+divisor-index-divmask-mask-spec =
     tie.close
     (tie.spec
     maxima-good-requires

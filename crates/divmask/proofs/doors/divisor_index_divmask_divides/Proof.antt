@@ -1,10 +1,10 @@
 use mathlib.Core.Path.{sym, ap, _∙_}
 use Rattle.divmask.specs.Doors.{testNumber}
 use borrow.Author.Needs.{needs}
-use Rattle.divmask.proofs.doors.divmask_divides.Statement.{statement}
-use Rattle.divmask.proofs.doors.divmask_divides.Tie as tie
-use Rattle.divmask.proofs.doors.divmask_divides.Reads as reads
-use Rattle.divmask.proofs.doors.divmask_divides.Lts as lts
+use Rattle.divmask.proofs.doors.divisor_index_divmask_divides.Statement.{statement}
+use Rattle.divmask.proofs.doors.divisor_index_divmask_divides.Tie as tie
+use Rattle.divmask.proofs.doors.divisor_index_divmask_divides.Reads as reads
+use Rattle.divmask.proofs.doors.divisor_index_divmask_divides.Lts as lts
 use Rattle.divmask.proofs.divides.Reads as divides-reads
 
 -- src/doors.rt:33:11
@@ -29,6 +29,6 @@ returns-2 : tie.Need-returns-2
 unfolding testNumber
 returns-2 c = ap testNumber (sym (c .enum-told2 .given .1) ∙ c .before .before .divides .ensures)
 
-pub divmask-divides-spec : {M : Type 1} → statement M
-divmask-divides-spec =
+pub divisor-index-divmask-divides-spec : {M : Type 1} → statement M
+divisor-index-divmask-divides-spec =
     tie.close (tie.spec divides-requires enum-told enum-told-2 returns returns-2)

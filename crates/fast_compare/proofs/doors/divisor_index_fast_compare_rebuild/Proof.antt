@@ -1,10 +1,10 @@
 use Rattle.words.proofs.Answers.{failed, passed}
 use Rattle.fast_compare.proofs.Replies.{rebuilt-unsound, rebuilt-served}
 use borrow.Author.Needs.{needs}
-use Rattle.fast_compare.proofs.doors.fast_compare_rebuild.Statement.{statement}
-use Rattle.fast_compare.proofs.doors.fast_compare_rebuild.Tie as tie
-use Rattle.fast_compare.proofs.doors.fast_compare_rebuild.Reads as reads
-use Rattle.fast_compare.proofs.doors.fast_compare_rebuild.Lts as lts
+use Rattle.fast_compare.proofs.doors.divisor_index_fast_compare_rebuild.Statement.{statement}
+use Rattle.fast_compare.proofs.doors.divisor_index_fast_compare_rebuild.Tie as tie
+use Rattle.fast_compare.proofs.doors.divisor_index_fast_compare_rebuild.Reads as reads
+use Rattle.fast_compare.proofs.doors.divisor_index_fast_compare_rebuild.Lts as lts
 use Rattle.fast_compare.proofs.rebuild.Reads as rebuild-reads
 use Rattle.fast_compare.proofs.soundness.sound.Reads as sound-reads
 
@@ -32,7 +32,7 @@ same-length-2 c = search needs
 returns-2 : tie.Need-returns-2
 returns-2 c = rebuilt-served (c .before .before .before .before .before .before .before .before .args .image .now) _ (passed _ (c .before .before .before .before .before .sound .ensures) (c .before .before .before .before .if1 .left)) (c .before .before .rebuild .ensures)
 
-pub fast-compare-rebuild-spec : {M : Type 1} → statement M
-fast-compare-rebuild-spec =
+pub divisor-index-fast-compare-rebuild-spec : {M : Type 1} → statement M
+divisor-index-fast-compare-rebuild-spec =
     tie.close
     (tie.spec sound-requires same-length returns rebuild-requires same-length-2 returns-2)

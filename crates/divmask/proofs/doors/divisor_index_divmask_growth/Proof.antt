@@ -10,10 +10,10 @@ use Rattle.divmask.specs.Tracker.{grown}
 use Rattle.divmask.proofs.Served.{put-one}
 use Rattle.divmask.specs.Doors.{growthNumber, growthBytes}
 use borrow.Author.Needs.{needs}
-use Rattle.divmask.proofs.doors.divmask_growth.Statement.{statement}
-use Rattle.divmask.proofs.doors.divmask_growth.Tie as tie
-use Rattle.divmask.proofs.doors.divmask_growth.Reads as reads
-use Rattle.divmask.proofs.doors.divmask_growth.Lts as lts
+use Rattle.divmask.proofs.doors.divisor_index_divmask_growth.Statement.{statement}
+use Rattle.divmask.proofs.doors.divisor_index_divmask_growth.Tie as tie
+use Rattle.divmask.proofs.doors.divisor_index_divmask_growth.Reads as reads
+use Rattle.divmask.proofs.doors.divisor_index_divmask_growth.Lts as lts
 use Rattle.divmask.proofs.tracker.has_grown_beyond_percentage.Reads as has-grown-beyond-percentage-reads
 use Rattle.divmask.proofs.tracker.maxima_good.Reads as maxima-good-reads
 use Rattle.words.proofs.answer_word.Reads as answer-word-reads
@@ -54,8 +54,8 @@ returns-3 : tie.Need-returns-3
 unfolding growthNumber growthBytes
 returns-3 c = let e : (c .before .before .before .before .before .if3 .answer) ≡ cond (grown (c .before .before .before .before .before .before .before .before .before .before .before .before .args .variables) (words (c .before .before .before .before .before .before .before .before .before .before .before .before .args .maxima .now)) (c .before .before .before .before .before .before .before .before .before .before .before .before .args .percentage)) 1 0 = ⊎-elim (λ w. w .1 ∙ rw (sym (c .before .before .before .before .before .before .has-grown-beyond-percentage .ensures) ∙ w .0 .taken)) (λ w. w .1 ∙ rw (sym (c .before .before .before .before .before .before .has-grown-beyond-percentage .ensures) ∙ w .0 .left)) (c .before .before .before .before .before .if3 .came) in rw (sym (c .before .before .before .before .before .before .before .before .before .maxima-good .ensures) ∙ not-false _ (c .before .before .before .before .before .before .before .before .if1 .left), le-leb 4 (length (c .before .before .before .before .before .before .before .before .before .before .before .before .args .out .now)) (omega arith), ← e, ← (c .before .before .before .answer-word .ensures)) (refl, c .before .before .put .ensures ∙ put-one (c .before .before .before .before .before .before .before .before .before .before .before .before .args .out .now) (c .before .before .before .answer-word .result) (omega arith))
 
-pub divmask-growth-spec : {M : Type 1} → statement M
-divmask-growth-spec =
+pub divisor-index-divmask-growth-spec : {M : Type 1} → statement M
+divisor-index-divmask-growth-spec =
     tie.close
     (tie.spec
     maxima-good-requires

@@ -2,10 +2,10 @@ use native.Mathlib.Omega.{arith}
 use Rattle.words.proofs.Answers.{failed, passed}
 use Rattle.fast_compare.proofs.Replies.{open-unasked, open-short, open-served}
 use borrow.Author.Needs.{needs}
-use Rattle.fast_compare.proofs.doors.fast_compare_open.Statement.{statement}
-use Rattle.fast_compare.proofs.doors.fast_compare_open.Tie as tie
-use Rattle.fast_compare.proofs.doors.fast_compare_open.Reads as reads
-use Rattle.fast_compare.proofs.doors.fast_compare_open.Lts as lts
+use Rattle.fast_compare.proofs.doors.divisor_index_fast_compare_open.Statement.{statement}
+use Rattle.fast_compare.proofs.doors.divisor_index_fast_compare_open.Tie as tie
+use Rattle.fast_compare.proofs.doors.divisor_index_fast_compare_open.Reads as reads
+use Rattle.fast_compare.proofs.doors.divisor_index_fast_compare_open.Lts as lts
 use Rattle.fast_compare.proofs.asked.Reads as asked-reads
 use Rattle.fast_compare.proofs.length.Reads as length-reads
 use Rattle.fast_compare.proofs.open.Reads as open-reads
@@ -38,7 +38,7 @@ same-length c = search needs
 returns-3 : tie.Need-returns-3
 returns-3 c = open-served (c .before .before .before .before .before .before .before .before .before .args .variables) (c .before .before .before .before .before .before .before .before .before .args .capacity) (c .before .before .before .before .before .before .before .before .before .args .image .now) _ (passed _ (c .before .before .before .before .before .before .before .asked .ensures) (c .before .before .before .before .before .before .if1 .left)) (omega (arith, c .before .before .before .before .before .length .ensures)) (c .before .before .«open» .ensures)
 
-pub fast-compare-open-spec : {M : Type 1} → statement M
-fast-compare-open-spec =
+pub divisor-index-fast-compare-open-spec : {M : Type 1} → statement M
+divisor-index-fast-compare-open-spec =
     tie.close
     (tie.spec asked-requires returns length-requires returns-2 open-requires same-length returns-3)

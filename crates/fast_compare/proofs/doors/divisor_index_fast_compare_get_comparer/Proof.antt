@@ -1,9 +1,9 @@
 use Rattle.fast_compare.proofs.Replies.{replied}
 use borrow.Author.Needs.{needs}
-use Rattle.fast_compare.proofs.doors.fast_compare_get_comparer.Statement.{statement}
-use Rattle.fast_compare.proofs.doors.fast_compare_get_comparer.Tie as tie
-use Rattle.fast_compare.proofs.doors.fast_compare_get_comparer.Reads as reads
-use Rattle.fast_compare.proofs.doors.fast_compare_get_comparer.Lts as lts
+use Rattle.fast_compare.proofs.doors.divisor_index_fast_compare_get_comparer.Statement.{statement}
+use Rattle.fast_compare.proofs.doors.divisor_index_fast_compare_get_comparer.Tie as tie
+use Rattle.fast_compare.proofs.doors.divisor_index_fast_compare_get_comparer.Reads as reads
+use Rattle.fast_compare.proofs.doors.divisor_index_fast_compare_get_comparer.Lts as lts
 use Rattle.fast_compare.proofs.doors.ask.Reads as ask-reads
 use Rattle.fast_compare.proofs.doors.number.Reads as number-reads
 
@@ -23,6 +23,6 @@ same-length c = search needs
 returns : tie.Need-returns
 returns c = replied (c .before .before .before .before .before .before .before .args .index) (c .before .before .before .before .before .before .before .args .ratio .now) (c .before .before .before .ask .result) (c .before .before .before .before .before .before .before .args .image .now) (c .before .before .before .ask .last .0) (c .number .result) (c .before .before .before .ask .ensures) (c .number .ensures .0) (c .number .ensures .1)
 
-pub fast-compare-get-comparer-spec : {M : Type 1} → statement M
-fast-compare-get-comparer-spec =
+pub divisor-index-fast-compare-get-comparer-spec : {M : Type 1} → statement M
+divisor-index-fast-compare-get-comparer-spec =
     tie.close (tie.spec ask-requires number-requires same-length returns)

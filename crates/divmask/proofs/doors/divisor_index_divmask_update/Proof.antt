@@ -5,10 +5,10 @@ use Rattle.divmask.proofs.Growth.{lent-maxima}
 use Rattle.monomial.proofs.Laws.{lent-canonical}
 use Rattle.divmask.specs.Doors.{updateNumber, updateBytes}
 use borrow.Author.Needs.{needs}
-use Rattle.divmask.proofs.doors.divmask_update.Statement.{statement}
-use Rattle.divmask.proofs.doors.divmask_update.Tie as tie
-use Rattle.divmask.proofs.doors.divmask_update.Reads as reads
-use Rattle.divmask.proofs.doors.divmask_update.Lts as lts
+use Rattle.divmask.proofs.doors.divisor_index_divmask_update.Statement.{statement}
+use Rattle.divmask.proofs.doors.divisor_index_divmask_update.Tie as tie
+use Rattle.divmask.proofs.doors.divisor_index_divmask_update.Reads as reads
+use Rattle.divmask.proofs.doors.divisor_index_divmask_update.Lts as lts
 use Rattle.divmask.proofs.tracker.maxima_good.Reads as maxima-good-reads
 use Rattle.divmask.proofs.tracker.update.Reads as update-reads
 use Rattle.monomial.proofs.is_canonical.Reads as is-canonical-reads
@@ -52,8 +52,8 @@ returns-3 : tie.Need-returns-3
 unfolding updateNumber updateBytes
 returns-3 c = rw (sym (c .before .before .before .before .before .before .before .maxima-good .ensures) ∙ not-false _ (c .before .before .before .before .before .before .if1 .left), sym (c .before .before .before .before .before .is-canonical .ensures) ∙ not-false _ (c .before .before .before .before .if2 .left)) (refl, rw (first-whole (lent-canonical 1 (c .before .before .before .before .before .before .before .before .before .before .before .args .variables) (c .before .before .before .before .before .before .before .before .before .before .before .args .monomial .now) .0 (sym (c .before .before .before .before .before .is-canonical .ensures) ∙ not-false _ (c .before .before .before .before .if2 .left)) .1)) at (c .before .before .update .ensures))
 
-pub divmask-update-spec : {M : Type 1} → statement M
-divmask-update-spec =
+pub divisor-index-divmask-update-spec : {M : Type 1} → statement M
+divisor-index-divmask-update-spec =
     tie.close
     (tie.spec
     maxima-good-requires
