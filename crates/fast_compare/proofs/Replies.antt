@@ -57,7 +57,8 @@ module _ (m c : ℕ) where
 
   pub length-small : Asked m c → 4 * size m c ≤ 1114128
   length-small a =
-      let most : c * (m + 3) ≤ 4096 * 67 = mul-le-mul (a .cap-to) (omega (arith, a .vars-to)) in
+      let wide : m + 3 ≤ 67 = omega (arith, a .vars-to) in
+      let most : c * (m + 3) ≤ 4096 * 67 = mul-le-mul (a .cap-to) wide in
       omega (arith, a .cap-to)
 
   pub open-unasked : (bs : List ℕ) → (Asked m c → ⊥) → (1 ≡ openingFor m c (length bs)) × (bs ≡ openedBytes m c bs)
