@@ -19,7 +19,8 @@ use Rattle.index_image.specs.Layout.{shapeOf, encode, Is}
 use Rattle.index_image.specs.declared.Shape.{Shape}
 use Rattle.index_image.proofs.Images.{head-ok}
 use Rattle.kd_insert.specs.Inserting.{Room, Inserted}
-use Rattle.indices.specs.Replied.{Root, Replied}
+use Rattle.listing.specs.Listed.{Root}
+use Rattle.indices.specs.Replied.{Replied}
 
 -- ---- what is asked before an insert
 pub with-room : (bs : List ℕ) (s : Shape) → Root bs s → s .entries < s .capacity → Room bs s

@@ -8,12 +8,6 @@ use Rattle.index_theory.specs.Calls.{Request, serve}
 use Rattle.index_image.specs.Layout.{shapeOf, encode, Is}
 use Rattle.index_image.specs.declared.Shape.{Shape}
 
--- the bytes are the image of some state, and s has the numbers of its header
-pub record Root (bs : List ℕ) (s : Shape) : Type 0 where
-  pub state : State
-  pub is : Is state bs
-  pub shape : s ≡ shapeOf state
-
 -- a call that asks r of the image bs, in the shape s, answers the word w and leaves the bytes bs′
 pub record Replied (s : Shape) (r : Request) (bs bs′ : List ℕ) (w : ℕ) : Type 0 where
   pub answer : (st : State) → Is st bs → s ≡ shapeOf st → w ≡ serve st r .answer

@@ -6,7 +6,8 @@ ghost use lib.ListN.{length};
 ghost use Rattle.words.specs.Words.{words};
 ghost use Rattle.monomial.specs.Monomial.{Canonical};
 ghost use Rattle.index_theory.specs.Calls.{insertion, plain};
-ghost use Rattle.indices.specs.Replied.{Root, Replied};
+ghost use Rattle.listing.specs.Listed.{Root};
+ghost use Rattle.indices.specs.Replied.{Replied};
 
 // Call 0: inserts a monomial. The answer word has its number; 8 where the index is full.
 pub fn insert(image: &mut [u8], s: Shape, lm: &[u8]) -> u32

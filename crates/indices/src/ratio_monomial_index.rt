@@ -7,7 +7,8 @@ ghost use Rattle.words.specs.Words.{words};
 ghost use Rattle.monomial.specs.Monomial.{Canonical};
 ghost use Rattle.index_theory.specs.Calls.{insertion};
 ghost use Rattle.kd_insert.specs.Inserting.{signed};
-ghost use Rattle.indices.specs.Replied.{Root, Replied};
+ghost use Rattle.listing.specs.Listed.{Root};
+ghost use Rattle.indices.specs.Replied.{Replied};
 
 // Call 2: inserts an entry. The answer word has its number; 8 where the index is full.
 pub fn insert(image: &mut [u8], s: Shape, index: u32, sign: &[u8], lm: &[u8]) -> u32
