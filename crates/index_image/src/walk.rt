@@ -146,7 +146,7 @@ fn meet(acc: &mut [u8], n: usize, other: &[u8]) -> usize
 }
 
 // Writes the gcd of the c entries from place lo on, and returns its length in words. Of none it is one.
-fn gcd_of(image: &[u8], s: Shape, lo: usize, c: usize, acc: &mut [u8]) -> usize
+pub fn gcd_of(image: &[u8], s: Shape, lo: usize, c: usize, acc: &mut [u8]) -> usize
     requires { ⌜ Ready (words (now image)) s ⌝ }
     requires { ⌜ lo + c ≤ s .entries ⌝ }
     requires { ⌜ length (now acc) ≡ 260 ⌝ }

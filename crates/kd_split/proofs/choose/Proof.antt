@@ -1,0 +1,92 @@
+use native.Mathlib.Omega.{arith}
+use Rattle.kd_split.proofs.Parting.{Tried, tried-none, tried-more, tried-hit, tried-all, extremes-small, key-small}
+use native.Mathlib.Nat.{mod-lt}
+use Prim.Native.Nat.{ℕ, _+_, _-_, _≤_}
+use Rattle.words.specs.Words.{words}
+use Rattle.index_image.specs.Walk as walk
+use Rattle.index_image.specs.Rows.{entriesFrom}
+use Rattle.kd_split.specs.Split.{keyIn, markIn}
+use borrow.Author.Needs.{needs}
+use Rattle.kd_split.proofs.choose.Statement.{statement}
+use Rattle.kd_split.proofs.choose.Tie as tie
+use Rattle.kd_split.proofs.choose.Reads as reads
+use Rattle.kd_split.proofs.choose.Lts as lts
+use Rattle.kd_split.proofs.extremes.Reads as extremes-reads
+
+abbrev Inv-loop : tie.InvT-loop
+Inv-loop image s dim lo c n i₀ i = (i ≤ n) × Tried (keyIn (words image) s) (markIn (words image) s) (walk.dims s) dim (entriesFrom (words image) s lo c) i
+
+abbrev μ-loop : tie.MeasureT-loop
+μ-loop image s dim lo c n i₀ i = n - i
+
+-- src/bifurcate.rt:91:13
+add-n : tie.Need-add-n Inv-loop μ-loop
+add-n c = omega (arith, c .before .before .pre .0 .range .vars-from, c .before .before .pre .0 .range .vars-to, c .before .before .pre .0 .range .kind-to)
+
+-- src/bifurcate.rt:93:5
+loop-holds : tie.Need-loop-holds Inv-loop μ-loop
+loop-holds c = (omega arith, tried-none _ _ _ _ _)
+
+-- src/bifurcate.rt:94:18
+add-d : tie.Need-add-d Inv-loop μ-loop
+add-d c = omega (arith, c .before .before .before .before .pre .1 .0, c .before .before .before .before .pre .0 .range .vars-from, c .before .before .before .before .pre .0 .range .vars-to, c .before .before .before .before .pre .0 .range .kind-to)
+
+-- src/bifurcate.rt:94:17
+rem-d : tie.Need-rem-d Inv-loop μ-loop
+rem-d c = omega (arith, c .before .before .before .before .pre .0 .range .vars-from, c .before .before .before .before .pre .0 .range .vars-to, c .before .before .before .before .pre .0 .range .kind-to)
+
+-- src/bifurcate.rt:95:13
+extremes-requires : tie.Need-extremes-requires Inv-loop μ-loop
+extremes-requires c κs = (c .before .before .before .before .pre .0, (mod-lt _ (omega (arith, c .before .before .before .before .pre .0 .range .vars-from, c .before .before .before .before .pre .0 .range .vars-to, c .before .before .before .before .pre .0 .range .kind-to)), c .before .before .before .before .pre .1 .1))
+
+-- src/bifurcate.rt:99:26
+add-t12 : tie.Need-add-t12 Inv-loop μ-loop
+add-t12 c = omega (arith, extremes-small _ _ _ _ _ _ (key-small (c .before .before .before .before .before .before .before .before .args .image .now) (c .before .before .before .before .before .before .before .before .args .s) (λ j. (c .before .before .before .before .before .before .before .shared-slice-known .given) j .fits)) (c .before .before .before .extremes .ensures .0) (c .before .before .before .extremes .ensures .1))
+
+-- src/bifurcate.rt:99:26
+add-t13 : tie.Need-add-t13 Inv-loop μ-loop
+add-t13 c = omega (arith, extremes-small _ _ _ _ _ _ (key-small (c .before .before .before .before .before .before .before .before .args .image .now) (c .before .before .before .before .before .before .before .before .args .s) (λ j. (c .before .before .before .before .before .before .before .shared-slice-known .given) j .fits)) (c .before .before .before .extremes .ensures .0) (c .before .before .before .extremes .ensures .1))
+
+-- src/bifurcate.rt:99:24
+cast-t15 : tie.Need-cast-t15 Inv-loop μ-loop
+cast-t15 c = omega (arith, extremes-small _ _ _ _ _ _ (key-small (c .before .before .before .before .before .before .before .before .args .image .now) (c .before .before .before .before .before .before .before .before .args .s) (λ j. (c .before .before .before .before .before .before .before .shared-slice-known .given) j .fits)) (c .before .before .before .extremes .ensures .0) (c .before .before .before .extremes .ensures .1))
+
+-- src/bifurcate.rt:97:13
+returns : tie.Need-returns Inv-loop μ-loop
+returns c = tried-hit _ _ _ _ _ _ _ _ (c .before .before .before .before .loop-test .taken) (mod-lt _ (omega (arith, c .before .before .before .before .before .before .before .before .pre .0 .range .vars-from, c .before .before .before .before .before .before .before .before .pre .0 .range .vars-to, c .before .before .before .before .before .before .before .before .pre .0 .range .kind-to))) (c .before .before .before .extremes .ensures .0) (c .before .before .before .extremes .ensures .1) (c .before .if1 .taken) (c .before .before .before .before .before .loop .inv .1)
+
+-- src/bifurcate.rt:102:9
+add-i : tie.Need-add-i Inv-loop μ-loop
+add-i c = omega (arith, c .before .before .before .before .before .before .before .pre .0 .range .vars-from, c .before .before .before .before .before .before .before .pre .0 .range .vars-to, c .before .before .before .before .before .before .before .pre .0 .range .kind-to)
+
+-- src/bifurcate.rt:93:5
+loop-less : tie.Need-loop-less Inv-loop μ-loop
+loop-less c = omega arith
+
+-- src/bifurcate.rt:93:5
+loop-again : tie.Need-loop-again Inv-loop μ-loop
+loop-again c = (omega arith, tried-more _ _ _ _ _ _ _ _ (c .before .before .before .loop-test .taken) (c .before .before .extremes .ensures .0) (c .before .before .extremes .ensures .1) (omega arith) (c .before .before .before .before .loop .inv .1))
+
+-- src/bifurcate.rt:86:1
+returns-2 : tie.Need-returns-2 Inv-loop μ-loop
+returns-2 c = tried-all _ _ _ _ _ _ (omega arith) (c .before .loop .inv .1)
+
+pub choose-spec : {M : Type 1} → statement M
+choose-spec =
+    tie.close
+    (tie.spec
+    Inv-loop
+    μ-loop
+    add-n
+    loop-holds
+    add-d
+    rem-d
+    extremes-requires
+    add-t12
+    add-t13
+    cast-t15
+    returns
+    add-i
+    loop-less
+    loop-again
+    returns-2)

@@ -1,0 +1,97 @@
+use native.Mathlib.Omega.{arith}
+use mathlib.Core.Path.{_≡_, refl, sym, ap, _∙_}
+use mathlib.Core.Logic.{⊎-elim}
+use Prim.Native.Nat.{ℕ, _+_, _-_, _≤_}
+use Rattle.words.specs.Words.{words}
+use Rattle.index_image.proofs.Places.{place-room}
+use Rattle.kd_split.proofs.Parting.{place, Extremes, extremes-one, extremes-more}
+use Rattle.kd_split.proofs.extremes.Statement.{statement}
+use Rattle.kd_split.proofs.extremes.Tie as tie
+use Rattle.kd_split.proofs.extremes.Reads as reads
+use Rattle.kd_split.proofs.extremes.Lts as lts
+use Rattle.index_image.proofs.Shape.permutation_at.Reads as permutation-at-reads
+use Rattle.kd_split.proofs.key_in.Reads as key-in-reads
+use Rattle.words.proofs.get.Reads as get-reads
+
+abbrev Inv-loop : tie.InvT-loop
+Inv-loop image s v lo c p first least₀ greatest₀ i₀ least greatest i = (i ≤ c) × Extremes (words image) s v lo i least greatest
+
+abbrev μ-loop : tie.MeasureT-loop
+μ-loop image s v lo c p first least₀ greatest₀ i₀ least greatest i = c - i
+
+-- src/bifurcate.rt:50:13
+permutation-at-requires : tie.Need-permutation-at-requires Inv-loop μ-loop
+permutation-at-requires c κs = c .before .pre .0 .range
+
+-- src/bifurcate.rt:50:13
+add-p : tie.Need-add-p Inv-loop μ-loop
+add-p c = omega (arith, place-room (c .before .before .args .image .now) (c .before .before .args .s) (c .before .before .pre .0) ((c .before .before .args .lo) + (c .before .before .args .c)) (c .before .before .pre .1 .1 .0), c .permutation-at .ensures)
+
+-- src/bifurcate.rt:51:39
+get-requires : tie.Need-get-requires Inv-loop μ-loop
+get-requires c κs = omega (arith, place-room (c .before .before .args .image .now) (c .before .before .args .s) (c .before .before .pre .0) ((c .before .before .args .lo) + (c .before .before .args .c)) (c .before .before .pre .1 .1 .0), c .permutation-at .ensures, c .before .before .pre .1 .1 .1)
+
+-- src/bifurcate.rt:51:39
+cast-key-in : tie.Need-cast-key-in Inv-loop μ-loop
+cast-key-in c = omega arith
+
+-- src/bifurcate.rt:51:9
+key-in-requires : tie.Need-key-in-requires Inv-loop μ-loop
+key-in-requires c κs = (c .before .before .before .pre .0, (c .before .before .before .pre .1 .0, rw (c .get .ensures, c .before .permutation-at .ensures) ((c .before .before .before .pre .0 .places) (c .before .before .before .args .lo) (omega (arith, c .before .before .before .pre .1 .1)))))
+
+-- src/bifurcate.rt:55:5
+loop-holds : tie.Need-loop-holds Inv-loop μ-loop
+loop-holds c = (c .before .before .before .before .pre .1 .1 .1, extremes-one _ _ (c .before .before .before .before .pre .0) _ _ _ _ (c .before .before .before .before .pre .1 .1 .0) (c .before .before .permutation-at .ensures) _ _ (c .before .before .before .before .pre .1 .1 .1) (c .before .get .ensures) (c .key-in .ensures))
+
+-- src/bifurcate.rt:56:57
+add-get : tie.Need-add-get Inv-loop μ-loop
+add-get c = omega (arith, place-room (c .before .before .before .before .before .before .args .image .now) (c .before .before .before .before .before .before .args .s) (c .before .before .before .before .before .before .pre .0) ((c .before .before .before .before .before .before .args .lo) + (c .before .before .before .before .before .before .args .c)) (c .before .before .before .before .before .before .pre .1 .1 .0), c .before .before .before .before .permutation-at .ensures)
+
+-- src/bifurcate.rt:56:39
+get-requires-2 : tie.Need-get-requires-2 Inv-loop μ-loop
+get-requires-2 c κs = omega (arith, place-room (c .before .before .before .before .before .before .args .image .now) (c .before .before .before .before .before .before .args .s) (c .before .before .before .before .before .before .pre .0) ((c .before .before .before .before .before .before .args .lo) + (c .before .before .before .before .before .before .args .c)) (c .before .before .before .before .before .before .pre .1 .1 .0), c .before .before .before .before .permutation-at .ensures)
+
+-- src/bifurcate.rt:56:39
+cast-key-in-2 : tie.Need-cast-key-in-2 Inv-loop μ-loop
+cast-key-in-2 c = omega arith
+
+-- src/bifurcate.rt:56:13
+key-in-requires-2 : tie.Need-key-in-requires-2 Inv-loop μ-loop
+key-in-requires-2 c κs = (c .before .before .before .before .before .before .before .pre .0, (c .before .before .before .before .before .before .before .pre .1 .0, place _ _ (c .before .before .before .before .before .before .before .pre .0) _ _ _ _ _ (c .before .before .before .before .before .before .before .pre .1 .1 .0) (c .before .loop-test .taken) (c .before .before .before .before .before .permutation-at .ensures) (c .get2 .ensures) .small))
+
+-- src/bifurcate.rt:63:9
+add-i : tie.Need-add-i Inv-loop μ-loop
+add-i c = omega arith
+
+-- src/bifurcate.rt:55:5
+loop-less : tie.Need-loop-less Inv-loop μ-loop
+loop-less c = omega arith
+
+-- src/bifurcate.rt:55:5
+loop-again : tie.Need-loop-again Inv-loop μ-loop
+loop-again c = (omega arith, extremes-more _ _ (c .before .before .before .before .before .before .before .before .before .before .pre .0) _ _ _ _ (c .before .before .before .before .before .before .before .before .before .before .pre .1 .1 .0) (c .before .before .before .before .before .before .before .before .permutation-at .ensures) _ _ _ _ _ _ _ (c .before .before .before .before .loop-test .taken) (c .before .before .before .get2 .ensures) (c .before .before .key-in2 .ensures) (c .before .before .before .before .before .loop .inv .1) (⊎-elim (λ w. omega arith) (λ w. omega arith) (c .before .if1 .came)) (⊎-elim (λ w. omega arith) (λ w. omega arith) (c .if2 .came)))
+
+-- src/bifurcate.rt:45:1
+returns : tie.Need-returns Inv-loop μ-loop
+returns c = let e : (c .before .loop .i) ≡ (c .before .before .before .before .before .before .args .c) = omega (arith, c .before .loop .inv .0) in (rw (← e) (c .before .loop .inv .1 .least-is), rw (← e) (c .before .loop .inv .1 .greatest-is))
+
+pub extremes-spec : {M : Type 1} → statement M
+extremes-spec =
+    tie.close
+    (tie.spec
+    Inv-loop
+    μ-loop
+    permutation-at-requires
+    add-p
+    get-requires
+    cast-key-in
+    key-in-requires
+    loop-holds
+    add-get
+    get-requires-2
+    cast-key-in-2
+    key-in-requires-2
+    add-i
+    loop-less
+    loop-again
+    returns)

@@ -1,0 +1,82 @@
+use native.Mathlib.Omega.{arith}
+use Rattle.kd_split.proofs.Parting.{Lowest, lowest-none, lowest-more, place}
+use mathlib.Core.Path.{_≡_, refl, sym, ap, _∙_}
+use Prim.Native.Nat.{ℕ, _+_, _-_, _≤_}
+use Rattle.words.specs.Words.{words}
+use Rattle.index_image.proofs.Places.{place-room}
+use borrow.Author.Needs.{needs}
+use Rattle.kd_split.proofs.first_least.Statement.{statement}
+use Rattle.kd_split.proofs.first_least.Tie as tie
+use Rattle.kd_split.proofs.first_least.Reads as reads
+use Rattle.kd_split.proofs.first_least.Lts as lts
+use Rattle.index_image.proofs.Shape.permutation_at.Reads as permutation-at-reads
+use Rattle.kd_split.proofs.lower.Reads as lower-reads
+use Rattle.words.proofs.get.Reads as get-reads
+
+abbrev Inv-loop : tie.InvT-loop
+Inv-loop image s x lo c p best₀ i₀ best i = (i ≤ c) × Lowest (words image) s x lo i best
+
+abbrev μ-loop : tie.MeasureT-loop
+μ-loop image s x lo c p best₀ i₀ best i = c - i
+
+-- src/bifurcate.rt:213:13
+permutation-at-requires : tie.Need-permutation-at-requires Inv-loop μ-loop
+permutation-at-requires c κs = c .before .pre .0 .range
+
+-- src/bifurcate.rt:213:13
+add-p : tie.Need-add-p Inv-loop μ-loop
+add-p c = omega (arith, place-room (c .before .before .args .image .now) (c .before .before .args .s) (c .before .before .pre .0) ((c .before .before .args .lo) + (c .before .before .args .c)) (c .before .before .pre .1 .1), c .permutation-at .ensures)
+
+-- src/bifurcate.rt:216:5
+loop-holds : tie.Need-loop-holds Inv-loop μ-loop
+loop-holds c = (omega arith, lowest-none _ _ (c .before .before .pre .1 .0) _ _)
+
+-- src/bifurcate.rt:217:35
+add-get : tie.Need-add-get Inv-loop μ-loop
+add-get c = omega (arith, place-room (c .before .before .before .before .args .image .now) (c .before .before .before .before .args .s) (c .before .before .before .before .pre .0) ((c .before .before .before .before .args .lo) + (c .before .before .before .before .args .c)) (c .before .before .before .before .pre .1 .1), c .before .before .permutation-at .ensures)
+
+-- src/bifurcate.rt:217:17
+get-requires : tie.Need-get-requires Inv-loop μ-loop
+get-requires c κs = omega (arith, place-room (c .before .before .before .before .args .image .now) (c .before .before .before .before .args .s) (c .before .before .before .before .pre .0) ((c .before .before .before .before .args .lo) + (c .before .before .before .before .args .c)) (c .before .before .before .before .pre .1 .1), c .before .before .permutation-at .ensures)
+
+-- src/bifurcate.rt:217:17
+cast-e : tie.Need-cast-e Inv-loop μ-loop
+cast-e c = search needs
+
+-- src/bifurcate.rt:218:9
+lower-requires : tie.Need-lower-requires Inv-loop μ-loop
+lower-requires c κs = (c .before .before .before .before .before .pre .0, (c .before .before .before .before .before .pre .1 .0, (place _ _ (c .before .before .before .before .before .pre .0) _ _ _ _ _ (c .before .before .before .before .before .pre .1 .1) (c .before .loop-test .taken) (c .before .before .before .permutation-at .ensures) (c .get .ensures) .small, c .before .before .loop .inv .1 .small)))
+
+-- src/bifurcate.rt:219:9
+add-i : tie.Need-add-i Inv-loop μ-loop
+add-i c = omega arith
+
+-- src/bifurcate.rt:216:5
+loop-less : tie.Need-loop-less Inv-loop μ-loop
+loop-less c = omega arith
+
+-- src/bifurcate.rt:216:5
+loop-again : tie.Need-loop-again Inv-loop μ-loop
+loop-again c = (omega arith, lowest-more _ _ (c .before .before .before .before .before .before .pre .1 .0) _ _ _ _ _ _ _ _ (c .before .before .before .before .before .before .pre .0) (c .before .before .before .before .before .before .pre .1 .1) (c .before .before .loop-test .taken) (c .before .before .before .before .permutation-at .ensures) (c .before .get .ensures) (c .lower .ensures .0) (c .lower .ensures .1) (c .before .before .before .loop .inv .1))
+
+-- src/bifurcate.rt:208:1
+returns : tie.Need-returns Inv-loop μ-loop
+returns c = let e : (c .before .loop .i) ≡ (c .before .before .before .before .args .c) = omega (arith, c .before .loop .inv .0) in (rw (← e) (c .before .loop .inv .1 .is), c .before .loop .inv .1 .small)
+
+pub first-least-spec : {M : Type 1} → statement M
+first-least-spec =
+    tie.close
+    (tie.spec
+    Inv-loop
+    μ-loop
+    permutation-at-requires
+    add-p
+    loop-holds
+    add-get
+    get-requires
+    cast-e
+    lower-requires
+    add-i
+    loop-less
+    loop-again
+    returns)

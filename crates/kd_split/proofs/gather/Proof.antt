@@ -1,0 +1,93 @@
+use native.Mathlib.Omega.{arith}
+use mathlib.Core.Path.{_≡_, refl, sym, ap, _∙_}
+use Prim.Native.Nat.{ℕ, _+_, _-_, _≤_}
+use Rattle.words.specs.Words.{words}
+use Rattle.index_image.specs.Walk as walk
+use Rattle.index_image.proofs.Places.{place-room}
+use Rattle.kd_split.specs.Split.{keyIn, onSide}
+use Rattle.kd_split.proofs.Parting.{place, Gathered, gather-none, gather-more, gather-room, push-few}
+use Rattle.kd_split.proofs.gather.Statement.{statement}
+use Rattle.kd_split.proofs.gather.Tie as tie
+use Rattle.kd_split.proofs.gather.Reads as reads
+use Rattle.kd_split.proofs.gather.Lts as lts
+use Rattle.index_image.proofs.Shape.permutation_at.Reads as permutation-at-reads
+use Rattle.kd_split.proofs.push.Reads as push-reads
+use Rattle.words.proofs.get.Reads as get-reads
+
+abbrev Inv-loop : tie.InvT-loop
+Inv-loop image s d x want lo c out₀ at p n₀ i₀ out n i = (i ≤ c) × Gathered (words image) s (onSide (keyIn (words image) s) d x want) lo i out₀ out at n
+
+abbrev μ-loop : tie.MeasureT-loop
+μ-loop image s d x want lo c out₀ at p n₀ i₀ out n i = c - i
+
+-- src/bifurcate.rt:125:13
+permutation-at-requires : tie.Need-permutation-at-requires Inv-loop μ-loop
+permutation-at-requires c κs = c .before .before .pre .0 .range
+
+-- src/bifurcate.rt:125:13
+add-p : tie.Need-add-p Inv-loop μ-loop
+add-p c = omega (arith, place-room (c .before .before .before .args .image .now) (c .before .before .before .args .s) (c .before .before .before .pre .0) ((c .before .before .before .args .lo) + (c .before .before .before .args .c)) (c .before .before .before .pre .1 .0 .1), c .permutation-at .ensures)
+
+-- src/bifurcate.rt:128:5
+loop-holds : tie.Need-loop-holds Inv-loop μ-loop
+loop-holds c = (omega arith, gather-none _ _ _ _ _ _)
+
+-- src/bifurcate.rt:129:35
+add-get : tie.Need-add-get Inv-loop μ-loop
+add-get c = omega (arith, place-room (c .before .before .before .before .before .args .image .now) (c .before .before .before .before .before .args .s) (c .before .before .before .before .before .pre .0) ((c .before .before .before .before .before .args .lo) + (c .before .before .before .before .before .args .c)) (c .before .before .before .before .before .pre .1 .0 .1), c .before .before .permutation-at .ensures)
+
+-- src/bifurcate.rt:129:13
+get-requires : tie.Need-get-requires Inv-loop μ-loop
+get-requires c κs = omega (arith, place-room (c .before .before .before .before .before .args .image .now) (c .before .before .before .before .before .args .s) (c .before .before .before .before .before .pre .0) ((c .before .before .before .before .before .args .lo) + (c .before .before .before .before .before .args .c)) (c .before .before .before .before .before .pre .1 .0 .1), c .before .before .permutation-at .ensures)
+
+-- src/bifurcate.rt:130:49
+add-push : tie.Need-add-push Inv-loop μ-loop
+add-push c = omega (arith, gather-room _ _ _ _ _ _ _ _ _ _ _ (c .before .before .before .before .before .before .before .pre .0) (c .before .before .before .before .before .before .before .pre .1 .0 .1) (c .before .before .loop-test .taken) _ (c .before .before .before .before .permutation-at .ensures) (c .before .get .ensures) (c .before .before .before .loop .inv .1) (c .before .before .before .before .before .before .before .pre .1 .1))
+
+-- src/bifurcate.rt:130:14
+push-requires : tie.Need-push-requires Inv-loop μ-loop
+push-requires c κs = (c .before .before .before .before .before .before .before .pre .0, ((c .before .before .before .before .before .before .before .pre .1 .0 .0, place _ _ (c .before .before .before .before .before .before .before .pre .0) _ _ _ _ _ (c .before .before .before .before .before .before .before .pre .1 .0 .1) (c .before .before .loop-test .taken) (c .before .before .before .before .permutation-at .ensures) (c .before .get .ensures) .small), gather-room _ _ _ _ _ _ _ _ _ _ _ (c .before .before .before .before .before .before .before .pre .0) (c .before .before .before .before .before .before .before .pre .1 .0 .1) (c .before .before .loop-test .taken) _ (c .before .before .before .before .permutation-at .ensures) (c .before .get .ensures) (c .before .before .before .loop .inv .1) (c .before .before .before .before .before .before .before .pre .1 .1)))
+
+-- src/bifurcate.rt:130:9
+add-n : tie.Need-add-n Inv-loop μ-loop
+add-n c = omega (arith, c .before .before .before .before .before .before .loop .inv .1 .few, push-few _ _ _ (c .before .before .push .ensures .0))
+
+-- src/bifurcate.rt:131:9
+add-i : tie.Need-add-i Inv-loop μ-loop
+add-i c = omega arith
+
+-- src/bifurcate.rt:128:5
+loop-less : tie.Need-loop-less Inv-loop μ-loop
+loop-less c = omega arith
+
+-- src/bifurcate.rt:128:5
+loop-again : tie.Need-loop-again Inv-loop μ-loop
+loop-again c = (omega arith, gather-more _ _ _ _ _ _ _ _ _ _ _ _ _ (c .before .before .before .before .before .before .before .before .before .before .pre .0) (c .before .before .before .before .before .before .before .before .before .before .pre .1 .0 .1) (c .before .before .before .before .before .loop-test .taken) _ (c .before .before .before .before .before .before .before .permutation-at .ensures) (c .before .before .before .before .get .ensures) (c .before .before .before .before .before .before .loop .inv .1) (c .before .before .push .ensures .0) (c .before .before .before .before .before .before .before .before .before .before .pre .1 .1) (c .before .before .push .kept .1 .1 .1 .1 .1 .1 .0) (c .before .before .push .ensures .1))
+
+-- src/bifurcate.rt:118:1
+same-length : tie.Need-same-length Inv-loop μ-loop
+same-length c = c .before .loop .inv .1 .long
+
+-- src/bifurcate.rt:118:1
+returns : tie.Need-returns Inv-loop μ-loop
+returns c = let e : (c .before .loop .i) ≡ (c .before .before .before .before .before .args .c) = omega (arith, c .before .loop .inv .0) in (rw (← e) (c .before .loop .inv .1 .count), rw (← e) (c .before .loop .inv .1 .bytes))
+
+pub gather-spec : {M : Type 1} → statement M
+gather-spec =
+    tie.close
+    (tie.spec
+    Inv-loop
+    μ-loop
+    permutation-at-requires
+    add-p
+    loop-holds
+    add-get
+    get-requires
+    add-push
+    push-requires
+    add-n
+    add-i
+    loop-less
+    loop-again
+    same-length
+    returns)

@@ -1,0 +1,61 @@
+use Rattle.kd_split.proofs.Reading.{label-asked}
+use Rattle.index_image.specs.Walk as walk
+use Rattle.words.specs.Words.{words}
+use native.Mathlib.Omega.{arith}
+use Rattle.kd_split.proofs.Parting.{lower-below, lower-first, lower-new, lower-old}
+use borrow.Author.Needs.{needs}
+use Rattle.kd_split.proofs.lower.Statement.{statement}
+use Rattle.kd_split.proofs.lower.Tie as tie
+use Rattle.kd_split.proofs.lower.Reads as reads
+use Rattle.kd_split.proofs.lower.Lts as lts
+use Rattle.index_image.proofs.walk.label_in.Reads as label-in-reads
+
+-- src/bifurcate.rt:194:9
+label-in-requires : tie.Need-label-in-requires
+label-in-requires c κs = label-asked (c .before .args .image .now) (c .before .args .s) (c .before .pre .0) _ (c .before .pre .1 .0) (c .before .pre .1 .1 .0)
+
+-- src/bifurcate.rt:196:9
+returns : tie.Need-returns
+returns c = (lower-below (walk.label (words (c .before .before .before .args .image .now)) (c .before .before .before .args .s)) _ (c .before .before .before .args .e) _ _ (c .before .label-in .ensures) (c .if1 .taken), c .before .before .before .pre .1 .1 .1)
+
+-- src/bifurcate.rt:199:16
+add-result : tie.Need-add-result
+add-result c = search needs
+
+-- src/bifurcate.rt:199:9
+returns-2 : tie.Need-returns-2
+returns-2 c = (lower-first (walk.label (words (c .before .before .before .before .args .image .now)) (c .before .before .before .before .args .s)) _ (c .before .before .before .before .args .e) _ _ (c .before .before .label-in .ensures) (c .before .if1 .left) (c .if2 .taken), omega (arith, c .before .before .before .before .pre .1 .1 .0))
+
+-- src/bifurcate.rt:201:50
+sub-label-in : tie.Need-sub-label-in
+sub-label-in c = search needs
+
+-- src/bifurcate.rt:201:12
+label-in-requires-2 : tie.Need-label-in-requires-2
+label-in-requires-2 c κs = label-asked (c .before .before .before .before .args .image .now) (c .before .before .before .before .args .s) (c .before .before .before .before .pre .0) _ (c .before .before .before .before .pre .1 .0) (omega (arith, c .before .before .before .before .pre .1 .1 .1, c .if2 .left))
+
+-- src/bifurcate.rt:202:16
+add-result-2 : tie.Need-add-result-2
+add-result-2 c = search needs
+
+-- src/bifurcate.rt:202:9
+returns-3 : tie.Need-returns-3
+returns-3 c = (lower-new (walk.label (words (c .before .before .before .before .before .before .args .image .now)) (c .before .before .before .before .before .before .args .s)) _ (c .before .before .before .before .before .before .args .e) _ _ (c .before .before .before .before .label-in .ensures) _ (c .before .before .before .if1 .left) (c .before .before .if2 .left) (c .before .label-in2 .ensures) (c .if3 .taken), omega (arith, c .before .before .before .before .before .before .pre .1 .1 .0))
+
+-- src/bifurcate.rt:189:1
+returns-4 : tie.Need-returns-4
+returns-4 c = (lower-old (walk.label (words (c .before .before .before .before .before .before .args .image .now)) (c .before .before .before .before .before .before .args .s)) _ (c .before .before .before .before .before .before .args .e) _ _ (c .before .before .before .before .label-in .ensures) _ (c .before .before .before .if1 .left) (c .before .before .if2 .left) (c .before .label-in2 .ensures) (c .if3 .left), c .before .before .before .before .before .before .pre .1 .1 .1)
+
+pub lower-spec : {M : Type 1} → statement M
+lower-spec =
+    tie.close
+    (tie.spec
+    label-in-requires
+    returns
+    add-result
+    returns-2
+    sub-label-in
+    label-in-requires-2
+    add-result-2
+    returns-3
+    returns-4)

@@ -1,0 +1,59 @@
+use native.Mathlib.Omega.{arith}
+use mathlib.Core.Path.{_≡_, refl, sym, ap, _∙_}
+use lib.ListN.{length}
+use Prim.Native.Nat.{_-_, _*_}
+use Rattle.index_image.proofs.Places.{entry-room}
+use Rattle.kd_split.proofs.Parting.{power-read}
+use Rattle.kd_split.proofs.Reading.{rest-starts, rest-first}
+use borrow.Author.Needs.{needs}
+use Rattle.kd_split.proofs.power_in.Statement.{statement}
+use Rattle.kd_split.proofs.power_in.Tie as tie
+use Rattle.kd_split.proofs.power_in.Reads as reads
+use Rattle.kd_split.proofs.power_in.Lts as lts
+use Rattle.index_image.proofs.Shape.entry_at.Reads as entry-at-reads
+use Rattle.monomial.proofs.power_of.Reads as power-of-reads
+
+-- src/lib.rt:40:17
+entry-at-requires : tie.Need-entry-at-requires
+entry-at-requires c κs = search needs
+
+-- src/lib.rt:40:13
+mul-a : tie.Need-mul-a
+mul-a c = omega (arith, entry-room (c .before .before .args .image .now) _ (c .before .before .pre .0) (c .before .before .args .e) (c .before .before .pre .1 .1), c .entry-at .ensures)
+
+-- src/lib.rt:41:24
+sub-power-of : tie.Need-sub-power-of
+sub-power-of c = omega (arith, entry-room (c .before .before .args .image .now) _ (c .before .before .pre .0) (c .before .before .args .e) (c .before .before .pre .1 .1), c .entry-at .ensures)
+
+-- src/lib.rt:41:24
+part-power-of-start : tie.Need-part-power-of-start
+part-power-of-start c = omega (arith, entry-room (c .before .before .args .image .now) _ (c .before .before .pre .0) (c .before .before .args .e) (c .before .before .pre .1 .1), c .entry-at .ensures)
+
+-- src/lib.rt:41:24
+part-power-of-end : tie.Need-part-power-of-end
+part-power-of-end c = omega (arith, entry-room (c .before .before .args .image .now) _ (c .before .before .pre .0) (c .before .before .args .e) (c .before .before .pre .1 .1), c .entry-at .ensures)
+
+-- src/lib.rt:41:40
+cast-power-of : tie.Need-cast-power-of
+cast-power-of c = search needs
+
+-- src/lib.rt:41:5
+power-of-requires : tie.Need-power-of-requires
+power-of-requires c κs = ((omega arith, (omega arith, omega (arith, c .before .before .before .pre .1 .0, c .before .before .before .pre .0 .range .vars-to))), rest-starts (c .before .before .before .args .image .now) (c .before .before .before .args .s .variables) (c .before .entry-at .result) (length (c .before .before .before .args .image .now) - 4 * (c .before .entry-at .result)) (omega arith) (rw (c .before .entry-at .ensures) ((c .before .before .before .pre .0 .lms) (c .before .before .before .args .e) (c .before .before .before .pre .1 .1))))
+
+-- src/lib.rt:35:1
+returns : tie.Need-returns
+returns c = power-read _ _ _ _ _ _ _ (c .before .before .entry-at .ensures) refl (c .power-of .ensures ∙ rw (rest-first (c .before .before .before .before .args .image .now) (c .before .before .before .before .args .s .variables) (c .before .before .entry-at .result) (length (c .before .before .before .before .args .image .now) - 4 * (c .before .before .entry-at .result)) (omega arith) (rw (c .before .before .entry-at .ensures) ((c .before .before .before .before .pre .0 .lms) (c .before .before .before .before .args .e) (c .before .before .before .before .pre .1 .1)))) refl)
+
+pub power-in-spec : {M : Type 1} → statement M
+power-in-spec =
+    tie.close
+    (tie.spec
+    entry-at-requires
+    mul-a
+    sub-power-of
+    part-power-of-start
+    part-power-of-end
+    cast-power-of
+    power-of-requires
+    returns)

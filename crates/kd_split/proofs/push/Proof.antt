@@ -1,0 +1,32 @@
+use native.Mathlib.Omega.{arith}
+use Rattle.kd_split.proofs.Parting.{push-yes, push-no, push-room}
+use borrow.Author.Needs.{needs}
+use Rattle.kd_split.proofs.push.Statement.{statement}
+use Rattle.kd_split.proofs.push.Tie as tie
+use Rattle.kd_split.proofs.push.Reads as reads
+use Rattle.kd_split.proofs.push.Lts as lts
+use Rattle.kd_split.proofs.wanted.Reads as wanted-reads
+use Rattle.words.proofs.put.Reads as put-reads
+
+-- src/bifurcate.rt:110:8
+wanted-requires : tie.Need-wanted-requires
+wanted-requires c κs = search needs
+
+-- src/bifurcate.rt:111:9
+put-requires : tie.Need-put-requires
+put-requires c κs = push-room _ _ _ (c .before .before .before .before .before .args .out .now) _ (c .before .before .wanted .ensures) (c .before .if1 .taken) (c .before .before .before .before .before .pre .1 .1)
+
+-- src/bifurcate.rt:112:9
+same-length : tie.Need-same-length
+same-length c = search needs
+
+-- src/bifurcate.rt:112:9
+returns : tie.Need-returns
+returns c = push-yes _ _ _ _ _ _ (c .before .before .before .before .before .wanted .ensures) (c .before .before .before .before .if1 .taken) (push-room _ _ _ (c .before .before .before .before .before .before .before .before .args .out .now) _ (c .before .before .before .before .before .wanted .ensures) (c .before .before .before .before .if1 .taken) (c .before .before .before .before .before .before .before .before .pre .1 .1)) (c .before .before .put .ensures)
+
+-- src/bifurcate.rt:103:1
+returns-2 : tie.Need-returns-2
+returns-2 c = push-no _ _ _ _ _ (c .before .wanted .ensures) (c .if1 .left)
+
+pub push-spec : {M : Type 1} → statement M
+push-spec = tie.close (tie.spec wanted-requires put-requires same-length returns returns-2)

@@ -1,0 +1,162 @@
+use Rattle.monomial.proofs.Firsts.{starts-whole}
+use lib.ListN.{length}
+use native.Mathlib.Omega.{arith}
+use mathlib.Core.Path.{_≡_, refl, sym, ap, _∙_}
+use Prim.Native.Nat.{ℕ, _+_, _*_}
+use lib.Seq.{length-take-le}
+use Rattle.words.specs.Words.{words}
+use Rattle.index_image.proofs.Places.{place-room}
+use Rattle.index_image.proofs.Slots.{range-words}
+use Rattle.index_image.proofs.Gcds.{image-powers, gcd-canonical}
+use Rattle.index_image.proofs.Reading.{front-words}
+use Rattle.kd_split.proofs.Writing.{gcd-numbers, leaf-written}
+use borrow.Author.Needs.{needs}
+use Rattle.kd_split.proofs.write_leaf.Statement.{statement}
+use Rattle.kd_split.proofs.write_leaf.Tie as tie
+use Rattle.kd_split.proofs.write_leaf.Reads as reads
+use Rattle.kd_split.proofs.write_leaf.Lts as lts
+use Rattle.divmask.proofs.map.Reads as map-reads
+use Rattle.index_image.proofs.walk.gcd_of.Reads as gcd-of-reads
+use Rattle.kd_split.proofs.row_head.Reads as row-head-reads
+use Rattle.words.proofs.runs.clear.Reads as clear-reads
+use Rattle.words.proofs.runs.paste.Reads as paste-reads
+
+-- src/bifurcate.rt:170:56
+slice-aggregate-gcd-of : tie.Need-slice-aggregate-gcd-of
+slice-aggregate-gcd-of c = search needs
+
+-- src/bifurcate.rt:170:9
+gcd-of-requires : tie.Need-gcd-of-requires
+gcd-of-requires c κs = search needs
+
+-- src/bifurcate.rt:171:13
+mul-e : tie.Need-mul-e
+mul-e c = search needs
+
+-- src/bifurcate.rt:173:18
+add-x : tie.Need-add-x
+add-x c = search needs
+
+-- src/bifurcate.rt:173:13
+mul-x : tie.Need-mul-x
+mul-x c = search needs
+
+-- src/bifurcate.rt:174:17
+mul-y : tie.Need-mul-y
+mul-y c = search needs
+
+-- src/bifurcate.rt:174:13
+add-y : tie.Need-add-y
+add-y c = search needs
+
+-- src/bifurcate.rt:175:29
+sub-map : tie.Need-sub-map
+sub-map c = search needs
+
+-- src/bifurcate.rt:175:29
+part-map-start : tie.Need-part-map-start
+part-map-start c = search needs
+
+-- src/bifurcate.rt:175:29
+part-map-end : tie.Need-part-map-end
+part-map-end c = omega (arith, place-room (c .before .before .before .before .before .before .args .image .now) (c .before .before .before .before .before .before .args .s) (c .before .before .before .before .before .before .pre .0) 0 (omega arith))
+
+-- src/bifurcate.rt:175:43
+cast-map : tie.Need-cast-map
+cast-map c = search needs
+
+-- src/bifurcate.rt:175:53
+array-share-prefix-acc : tie.Need-array-share-prefix-acc
+array-share-prefix-acc c = search needs
+
+-- src/bifurcate.rt:175:53
+slice-aggregate-map : tie.Need-slice-aggregate-map
+slice-aggregate-map c = sym (length-take-le (4 * (c .before .before .before .before .gcd-of .result)) (c .before .before .before .before .gcd-of .last .1 .1 .1 .1 .0) (omega (arith, c .before .before .before .before .gcd-of .ensures .0, c .before .before .before .before .gcd-of .kept .1 .1 .1 .1 .0)))
+
+-- src/bifurcate.rt:175:9
+map-requires : tie.Need-map-requires
+map-requires c κs = (rw (range-words (c .before .before .before .before .before .before .before .before .args .image .now) (24 + (c .before .before .before .before .before .before .before .before .args .s .variables)) (c .before .before .before .before .before .before .before .before .args .s .variables)) (c .before .before .before .before .before .before .before .before .pre .0 .map), starts-whole (rw ((front-words (c .before .before .before .before .gcd-of .last .1 .1 .1 .1 .0) (c .before .before .before .before .gcd-of .result)), c .before .before .before .before .gcd-of .ensures .1) (gcd-canonical (c .before .before .before .before .before .before .before .before .args .s .variables) _ (image-powers (words (c .before .before .before .before .before .before .before .before .args .image .now)) (c .before .before .before .before .before .before .before .before .args .s) (c .before .before .before .before .before .before .before .before .pre .0 .range .vars-to)) _)))
+
+-- src/bifurcate.rt:176:31
+cast-row-head : tie.Need-cast-row-head
+cast-row-head c = omega (arith, (gcd-numbers (words (c .before .before .before .before .before .before .before .before .before .before .args .image .now)) (c .before .before .before .before .before .before .before .before .before .before .args .s) (c .before .before .before .before .before .before .before .before .before .before .pre .0) (c .before .before .before .before .before .before .before .before .before .before .args .lo) (c .before .before .before .before .before .before .before .before .before .before .args .c) (c .before .before .before .before .before .before .before .before .before .before .pre .1 .0) (c .before .before .before .before .before .before .gcd-of .last .1 .1 .1 .1 .0) (c .before .before .before .before .before .before .gcd-of .result) (c .before .before .before .before .before .before .gcd-of .ensures .0) (c .before .before .before .before .before .before .gcd-of .kept .1 .1 .1 .1 .0) (c .before .before .before .before .before .before .gcd-of .ensures .1)) .count)
+
+-- src/bifurcate.rt:176:5
+row-head-requires : tie.Need-row-head-requires
+row-head-requires c κs = omega (arith, c .before .before .before .before .before .before .before .before .before .before .pre .1 .1)
+
+-- src/bifurcate.rt:177:31
+add-paste : tie.Need-add-paste
+add-paste c = search needs
+
+-- src/bifurcate.rt:177:39
+array-share-prefix-acc-2 : tie.Need-array-share-prefix-acc-2
+array-share-prefix-acc-2 c = search needs
+
+-- src/bifurcate.rt:177:39
+slice-aggregate-paste : tie.Need-slice-aggregate-paste
+slice-aggregate-paste c = sym (length-take-le (4 * (c .before .before .before .before .before .before .before .before .before .before .before .gcd-of .result)) (c .before .before .before .before .before .before .before .before .before .before .before .gcd-of .last .1 .1 .1 .1 .0) (omega (arith, c .before .before .before .before .before .before .before .before .before .before .before .gcd-of .ensures .0, c .before .before .before .before .before .before .before .before .before .before .before .gcd-of .kept .1 .1 .1 .1 .0)))
+
+-- src/bifurcate.rt:177:5
+paste-requires : tie.Need-paste-requires
+paste-requires c κs = omega (arith, length-take-le (4 * (c .before .before .before .before .before .before .before .before .before .before .before .gcd-of .result)) (c .before .before .before .before .before .before .before .before .before .before .before .gcd-of .last .1 .1 .1 .1 .0) (omega (arith, c .before .before .before .before .before .before .before .before .before .before .before .gcd-of .ensures .0, c .before .before .before .before .before .before .before .before .before .before .before .gcd-of .kept .1 .1 .1 .1 .0)), (gcd-numbers (words (c .before .before .before .before .before .before .before .before .before .before .before .before .before .before .before .args .image .now)) (c .before .before .before .before .before .before .before .before .before .before .before .before .before .before .before .args .s) (c .before .before .before .before .before .before .before .before .before .before .before .before .before .before .before .pre .0) (c .before .before .before .before .before .before .before .before .before .before .before .before .before .before .before .args .lo) (c .before .before .before .before .before .before .before .before .before .before .before .before .before .before .before .args .c) (c .before .before .before .before .before .before .before .before .before .before .before .before .before .before .before .pre .1 .0) (c .before .before .before .before .before .before .before .before .before .before .before .gcd-of .last .1 .1 .1 .1 .0) (c .before .before .before .before .before .before .before .before .before .before .before .gcd-of .result) (c .before .before .before .before .before .before .before .before .before .before .before .gcd-of .ensures .0) (c .before .before .before .before .before .before .before .before .before .before .before .gcd-of .kept .1 .1 .1 .1 .0) (c .before .before .before .before .before .before .before .before .before .before .before .gcd-of .ensures .1)) .short, c .before .before .before .before .before .before .before .before .before .before .before .before .before .before .before .pre .1 .1, c .before .before .before .before .row-head .kept .0)
+
+-- src/bifurcate.rt:178:31
+add-clear : tie.Need-add-clear
+add-clear c = search needs
+
+-- src/bifurcate.rt:178:31
+add-clear-2 : tie.Need-add-clear-2
+add-clear-2 c = search needs
+
+-- src/bifurcate.rt:178:43
+add-clear-3 : tie.Need-add-clear-3
+add-clear-3 c = search needs
+
+-- src/bifurcate.rt:178:43
+sub-clear : tie.Need-sub-clear
+sub-clear c = (gcd-numbers (words (c .before .before .before .before .before .before .before .before .before .before .before .before .before .before .before .before .before .before .before .args .image .now)) (c .before .before .before .before .before .before .before .before .before .before .before .before .before .before .before .before .before .before .before .args .s) (c .before .before .before .before .before .before .before .before .before .before .before .before .before .before .before .before .before .before .before .pre .0) (c .before .before .before .before .before .before .before .before .before .before .before .before .before .before .before .before .before .before .before .args .lo) (c .before .before .before .before .before .before .before .before .before .before .before .before .before .before .before .before .before .before .before .args .c) (c .before .before .before .before .before .before .before .before .before .before .before .before .before .before .before .before .before .before .before .pre .1 .0) (c .before .before .before .before .before .before .before .before .before .before .before .before .before .before .before .gcd-of .last .1 .1 .1 .1 .0) (c .before .before .before .before .before .before .before .before .before .before .before .before .before .before .before .gcd-of .result) (c .before .before .before .before .before .before .before .before .before .before .before .before .before .before .before .gcd-of .ensures .0) (c .before .before .before .before .before .before .before .before .before .before .before .before .before .before .before .gcd-of .kept .1 .1 .1 .1 .0) (c .before .before .before .before .before .before .before .before .before .before .before .before .before .before .before .gcd-of .ensures .1)) .short
+
+-- src/bifurcate.rt:178:5
+clear-requires : tie.Need-clear-requires
+clear-requires c κs = omega (arith, (gcd-numbers (words (c .before .before .before .before .before .before .before .before .before .before .before .before .before .before .before .before .before .before .before .args .image .now)) (c .before .before .before .before .before .before .before .before .before .before .before .before .before .before .before .before .before .before .before .args .s) (c .before .before .before .before .before .before .before .before .before .before .before .before .before .before .before .before .before .before .before .pre .0) (c .before .before .before .before .before .before .before .before .before .before .before .before .before .before .before .before .before .before .before .args .lo) (c .before .before .before .before .before .before .before .before .before .before .before .before .before .before .before .before .before .before .before .args .c) (c .before .before .before .before .before .before .before .before .before .before .before .before .before .before .before .before .before .before .before .pre .1 .0) (c .before .before .before .before .before .before .before .before .before .before .before .before .before .before .before .gcd-of .last .1 .1 .1 .1 .0) (c .before .before .before .before .before .before .before .before .before .before .before .before .before .before .before .gcd-of .result) (c .before .before .before .before .before .before .before .before .before .before .before .before .before .before .before .gcd-of .ensures .0) (c .before .before .before .before .before .before .before .before .before .before .before .before .before .before .before .gcd-of .kept .1 .1 .1 .1 .0) (c .before .before .before .before .before .before .before .before .before .before .before .before .before .before .before .gcd-of .ensures .1)) .short, c .before .before .before .before .before .before .before .before .before .before .before .before .before .before .before .before .before .before .before .pre .1 .1, c .before .before .before .before .before .before .before .before .row-head .kept .0, c .before .before .before .paste .kept .0)
+
+-- src/bifurcate.rt:164:1
+same-length : tie.Need-same-length
+same-length c = search needs
+
+-- src/bifurcate.rt:164:1
+returns : tie.Need-returns
+returns c = leaf-written (words (c .before .before .before .before .before .before .before .before .before .before .before .before .before .before .before .before .before .before .before .before .before .before .args .image .now)) (c .before .before .before .before .before .before .before .before .before .before .before .before .before .before .before .before .before .before .before .before .before .before .args .s) (c .before .before .before .before .before .before .before .before .before .before .before .before .before .before .before .before .before .before .before .before .before .before .pre .0) (c .before .before .before .before .before .before .before .before .before .before .before .before .before .before .before .before .before .before .before .before .before .before .args .lo) (c .before .before .before .before .before .before .before .before .before .before .before .before .before .before .before .before .before .before .before .before .before .before .args .c) (c .before .before .before .before .before .before .before .before .before .before .before .before .before .before .before .before .before .before .before .before .before .before .pre .1 .0) _ _ _ _ _ _ _ _ (c .before .before .before .before .before .before .before .before .before .before .before .before .before .before .before .before .before .before .before .before .before .before .pre .1 .1) ((gcd-numbers (words (c .before .before .before .before .before .before .before .before .before .before .before .before .before .before .before .before .before .before .before .before .before .before .args .image .now)) (c .before .before .before .before .before .before .before .before .before .before .before .before .before .before .before .before .before .before .before .before .before .before .args .s) (c .before .before .before .before .before .before .before .before .before .before .before .before .before .before .before .before .before .before .before .before .before .before .pre .0) (c .before .before .before .before .before .before .before .before .before .before .before .before .before .before .before .before .before .before .before .before .before .before .args .lo) (c .before .before .before .before .before .before .before .before .before .before .before .before .before .before .before .before .before .before .before .before .before .before .args .c) (c .before .before .before .before .before .before .before .before .before .before .before .before .before .before .before .before .before .before .before .before .before .before .pre .1 .0) (c .before .before .before .before .before .before .before .before .before .before .before .before .before .before .before .before .before .before .gcd-of .last .1 .1 .1 .1 .0) (c .before .before .before .before .before .before .before .before .before .before .before .before .before .before .before .before .before .before .gcd-of .result) (c .before .before .before .before .before .before .before .before .before .before .before .before .before .before .before .before .before .before .gcd-of .ensures .0) (c .before .before .before .before .before .before .before .before .before .before .before .before .before .before .before .before .before .before .gcd-of .kept .1 .1 .1 .1 .0) (c .before .before .before .before .before .before .before .before .before .before .before .before .before .before .before .before .before .before .gcd-of .ensures .1)) .is ∙ ap (length {A = ℕ}) (sym (c .before .before .before .before .before .before .before .before .before .before .before .before .before .before .before .before .before .before .gcd-of .ensures .1) ∙ sym (front-words (c .before .before .before .before .before .before .before .before .before .before .before .before .before .before .before .before .before .before .gcd-of .last .1 .1 .1 .1 .0) (c .before .before .before .before .before .before .before .before .before .before .before .before .before .before .before .before .before .before .gcd-of .result)))) ((gcd-numbers (words (c .before .before .before .before .before .before .before .before .before .before .before .before .before .before .before .before .before .before .before .before .before .before .args .image .now)) (c .before .before .before .before .before .before .before .before .before .before .before .before .before .before .before .before .before .before .before .before .before .before .args .s) (c .before .before .before .before .before .before .before .before .before .before .before .before .before .before .before .before .before .before .before .before .before .before .pre .0) (c .before .before .before .before .before .before .before .before .before .before .before .before .before .before .before .before .before .before .before .before .before .before .args .lo) (c .before .before .before .before .before .before .before .before .before .before .before .before .before .before .before .before .before .before .before .before .before .before .args .c) (c .before .before .before .before .before .before .before .before .before .before .before .before .before .before .before .before .before .before .before .before .before .before .pre .1 .0) (c .before .before .before .before .before .before .before .before .before .before .before .before .before .before .before .before .before .before .gcd-of .last .1 .1 .1 .1 .0) (c .before .before .before .before .before .before .before .before .before .before .before .before .before .before .before .before .before .before .gcd-of .result) (c .before .before .before .before .before .before .before .before .before .before .before .before .before .before .before .before .before .before .gcd-of .ensures .0) (c .before .before .before .before .before .before .before .before .before .before .before .before .before .before .before .before .before .before .gcd-of .kept .1 .1 .1 .1 .0) (c .before .before .before .before .before .before .before .before .before .before .before .before .before .before .before .before .before .before .gcd-of .ensures .1)) .short) ((front-words (c .before .before .before .before .before .before .before .before .before .before .before .before .before .before .before .before .before .before .gcd-of .last .1 .1 .1 .1 .0) (c .before .before .before .before .before .before .before .before .before .before .before .before .before .before .before .before .before .before .gcd-of .result)) ∙ c .before .before .before .before .before .before .before .before .before .before .before .before .before .before .before .before .before .before .gcd-of .ensures .1) (c .before .before .before .before .before .before .before .before .before .before .before .before .before .map .ensures ∙ rw (range-words (c .before .before .before .before .before .before .before .before .before .before .before .before .before .before .before .before .before .before .before .before .before .before .args .image .now) (24 + (c .before .before .before .before .before .before .before .before .before .before .before .before .before .before .before .before .before .before .before .before .before .before .args .s .variables)) (c .before .before .before .before .before .before .before .before .before .before .before .before .before .before .before .before .before .before .before .before .before .before .args .s .variables)) refl) (c .before .before .before .before .before .before .before .before .before .before .before .row-head .ensures) (c .before .before .before .before .before .before .paste .ensures) (c .before .before .clear .ensures)
+
+pub write-leaf-spec : {M : Type 1} → statement M
+write-leaf-spec =
+    tie.close
+    (tie.spec
+    slice-aggregate-gcd-of
+    gcd-of-requires
+    mul-e
+    add-x
+    mul-x
+    mul-y
+    add-y
+    sub-map
+    part-map-start
+    part-map-end
+    cast-map
+    array-share-prefix-acc
+    slice-aggregate-map
+    map-requires
+    cast-row-head
+    row-head-requires
+    add-paste
+    array-share-prefix-acc-2
+    slice-aggregate-paste
+    paste-requires
+    add-clear
+    add-clear-2
+    add-clear-3
+    sub-clear
+    clear-requires
+    same-length
+    returns)

@@ -1,0 +1,102 @@
+use native.Mathlib.Omega.{arith}
+use mathlib.Core.Path.{_≡_, refl, sym, ap, _∙_}
+use Rattle.kd_tree.proofs.Laying.{query-long, node-word, grew}
+use borrow.Author.Needs.{needs}
+use Rattle.kd_tree.proofs.grow.Statement.{statement}
+use Rattle.kd_tree.proofs.grow.Tie as tie
+use Rattle.kd_tree.proofs.grow.Reads as reads
+use Rattle.kd_tree.proofs.grow.Lts as lts
+use Rattle.kd_tree.proofs.query.node_at.Reads as node-at-reads
+use Rattle.kd_tree.proofs.query.num.Reads as num-reads
+use Rattle.words.proofs.get.Reads as get-reads
+use Rattle.words.proofs.put.Reads as put-reads
+
+-- src/lib.rt:38:9
+node-at-requires : tie.Need-node-at-requires
+node-at-requires c κs = search needs
+
+-- src/lib.rt:39:34
+add-get : tie.Need-add-get
+add-get c = search needs
+
+-- src/lib.rt:39:16
+get-requires : tie.Need-get-requires
+get-requires c κs = search needs
+
+-- src/lib.rt:39:16
+cast-skip : tie.Need-cast-skip
+cast-skip c = search needs
+
+-- src/lib.rt:39:16
+add-skip : tie.Need-add-skip
+add-skip c = search needs
+
+-- src/lib.rt:40:39
+num-requires : tie.Need-num-requires
+num-requires c κs = omega (arith, query-long _ _ (c .before .before .before .before .before .before .pre .0))
+
+-- src/lib.rt:40:34
+add-get-2 : tie.Need-add-get-2
+add-get-2 c = search needs
+
+-- src/lib.rt:40:34
+add-get-3 : tie.Need-add-get-3
+add-get-3 c = search needs
+
+-- src/lib.rt:40:16
+get-requires-2 : tie.Need-get-requires-2
+get-requires-2 c κs = search needs
+
+-- src/lib.rt:40:16
+cast-less : tie.Need-cast-less
+cast-less c = search needs
+
+-- src/lib.rt:41:23
+add-put : tie.Need-add-put
+add-put c = search needs
+
+-- src/lib.rt:41:31
+cast-put : tie.Need-cast-put
+cast-put c = omega (arith, (rw (c .before .before .before .before .before .before .node-at .ensures) at (c .before .before .before .before .get .ensures)), c .before .before .before .before .before .before .before .before .before .pre .1 .1)
+
+-- src/lib.rt:41:5
+put-requires : tie.Need-put-requires
+put-requires c κs = search needs
+
+-- src/lib.rt:43:14
+add-t11 : tie.Need-add-t11
+add-t11 c = search needs
+
+-- src/lib.rt:43:14
+add-t15 : tie.Need-add-t15
+add-t15 c = search needs
+
+-- src/lib.rt:32:1
+same-length : tie.Need-same-length
+same-length c = search needs
+
+-- src/lib.rt:32:1
+returns : tie.Need-returns
+returns c = grew _ _ _ _ _ _ _ _ _ (c .before .before .before .before .before .before .before .before .before .node-at .ensures) (c .before .before .before .before .before .num .ensures .0 ∙ c .before .before .before .before .before .before .before .before .before .before .before .before .pre .0 .node-width) (c .before .before .before .before .before .before .before .get .ensures) (c .before .before .before .before .get2 .ensures) (c .before .before .put .ensures)
+
+pub grow-spec : {M : Type 1} → statement M
+grow-spec =
+    tie.close
+    (tie.spec
+    node-at-requires
+    add-get
+    get-requires
+    cast-skip
+    add-skip
+    num-requires
+    add-get-2
+    add-get-3
+    get-requires-2
+    cast-less
+    add-put
+    cast-put
+    put-requires
+    add-t11
+    add-t15
+    same-length
+    returns)

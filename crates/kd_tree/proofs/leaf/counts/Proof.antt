@@ -1,0 +1,58 @@
+use native.Mathlib.Omega.{arith}
+use mathlib.Core.Path.{_≡_, refl, sym, ap, _∙_}
+use borrow.Author.Tests.{not-true, not-false}
+use Rattle.kd_tree.proofs.Counting.{tested-at, out-by-mask, count-masked, count-below, count-past, count-divides}
+use borrow.Author.Needs.{needs}
+use Rattle.kd_tree.proofs.leaf.counts.Statement.{statement}
+use Rattle.kd_tree.proofs.leaf.counts.Tie as tie
+use Rattle.kd_tree.proofs.leaf.counts.Reads as reads
+use Rattle.kd_tree.proofs.leaf.counts.Lts as lts
+use Rattle.kd_tree.proofs.leaf.divides.Reads as divides-reads
+use Rattle.kd_tree.proofs.leaf.may.Reads as may-reads
+use Rattle.kd_tree.proofs.query.label.Reads as label-reads
+use Rattle.words.proofs.pairs.get.Reads as get-reads
+
+-- src/leaf.rt:55:9
+may-requires : tie.Need-may-requires
+may-requires c κs = search needs
+
+-- src/leaf.rt:56:9
+returns : tie.Need-returns
+returns c = count-masked _ _ _ _ _ _ (out-by-mask (c .before .before .before .before .before .args .image .now) (c .before .before .before .before .before .args .q .now) _ _ _ (c .before .before .before .before .before .pre .0) (sym (c .before .may .ensures) ∙ not-true _ (c .if1 .taken)))
+
+-- src/leaf.rt:58:9
+label-requires : tie.Need-label-requires
+label-requires c κs = (c .before .before .before .before .before .pre .0 .asks .laid, (tested-at (c .before .before .before .before .before .args .image .now) (c .before .before .before .before .before .args .q .now) _ _ _ (c .before .before .before .before .before .pre .0) .ready, (c .before .before .before .before .before .pre .1, c .before .before .before .before .before .pre .0 .inside)))
+
+-- src/leaf.rt:60:9
+returns-2 : tie.Need-returns-2
+returns-2 c = count-below _ _ _ _ _ _ _ (c .before .label .ensures .0) (c .if2 .taken)
+
+-- src/leaf.rt:62:8
+get-requires : tie.Need-get-requires
+get-requires c κs = omega (arith, tested-at (c .before .before .before .before .before .before .before .args .image .now) (c .before .before .before .before .before .before .before .args .q .now) _ _ _ (c .before .before .before .before .before .before .before .pre .0) .long)
+
+-- src/leaf.rt:63:9
+returns-3 : tie.Need-returns-3
+returns-3 c = count-past _ _ _ _ _ _ _ (c .before .before .before .label .ensures .0) (omega (arith, c .before .get .ensures, c .if3 .taken))
+
+-- src/leaf.rt:65:5
+divides-requires : tie.Need-divides-requires
+divides-requires c κs = search needs
+
+-- src/leaf.rt:50:1
+returns-4 : tie.Need-returns-4
+returns-4 c = count-divides _ _ _ _ _ _ _ _ (c .before .before .before .before .label .ensures .0) (omega (arith, c .before .before .before .if2 .left)) (omega (arith, c .before .before .get .ensures, c .before .if3 .left)) (c .divides .ensures)
+
+pub counts-spec : {M : Type 1} → statement M
+counts-spec =
+    tie.close
+    (tie.spec
+    may-requires
+    returns
+    label-requires
+    returns-2
+    get-requires
+    returns-3
+    divides-requires
+    returns-4)

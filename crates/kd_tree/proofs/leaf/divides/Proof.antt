@@ -1,0 +1,67 @@
+use native.Mathlib.Omega.{arith}
+use mathlib.Core.Path.{_≡_, refl, sym, ap, _∙_}
+use lib.ListN.{length}
+use Prim.Native.Nat.{_+_, _-_, _*_}
+use Rattle.kd_tree.proofs.Counting.{tested-at, both-start, divides-read}
+use borrow.Author.Needs.{needs}
+use Rattle.kd_tree.proofs.leaf.divides.Statement.{statement}
+use Rattle.kd_tree.proofs.leaf.divides.Tie as tie
+use Rattle.kd_tree.proofs.leaf.divides.Reads as reads
+use Rattle.kd_tree.proofs.leaf.divides.Lts as lts
+use Rattle.kd_tree.proofs.query.num.Reads as num-reads
+use Rattle.monomial.proofs.divides.Reads as divides-reads
+
+-- src/leaf.rt:29:19
+num-requires : tie.Need-num-requires
+num-requires c κs = omega (arith, tested-at (c .before .before .before .args .image .now) (c .before .before .before .args .q .now) _ _ _ (c .before .before .before .pre) .long)
+
+-- src/leaf.rt:29:52
+num-requires-2 : tie.Need-num-requires-2
+num-requires-2 c κs = omega (arith, tested-at (c .before .before .before .before .args .image .now) (c .before .before .before .before .args .q .now) _ _ _ (c .before .before .before .before .pre) .long)
+
+-- src/leaf.rt:29:48
+mul-at : tie.Need-mul-at
+mul-at c = rw (c .num2 .ensures .0) (omega (arith, tested-at (c .before .before .before .before .before .args .image .now) (c .before .before .before .before .before .args .q .now) _ _ _ (c .before .before .before .before .before .pre) .slot-small))
+
+-- src/leaf.rt:29:19
+add-at : tie.Need-add-at
+add-at c = rw (c .num2 .ensures .0) (omega (arith, tested-at (c .before .before .before .before .before .args .image .now) (c .before .before .before .before .before .args .q .now) _ _ _ (c .before .before .before .before .before .pre) .slot-small, c .before .num .ensures .0))
+
+-- src/leaf.rt:29:14
+mul-at-2 : tie.Need-mul-at-2
+mul-at-2 c = rw (c .num2 .ensures .0) (omega (arith, tested-at (c .before .before .before .before .before .args .image .now) (c .before .before .before .before .before .args .q .now) _ _ _ (c .before .before .before .before .before .pre) .slot-small, c .before .num .ensures .0))
+
+-- src/leaf.rt:30:23
+sub-divides : tie.Need-sub-divides
+sub-divides c = rw (c .num2 .ensures .0) (omega (arith, tested-at (c .before .before .before .before .before .args .image .now) (c .before .before .before .before .before .args .q .now) _ _ _ (c .before .before .before .before .before .pre) .slot-room, c .before .num .ensures .0))
+
+-- src/leaf.rt:30:23
+part-divides-start : tie.Need-part-divides-start
+part-divides-start c = rw (c .num2 .ensures .0) (omega (arith, tested-at (c .before .before .before .before .before .args .image .now) (c .before .before .before .before .before .args .q .now) _ _ _ (c .before .before .before .before .before .pre) .slot-room, c .before .num .ensures .0))
+
+-- src/leaf.rt:30:23
+part-divides-end : tie.Need-part-divides-end
+part-divides-end c = omega arith
+
+-- src/leaf.rt:30:5
+divides-requires : tie.Need-divides-requires
+divides-requires c κs = both-start (c .before .before .before .before .before .before .args .image .now) (c .before .before .before .before .before .before .args .q .now) _ _ _ (c .before .before .before .before .before .before .pre) ((c .before .before .num .result) + (c .before .before .before .before .before .before .args .e) * (c .before .num2 .result)) (length (c .before .before .before .before .before .before .args .image .now) - 4 * ((c .before .before .num .result) + (c .before .before .before .before .before .before .args .e) * (c .before .num2 .result))) (omega arith) (rw (c .before .before .num .ensures .0, c .before .num2 .ensures .0) refl)
+
+-- src/leaf.rt:25:1
+returns : tie.Need-returns
+returns c = divides-read (c .before .before .before .before .before .before .before .args .image .now) (c .before .before .before .before .before .before .before .args .q .now) _ _ _ (c .before .before .before .before .before .before .before .pre) ((c .before .before .before .num .result) + (c .before .before .before .before .before .before .before .args .e) * (c .before .before .num2 .result)) (length (c .before .before .before .before .before .before .before .args .image .now) - 4 * ((c .before .before .before .num .result) + (c .before .before .before .before .before .before .before .args .e) * (c .before .before .num2 .result))) (omega arith) (rw (c .before .before .before .num .ensures .0, c .before .before .num2 .ensures .0) refl) _ (c .divides .ensures)
+
+pub divides-spec : {M : Type 1} → statement M
+divides-spec =
+    tie.close
+    (tie.spec
+    num-requires
+    num-requires-2
+    mul-at
+    add-at
+    mul-at-2
+    sub-divides
+    part-divides-start
+    part-divides-end
+    divides-requires
+    returns)

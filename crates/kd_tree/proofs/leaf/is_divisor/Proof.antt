@@ -1,0 +1,29 @@
+use mathlib.Core.Path.{_≡_, refl, sym, ap, _∙_}
+use borrow.Author.Tests.{not-true, not-false}
+use Rattle.kd_tree.proofs.Counting.{out-by-mask}
+use borrow.Author.Needs.{needs}
+use Rattle.kd_tree.proofs.leaf.is_divisor.Statement.{statement}
+use Rattle.kd_tree.proofs.leaf.is_divisor.Tie as tie
+use Rattle.kd_tree.proofs.leaf.is_divisor.Reads as reads
+use Rattle.kd_tree.proofs.leaf.is_divisor.Lts as lts
+use Rattle.kd_tree.proofs.leaf.divides.Reads as divides-reads
+use Rattle.kd_tree.proofs.leaf.may.Reads as may-reads
+
+-- src/leaf.rt:43:9
+may-requires : tie.Need-may-requires
+may-requires c κs = search needs
+
+-- src/leaf.rt:44:9
+returns : tie.Need-returns
+returns c = sym (out-by-mask (c .before .before .before .before .before .args .image .now) (c .before .before .before .before .before .args .q .now) _ _ _ (c .before .before .before .before .before .pre) (sym (c .before .may .ensures) ∙ not-true _ (c .if1 .taken)))
+
+-- src/leaf.rt:46:5
+divides-requires : tie.Need-divides-requires
+divides-requires c κs = search needs
+
+-- src/leaf.rt:39:1
+returns-2 : tie.Need-returns-2
+returns-2 c = search needs
+
+pub is-divisor-spec : {M : Type 1} → statement M
+is-divisor-spec = tie.close (tie.spec may-requires returns divides-requires returns-2)

@@ -1,0 +1,98 @@
+use native.Mathlib.Omega.{arith}
+use mathlib.Core.Path.{_≡_, refl, sym, ap, _∙_}
+use mathlib.Core.Logic.{⊎-elim}
+use Prim.Native.Nat.{ℕ, _-_, _≤_}
+use Rattle.words.specs.Words.{words}
+use Rattle.index_image.specs.Walk as walk
+use Rattle.kd_tree.specs.Asked.{shapeIn, fromIn}
+use Rattle.kd_tree.specs.Counted.{leastAbove}
+use Rattle.kd_tree.specs.Searched.{bestOf}
+use Rattle.kd_tree.proofs.Scanning.{Scanning, scan-none, scan-more, scan-stop, scan-end, largest-miss, largest-hit, entries-ready, entered, has-labels, few-entries}
+use borrow.Author.Needs.{needs}
+use Rattle.kd_tree.proofs.leaf.largest.Statement.{statement}
+use Rattle.kd_tree.proofs.leaf.largest.Tie as tie
+use Rattle.kd_tree.proofs.leaf.largest.Reads as reads
+use Rattle.kd_tree.proofs.leaf.largest.Lts as lts
+use Rattle.kd_tree.proofs.leaf.counts.Reads as counts-reads
+use Rattle.kd_tree.proofs.leaf.least_above.Reads as least-above-reads
+use Rattle.kd_tree.proofs.query.entry_at.Reads as entry-at-reads
+use Rattle.kd_tree.proofs.step.best.Reads as best-reads
+use Rattle.kd_tree.proofs.step.going.Reads as going-reads
+
+abbrev Inv-loop : tie.InvT-loop
+Inv-loop image q m lo c acc found₀ least₀ i₀ found least i = (i ≤ c) × ((found ≤ shapeIn (words q) .entries) × ((least ≡ leastAbove (walk.label (words image) (shapeIn (words q))) (fromIn (words q)) found) × Scanning image m (shapeIn (words q)) (words q) lo c (bestOf acc) found i))
+
+abbrev μ-loop : tie.MeasureT-loop
+μ-loop image q m lo c acc found₀ least₀ i₀ found least i = c - i
+
+-- src/leaf.rt:145:9
+best-requires : tie.Need-best-requires Inv-loop μ-loop
+best-requires c κs = search needs
+
+-- src/leaf.rt:146:9
+least-above-requires : tie.Need-least-above-requires Inv-loop μ-loop
+least-above-requires c κs = (c .before .before .before .before .pre .0 .asks .laid, (entries-ready _ _ _ _ _ _ _ (c .before .before .before .before .pre .0), (has-labels _ _ _ _ _ _ _ (c .before .before .before .before .pre .0) (λ z. omega (arith, c .before .before .before .before .pre .1)), rw (c .best .ensures) (c .before .before .before .before .pre .0 .small))))
+
+-- src/leaf.rt:148:5
+loop-holds : tie.Need-loop-holds Inv-loop μ-loop
+loop-holds c = (omega arith, (rw (c .before .best .ensures) (c .before .before .before .before .before .pre .0 .small), (c .least-above .ensures, rw (c .before .best .ensures) (scan-none _ _ _ _ _ _ _ (c .before .before .before .before .before .pre .0 .inside)))))
+
+-- src/leaf.rt:149:43
+add-entry-at : tie.Need-add-entry-at Inv-loop μ-loop
+add-entry-at c = omega (arith, c .before .before .before .before .before .before .before .pre .0 .inside, few-entries _ _ _ _ _ _ _ (c .before .before .before .before .before .before .before .pre .0))
+
+-- src/leaf.rt:149:13
+entry-at-requires : tie.Need-entry-at-requires Inv-loop μ-loop
+entry-at-requires c κs = (c .before .before .before .before .before .before .before .pre .0 .asks .laid, (entries-ready _ _ _ _ _ _ _ (c .before .before .before .before .before .before .before .pre .0), omega (arith, c .before .before .before .before .before .before .before .pre .0 .inside)))
+
+-- src/leaf.rt:150:12
+counts-requires : tie.Need-counts-requires Inv-loop μ-loop
+counts-requires c κs = (entered _ _ _ _ _ _ _ (c .before .before .before .before .before .before .before .before .pre .0) _ (c .entry-at .ensures .1), has-labels _ _ _ _ _ _ _ (c .before .before .before .before .before .before .before .before .pre .0) (λ z. omega (arith, c .before .before .before .before .before .before .before .before .pre .1)))
+
+-- src/leaf.rt:151:21
+add-found : tie.Need-add-found Inv-loop μ-loop
+add-found c = omega (arith, c .before .before .entry-at .ensures .1, few-entries _ _ _ _ _ _ _ (c .before .before .before .before .before .before .before .before .before .before .pre .0))
+
+-- src/leaf.rt:152:13
+least-above-requires-2 : tie.Need-least-above-requires-2 Inv-loop μ-loop
+least-above-requires-2 c κs = (c .before .before .before .before .before .before .before .before .before .before .pre .0 .asks .laid, (entries-ready _ _ _ _ _ _ _ (c .before .before .before .before .before .before .before .before .before .before .pre .0), (has-labels _ _ _ _ _ _ _ (c .before .before .before .before .before .before .before .before .before .before .pre .0) (λ z. omega (arith, c .before .before .before .before .before .before .before .before .before .before .pre .1)), omega (arith, c .before .before .entry-at .ensures .1))))
+
+-- src/leaf.rt:154:9
+add-i : tie.Need-add-i Inv-loop μ-loop
+add-i c = omega arith
+
+-- src/leaf.rt:148:5
+loop-less : tie.Need-loop-less Inv-loop μ-loop
+loop-less c = omega arith
+
+-- src/leaf.rt:148:5
+loop-again : tie.Need-loop-again Inv-loop μ-loop
+loop-again c = ⊎-elim (λ w. (omega arith, (rw (w .2) (omega (arith, c .before .before .entry-at .ensures .1)), (rw (w .2, w .3) (w .1 .ensures), rw (w .2) (scan-more _ _ _ _ _ _ _ (c .before .before .before .before .before .before .before .before .before .before .pre .0 .inside) _ _ _ (c .before .before .before .before .loop .inv .1 .1 .1) (c .before .before .before .loop-test .taken) (c .before .before .entry-at .ensures .0) _ (largest-hit _ _ _ _ _ _ (c .before .before .entry-at .ensures .1) _ (c .before .before .before .before .before .before .before .before .before .before .pre .1 .0) (c .before .before .before .before .before .before .before .before .before .before .pre .1 .1) (c .before .before .before .before .loop .inv .1 .0) (rw (c .before .before .before .before .loop .inv .1 .1 .0) at (c .before .counts .ensures)) (w .0 .taken))))))) (λ w. (omega arith, (rw (w .1) (c .before .before .before .before .loop .inv .1 .0), (rw (w .1, w .2) (c .before .before .before .before .loop .inv .1 .1 .0), rw (w .1) (scan-more _ _ _ _ _ _ _ (c .before .before .before .before .before .before .before .before .before .before .pre .0 .inside) _ _ _ (c .before .before .before .before .loop .inv .1 .1 .1) (c .before .before .before .loop-test .taken) (c .before .before .entry-at .ensures .0) _ (largest-miss _ _ _ _ _ _ (c .before .before .entry-at .ensures .1) _ (c .before .before .before .before .before .before .before .before .before .before .pre .1 .0) (c .before .before .before .before .before .before .before .before .before .before .pre .1 .1) (c .before .before .before .before .loop .inv .1 .0) (rw (c .before .before .before .before .loop .inv .1 .1 .0) at (c .before .counts .ensures)) (w .0 .left))))))) (c .if1 .came)
+
+-- src/leaf.rt:156:5
+going-requires : tie.Need-going-requires Inv-loop μ-loop
+going-requires c κs = omega (arith, c .before .loop .inv .1 .0, few-entries _ _ _ _ _ _ _ (c .before .before .before .before .before .before .before .pre .0))
+
+-- src/leaf.rt:140:1
+returns : tie.Need-returns Inv-loop μ-loop
+returns c = (scan-end _ _ _ _ _ _ _ (c .before .before .before .before .before .before .before .before .pre .0 .inside) _ _ _ _ (c .before .before .loop .inv .1 .1 .1) (omega (arith, c .before .loop-test .left)) (c .going .ensures .1 .0) (c .going .ensures .1 .1) (c .before .before .loop .inv .1 .0), c .going .ensures .0)
+
+pub largest-spec : {M : Type 1} → statement M
+largest-spec =
+    tie.close
+    (tie.spec
+    Inv-loop
+    μ-loop
+    best-requires
+    least-above-requires
+    loop-holds
+    add-entry-at
+    entry-at-requires
+    counts-requires
+    add-found
+    least-above-requires-2
+    add-i
+    loop-less
+    loop-again
+    going-requires
+    returns)

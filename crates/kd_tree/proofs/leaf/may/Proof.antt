@@ -1,0 +1,57 @@
+use native.Mathlib.Omega.{arith}
+use mathlib.Core.Path.{_≡_, refl, sym, ap, _∙_}
+use Rattle.words.proofs.Laws.{words-small}
+use Rattle.kd_tree.proofs.Counting.{tested-at, may-is}
+use borrow.Author.Needs.{needs}
+use Rattle.kd_tree.proofs.leaf.may.Statement.{statement}
+use Rattle.kd_tree.proofs.leaf.may.Tie as tie
+use Rattle.kd_tree.proofs.leaf.may.Reads as reads
+use Rattle.kd_tree.proofs.leaf.may.Lts as lts
+use Rattle.divmask.proofs.pairs.within.Reads as within-reads
+use Rattle.kd_tree.proofs.query.num.Reads as num-reads
+use Rattle.words.proofs.pairs.get.Reads as get-reads
+
+-- src/leaf.rt:20:14
+num-requires : tie.Need-num-requires
+num-requires c κs = omega (arith, tested-at (c .before .before .before .args .image .now) (c .before .before .before .args .q .now) _ _ _ (c .before .before .before .pre) .long)
+
+-- src/leaf.rt:20:50
+num-requires-2 : tie.Need-num-requires-2
+num-requires-2 c κs = omega (arith, tested-at (c .before .before .before .before .args .image .now) (c .before .before .before .before .args .q .now) _ _ _ (c .before .before .before .before .pre) .long)
+
+-- src/leaf.rt:20:46
+mul-at : tie.Need-mul-at
+mul-at c = rw (c .num2 .ensures .0) (omega (arith, tested-at (c .before .before .before .before .before .args .image .now) (c .before .before .before .before .before .args .q .now) _ _ _ (c .before .before .before .before .before .pre) .mask-small))
+
+-- src/leaf.rt:20:14
+add-at : tie.Need-add-at
+add-at c = rw (c .num2 .ensures .0) (omega (arith, tested-at (c .before .before .before .before .before .args .image .now) (c .before .before .before .before .before .args .q .now) _ _ _ (c .before .before .before .before .before .pre) .mask-small, c .before .num .ensures .0))
+
+-- src/leaf.rt:21:28
+get-requires : tie.Need-get-requires
+get-requires c κs = rw (c .num2 .ensures .0) (omega (arith, tested-at (c .before .before .before .before .before .args .image .now) (c .before .before .before .before .before .args .q .now) _ _ _ (c .before .before .before .before .before .pre) .mask-room, c .before .num .ensures .0))
+
+-- src/leaf.rt:21:58
+get-requires-2 : tie.Need-get-requires-2
+get-requires-2 c κs = omega (arith, tested-at (c .before .before .before .before .before .before .args .image .now) (c .before .before .before .before .before .before .args .q .now) _ _ _ (c .before .before .before .before .before .before .pre) .long)
+
+-- src/leaf.rt:21:5
+within-requires : tie.Need-within-requires
+within-requires c κs = search needs
+
+-- src/leaf.rt:16:1
+returns : tie.Need-returns
+returns c = may-is _ _ _ _ _ _ _ (words-small (c .before .before .before .before .before .before .before .before .args .image .now) (λ j. (c .before .before .before .before .before .before .before .shared-slice-known .given) j .fits)) (words-small (c .before .before .before .before .before .before .before .before .args .q .now) (λ j. (c .before .before .before .before .before .before .shared-slice-known2 .given) j .fits)) (rw (c .before .before .before .before .num .ensures .0, c .before .before .before .num2 .ensures .0) refl) (c .before .before .get .ensures) (c .before .get2 .ensures) (c .within .ensures)
+
+pub may-spec : {M : Type 1} → statement M
+may-spec =
+    tie.close
+    (tie.spec
+    num-requires
+    num-requires-2
+    mul-at
+    add-at
+    get-requires
+    get-requires-2
+    within-requires
+    returns)

@@ -1,0 +1,119 @@
+use mathlib.Core.Logic.{⊎-elim}
+use native.Mathlib.Omega.{arith}
+use mathlib.Core.Path.{_≡_, refl, sym, ap, _∙_}
+use Prim.Native.Nat.{ℕ, _-_, _≤_}
+use Rattle.words.specs.Words.{words}
+use Rattle.kd_tree.specs.Asked.{shapeIn, fromIn}
+use Rattle.kd_tree.specs.Searched.{bestOf}
+use Rattle.kd_tree.proofs.Laying.{query-long}
+use Rattle.kd_tree.proofs.Scanning.{Scanning, scan-none, scan-more, scan-stop, scan-end, counted-miss, regular-made, singular-made, entries-ready, entered, has-labels, few-entries}
+use borrow.Author.Needs.{needs}
+use Rattle.kd_tree.proofs.leaf.reducer.Statement.{statement}
+use Rattle.kd_tree.proofs.leaf.reducer.Tie as tie
+use Rattle.kd_tree.proofs.leaf.reducer.Reads as reads
+use Rattle.kd_tree.proofs.leaf.reducer.Lts as lts
+use Rattle.kd_tree.proofs.leaf.counts.Reads as counts-reads
+use Rattle.kd_tree.proofs.query.entry_at.Reads as entry-at-reads
+use Rattle.kd_tree.proofs.query.label.Reads as label-reads
+use Rattle.kd_tree.proofs.step.best.Reads as best-reads
+use Rattle.kd_tree.proofs.step.going.Reads as going-reads
+use Rattle.kd_tree.proofs.step.stopped.Reads as stopped-reads
+use Rattle.words.proofs.pairs.get.Reads as get-reads
+
+abbrev Inv-loop : tie.InvT-loop
+Inv-loop image q m lo c acc from found₀ i₀ found i = (i ≤ c) × ((found ≤ shapeIn (words q) .entries) × Scanning image m (shapeIn (words q)) (words q) lo c (bestOf acc) found i)
+
+abbrev μ-loop : tie.MeasureT-loop
+μ-loop image q m lo c acc from found₀ i₀ found i = c - i
+
+-- src/leaf.rt:109:9
+get-requires : tie.Need-get-requires Inv-loop μ-loop
+get-requires c κs = omega (arith, query-long _ _ (c .before .before .before .pre .0 .asks .laid))
+
+-- src/leaf.rt:110:9
+best-requires : tie.Need-best-requires Inv-loop μ-loop
+best-requires c κs = search needs
+
+-- src/leaf.rt:112:5
+loop-holds : tie.Need-loop-holds Inv-loop μ-loop
+loop-holds c = (omega arith, (rw (c .best .ensures) (c .before .before .before .before .before .pre .0 .small), rw (c .best .ensures) (scan-none _ _ _ _ _ _ _ (c .before .before .before .before .before .pre .0 .inside))))
+
+-- src/leaf.rt:113:43
+add-entry-at : tie.Need-add-entry-at Inv-loop μ-loop
+add-entry-at c = omega (arith, c .before .before .before .before .before .before .before .pre .0 .inside, few-entries _ _ _ _ _ _ _ (c .before .before .before .before .before .before .before .pre .0))
+
+-- src/leaf.rt:113:13
+entry-at-requires : tie.Need-entry-at-requires Inv-loop μ-loop
+entry-at-requires c κs = (c .before .before .before .before .before .before .before .pre .0 .asks .laid, (entries-ready _ _ _ _ _ _ _ (c .before .before .before .before .before .before .before .pre .0), omega (arith, c .before .before .before .before .before .before .before .pre .0 .inside)))
+
+-- src/leaf.rt:114:12
+counts-requires : tie.Need-counts-requires Inv-loop μ-loop
+counts-requires c κs = (entered _ _ _ _ _ _ _ (c .before .before .before .before .before .before .before .before .pre .0) _ (c .entry-at .ensures .1), has-labels _ _ _ _ _ _ _ (c .before .before .before .before .before .before .before .before .pre .0) (λ z. omega (arith, c .before .before .before .before .before .before .before .before .pre .1 .1)))
+
+-- src/leaf.rt:115:16
+label-requires : tie.Need-label-requires Inv-loop μ-loop
+label-requires c κs = (c .before .before .before .before .before .before .before .before .before .before .pre .0 .asks .laid, (entries-ready _ _ _ _ _ _ _ (c .before .before .before .before .before .before .before .before .before .before .pre .0), (has-labels _ _ _ _ _ _ _ (c .before .before .before .before .before .before .before .before .before .before .pre .0) (λ z. omega (arith, c .before .before .before .before .before .before .before .before .before .before .pre .1 .1)), c .before .before .entry-at .ensures .1)))
+
+-- src/leaf.rt:115:44
+get-requires-2 : tie.Need-get-requires-2 Inv-loop μ-loop
+get-requires-2 c κs = omega (arith, query-long _ _ (c .before .before .before .before .before .before .before .before .before .before .before .pre .0 .asks .laid))
+
+-- src/leaf.rt:116:43
+add-stopped : tie.Need-add-stopped Inv-loop μ-loop
+add-stopped c = omega (arith, c .before .before .before .before .before .entry-at .ensures .1, few-entries _ _ _ _ _ _ _ (c .before .before .before .before .before .before .before .before .before .before .before .before .before .pre .0))
+
+-- src/leaf.rt:116:17
+stopped-requires : tie.Need-stopped-requires Inv-loop μ-loop
+stopped-requires c κs = omega (arith, c .before .before .before .before .before .entry-at .ensures .1, few-entries _ _ _ _ _ _ _ (c .before .before .before .before .before .before .before .before .before .before .before .before .before .pre .0))
+
+-- src/leaf.rt:116:17
+returns : tie.Need-returns Inv-loop μ-loop
+returns c = (scan-stop _ _ _ _ _ _ _ (c .before .before .before .before .before .before .before .before .before .before .before .before .before .before .pre .0 .inside) _ _ _ (c .before .before .before .before .before .before .before .before .loop .inv .1 .1) (c .before .before .before .before .before .before .before .loop-test .taken) (c .before .before .before .before .before .before .entry-at .ensures .0) _ _ _ (c .stopped .ensures .1 .0) (c .stopped .ensures .1 .1) (omega (arith, c .before .before .before .before .before .before .entry-at .ensures .1)) (regular-made _ _ _ _ _ _ (c .before .before .before .before .before .before .entry-at .ensures .1) _ (λ z. omega (arith, c .before .before .before .before .before .before .before .before .before .before .before .before .before .before .pre .1 .1)) (λ x y. omega (arith, c .before .before .before .before .before .before .before .before .before .before .before .before .before .before .pre .1 .1)) (rw (c .before .before .before .before .before .before .before .before .before .before .get .ensures) at (c .before .before .before .before .before .counts .ensures)) _ (c .before .before .before .before .before .before .before .before .before .before .before .before .before .before .pre .1 .1) (c .before .before .before .before .if1 .taken) (c .before .before .before .label .ensures .0) (omega (arith, c .before .if2 .taken, c .before .before .get2 .ensures))), c .stopped .ensures .0)
+
+-- src/leaf.rt:118:21
+add-found : tie.Need-add-found Inv-loop μ-loop
+add-found c = omega (arith, c .before .before .before .before .before .entry-at .ensures .1, few-entries _ _ _ _ _ _ _ (c .before .before .before .before .before .before .before .before .before .before .before .before .before .pre .0))
+
+-- src/leaf.rt:120:9
+add-i : tie.Need-add-i Inv-loop μ-loop
+add-i c = omega arith
+
+-- src/leaf.rt:112:5
+loop-less : tie.Need-loop-less Inv-loop μ-loop
+loop-less c = omega arith
+
+-- src/leaf.rt:112:5
+loop-again : tie.Need-loop-again Inv-loop μ-loop
+loop-again c = ⊎-elim (λ w. (omega arith, (rw (w .4) (omega (arith, c .before .before .entry-at .ensures .1)), rw (w .4) (scan-more _ _ _ _ _ _ _ (c .before .before .before .before .before .before .before .before .before .before .pre .0 .inside) _ _ _ (c .before .before .before .before .loop .inv .1 .1) (c .before .before .before .loop-test .taken) (c .before .before .entry-at .ensures .0) _ (singular-made _ _ _ _ _ _ (c .before .before .entry-at .ensures .1) _ (λ z. omega (arith, c .before .before .before .before .before .before .before .before .before .before .pre .1 .1)) (λ x y. omega (arith, c .before .before .before .before .before .before .before .before .before .before .pre .1 .1)) (rw (c .before .before .before .before .before .before .get .ensures) at (c .before .counts .ensures)) _ (c .before .before .before .before .before .before .before .before .before .before .pre .1 .1) (w .0 .taken) (w .1 .ensures .0) (omega (arith, w .3 .left, w .2 .ensures))))))) (λ w. (omega arith, (rw (w .1) (c .before .before .before .before .loop .inv .1 .0), rw (w .1) (scan-more _ _ _ _ _ _ _ (c .before .before .before .before .before .before .before .before .before .before .pre .0 .inside) _ _ _ (c .before .before .before .before .loop .inv .1 .1) (c .before .before .before .loop-test .taken) (c .before .before .entry-at .ensures .0) _ (counted-miss _ _ _ _ _ _ (c .before .before .entry-at .ensures .1) _ (λ z. omega (arith, c .before .before .before .before .before .before .before .before .before .before .pre .1 .1)) (λ x y. omega (arith, c .before .before .before .before .before .before .before .before .before .before .pre .1 .1)) (rw (c .before .before .before .before .before .before .get .ensures) at (c .before .counts .ensures)) (w .0 .left)))))) (c .if1 .came)
+
+-- src/leaf.rt:122:5
+going-requires : tie.Need-going-requires Inv-loop μ-loop
+going-requires c κs = omega (arith, c .before .loop .inv .1 .0, few-entries _ _ _ _ _ _ _ (c .before .before .before .before .before .before .before .pre .0))
+
+-- src/leaf.rt:104:1
+returns-2 : tie.Need-returns-2 Inv-loop μ-loop
+returns-2 c = (scan-end _ _ _ _ _ _ _ (c .before .before .before .before .before .before .before .before .pre .0 .inside) _ _ _ _ (c .before .before .loop .inv .1 .1) (omega (arith, c .before .loop-test .left)) (c .going .ensures .1 .0) (c .going .ensures .1 .1) (c .before .before .loop .inv .1 .0), c .going .ensures .0)
+
+pub reducer-spec : {M : Type 1} → statement M
+reducer-spec =
+    tie.close
+    (tie.spec
+    Inv-loop
+    μ-loop
+    get-requires
+    best-requires
+    loop-holds
+    add-entry-at
+    entry-at-requires
+    counts-requires
+    label-requires
+    get-requires-2
+    add-stopped
+    stopped-requires
+    returns
+    add-found
+    add-i
+    loop-less
+    loop-again
+    going-requires
+    returns-2)

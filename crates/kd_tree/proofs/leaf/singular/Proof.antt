@@ -1,0 +1,90 @@
+use native.Mathlib.Omega.{arith}
+use mathlib.Core.Path.{_≡_, refl, sym, ap, _∙_}
+use Prim.Native.Nat.{ℕ, _-_, _≤_}
+use Rattle.words.specs.Words.{words}
+use Rattle.kd_tree.specs.Asked.{shapeIn}
+use Rattle.kd_tree.specs.Searched.{bestOf}
+use Rattle.kd_tree.proofs.Laying.{query-long}
+use Rattle.kd_tree.proofs.Scanning.{Scanning, scan-none, scan-more, scan-stop, scan-end, counted-miss, counted-stop, entries-ready, entered, has-labels, few-entries}
+use borrow.Author.Needs.{needs}
+use Rattle.kd_tree.proofs.leaf.singular.Statement.{statement}
+use Rattle.kd_tree.proofs.leaf.singular.Tie as tie
+use Rattle.kd_tree.proofs.leaf.singular.Reads as reads
+use Rattle.kd_tree.proofs.leaf.singular.Lts as lts
+use Rattle.kd_tree.proofs.leaf.counts.Reads as counts-reads
+use Rattle.kd_tree.proofs.query.entry_at.Reads as entry-at-reads
+use Rattle.kd_tree.proofs.step.stopped.Reads as stopped-reads
+use Rattle.words.proofs.pairs.get.Reads as get-reads
+
+abbrev Inv-loop : tie.InvT-loop
+Inv-loop image q m lo c acc from i₀ i = (i ≤ c) × Scanning image m (shapeIn (words q)) (words q) lo c (bestOf acc) (bestOf acc) i
+
+abbrev μ-loop : tie.MeasureT-loop
+μ-loop image q m lo c acc from i₀ i = c - i
+
+-- src/leaf.rt:91:9
+get-requires : tie.Need-get-requires Inv-loop μ-loop
+get-requires c κs = omega (arith, query-long _ _ (c .before .before .before .pre .0 .asks .laid))
+
+-- src/leaf.rt:93:5
+loop-holds : tie.Need-loop-holds Inv-loop μ-loop
+loop-holds c = (omega arith, scan-none _ _ _ _ _ _ _ (c .before .before .before .before .pre .0 .inside))
+
+-- src/leaf.rt:94:43
+add-entry-at : tie.Need-add-entry-at Inv-loop μ-loop
+add-entry-at c = omega (arith, c .before .before .before .before .before .before .pre .0 .inside, few-entries _ _ _ _ _ _ _ (c .before .before .before .before .before .before .pre .0))
+
+-- src/leaf.rt:94:13
+entry-at-requires : tie.Need-entry-at-requires Inv-loop μ-loop
+entry-at-requires c κs = (c .before .before .before .before .before .before .pre .0 .asks .laid, (entries-ready _ _ _ _ _ _ _ (c .before .before .before .before .before .before .pre .0), omega (arith, c .before .before .before .before .before .before .pre .0 .inside)))
+
+-- src/leaf.rt:95:12
+counts-requires : tie.Need-counts-requires Inv-loop μ-loop
+counts-requires c κs = (entered _ _ _ _ _ _ _ (c .before .before .before .before .before .before .before .pre .0) _ (c .entry-at .ensures .1), has-labels _ _ _ _ _ _ _ (c .before .before .before .before .before .before .before .pre .0) (λ z. omega (arith, c .before .before .before .before .before .before .before .pre .1 .1)))
+
+-- src/leaf.rt:96:39
+add-stopped : tie.Need-add-stopped Inv-loop μ-loop
+add-stopped c = omega (arith, c .before .before .entry-at .ensures .1, few-entries _ _ _ _ _ _ _ (c .before .before .before .before .before .before .before .before .before .pre .0))
+
+-- src/leaf.rt:96:13
+stopped-requires : tie.Need-stopped-requires Inv-loop μ-loop
+stopped-requires c κs = omega (arith, c .before .before .entry-at .ensures .1, few-entries _ _ _ _ _ _ _ (c .before .before .before .before .before .before .before .before .before .pre .0))
+
+-- src/leaf.rt:96:13
+returns : tie.Need-returns Inv-loop μ-loop
+returns c = (scan-stop _ _ _ _ _ _ _ (c .before .before .before .before .before .before .before .before .before .before .pre .0 .inside) _ _ _ (c .before .before .before .before .before .loop .inv .1) (c .before .before .before .before .loop-test .taken) (c .before .before .before .entry-at .ensures .0) _ _ _ (c .stopped .ensures .1 .0) (c .stopped .ensures .1 .1) (omega (arith, c .before .before .before .entry-at .ensures .1)) (counted-stop _ _ _ _ _ _ (c .before .before .before .entry-at .ensures .1) _ (λ z. omega (arith, c .before .before .before .before .before .before .before .before .before .before .pre .1 .1)) (λ x y. omega (arith, c .before .before .before .before .before .before .before .before .before .before .pre .1 .1)) (rw (c .before .before .before .before .before .before .get .ensures) at (c .before .before .counts .ensures)) (λ z. omega (arith, c .before .before .before .before .before .before .before .before .before .before .pre .1 .1)) (c .before .if1 .taken)), c .stopped .ensures .0)
+
+-- src/leaf.rt:98:9
+add-i : tie.Need-add-i Inv-loop μ-loop
+add-i c = omega arith
+
+-- src/leaf.rt:93:5
+loop-less : tie.Need-loop-less Inv-loop μ-loop
+loop-less c = omega arith
+
+-- src/leaf.rt:93:5
+loop-again : tie.Need-loop-again Inv-loop μ-loop
+loop-again c = (omega arith, scan-more _ _ _ _ _ _ _ (c .before .before .before .before .before .before .before .before .before .pre .0 .inside) _ _ _ (c .before .before .before .before .loop .inv .1) (c .before .before .before .loop-test .taken) (c .before .before .entry-at .ensures .0) _ (counted-miss _ _ _ _ _ _ (c .before .before .entry-at .ensures .1) _ (λ z. omega (arith, c .before .before .before .before .before .before .before .before .before .pre .1 .1)) (λ x y. omega (arith, c .before .before .before .before .before .before .before .before .before .pre .1 .1)) (rw (c .before .before .before .before .before .get .ensures) at (c .before .counts .ensures)) (c .if1 .left)))
+
+-- src/leaf.rt:86:1
+returns-2 : tie.Need-returns-2 Inv-loop μ-loop
+returns-2 c = (scan-end _ _ _ _ _ _ _ (c .before .before .before .before .before .before .pre .0 .inside) _ _ _ _ (c .before .loop .inv .1) (omega (arith, c .loop-test .left)) refl (c .before .before .before .before .before .before .pre .1 .0) (c .before .before .before .before .before .before .pre .0 .small), refl)
+
+pub singular-spec : {M : Type 1} → statement M
+singular-spec =
+    tie.close
+    (tie.spec
+    Inv-loop
+    μ-loop
+    get-requires
+    loop-holds
+    add-entry-at
+    entry-at-requires
+    counts-requires
+    add-stopped
+    stopped-requires
+    returns
+    add-i
+    loop-less
+    loop-again
+    returns-2)

@@ -1,0 +1,54 @@
+use mathlib.Core.Path.{_≡_, refl, sym, ap, _∙_}
+use Rattle.kd_tree.proofs.Counting.{not-within, is-within}
+use borrow.Author.Needs.{needs}
+use Rattle.kd_tree.proofs.may.Statement.{statement}
+use Rattle.kd_tree.proofs.may.Tie as tie
+use Rattle.kd_tree.proofs.may.Reads as reads
+use Rattle.kd_tree.proofs.may.Lts as lts
+use Rattle.divmask.proofs.divides.Reads as divides-reads
+use Rattle.words.proofs.get.Reads as get-reads
+
+-- src/lib.rt:53:46
+add-get : tie.Need-add-get
+add-get c = search needs
+
+-- src/lib.rt:53:28
+get-requires : tie.Need-get-requires
+get-requires c κs = search needs
+
+-- src/lib.rt:53:55
+get-requires-2 : tie.Need-get-requires-2
+get-requires-2 c κs = search needs
+
+-- src/lib.rt:53:11
+divides-requires : tie.Need-divides-requires
+divides-requires c κs = search needs
+
+-- src/lib.rt:54:44
+enum-told : tie.Need-enum-told
+enum-told c = search needs
+
+-- src/lib.rt:55:38
+enum-told-2 : tie.Need-enum-told-2
+enum-told-2 c = search needs
+
+-- src/lib.rt:49:1
+returns : tie.Need-returns
+returns c = sym (rw (c .before .before .before .before .get .ensures, c .before .before .before .get2 .ensures) at (not-within _ _ (sym (c .enum-told .given .1) ∙ c .before .before .divides .ensures)))
+
+-- src/lib.rt:49:1
+returns-2 : tie.Need-returns-2
+returns-2 c = sym (rw (c .before .before .before .before .get .ensures, c .before .before .before .get2 .ensures) at (is-within _ _ (sym (c .enum-told2 .given .1) ∙ c .before .before .divides .ensures)))
+
+pub may-spec : {M : Type 1} → statement M
+may-spec =
+    tie.close
+    (tie.spec
+    add-get
+    get-requires
+    get-requires-2
+    divides-requires
+    enum-told
+    enum-told-2
+    returns
+    returns-2)

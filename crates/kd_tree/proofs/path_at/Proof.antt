@@ -1,0 +1,97 @@
+use native.Mathlib.Omega.{arith}
+use mathlib.Core.Path.{_≡_, refl, sym, ap, _∙_}
+use borrow.Author.Tests.{not-true, not-false}
+use Rattle.words.proofs.Laws.{words-small}
+use Rattle.kd_tree.proofs.Laying.{query-long, kind-is}
+use Rattle.kd_tree.proofs.Choosing.{branch-numbers, path-stop, path-label, path-limit}
+use borrow.Author.Needs.{needs}
+use Rattle.kd_tree.proofs.path_at.Statement.{statement}
+use Rattle.kd_tree.proofs.path_at.Tie as tie
+use Rattle.kd_tree.proofs.path_at.Reads as reads
+use Rattle.kd_tree.proofs.path_at.Lts as lts
+use Rattle.kd_tree.proofs.may.Reads as may-reads
+use Rattle.kd_tree.proofs.query.label.Reads as label-reads
+use Rattle.kd_tree.proofs.query.node_at.Reads as node-at-reads
+use Rattle.kd_tree.proofs.query.num.Reads as num-reads
+use Rattle.words.proofs.get.Reads as get-reads
+use Rattle.words.proofs.pairs.get.Reads as pairs-get-reads
+
+-- src/lib.rt:64:9
+node-at-requires : tie.Need-node-at-requires
+node-at-requires c κs = (c .before .before .before .pre .asks .laid, branch-numbers _ _ _ _ _ _ _ _ (c .before .before .before .pre) .row)
+
+-- src/lib.rt:65:15
+get-requires : tie.Need-get-requires
+get-requires c κs = omega (arith, branch-numbers _ _ _ _ _ _ _ _ (c .before .before .before .before .pre) .room, c .node-at .ensures)
+
+-- src/lib.rt:65:15
+cast-tag : tie.Need-cast-tag
+cast-tag c = search needs
+
+-- src/lib.rt:66:9
+may-requires : tie.Need-may-requires
+may-requires c κs = (omega (arith, branch-numbers _ _ _ _ _ _ _ _ (c .before .before .before .before .before .pre) .room, c .before .node-at .ensures), omega (arith, query-long _ _ (c .before .before .before .before .before .pre .asks .laid)))
+
+-- src/lib.rt:67:9
+returns : tie.Need-returns
+returns c = path-stop _ _ _ _ _ _ _ _ (rw (c .before .before .before .node-at .ensures) at (c .before .before .get .ensures)) (words-small (c .before .before .before .before .before .before .before .args .image .now) (λ j. (c .before .before .before .before .before .before .shared-slice-known .given) j .fits)) _ (not-true _ (c .if1 .taken)) (rw (c .before .before .before .node-at .ensures) at (c .before .may .ensures))
+
+-- src/lib.rt:73:33
+add-get : tie.Need-add-get
+add-get c = omega (arith, branch-numbers _ _ _ _ _ _ _ _ (c .before .before .before .before .before .before .before .pre) .room, c .before .before .before .node-at .ensures)
+
+-- src/lib.rt:73:9
+get-requires-2 : tie.Need-get-requires-2
+get-requires-2 c κs = omega (arith, branch-numbers _ _ _ _ _ _ _ _ (c .before .before .before .before .before .before .before .pre) .room, c .before .before .before .node-at .ensures)
+
+-- src/lib.rt:74:15
+num-requires : tie.Need-num-requires
+num-requires c κs = omega (arith, query-long _ _ (c .before .before .before .before .before .before .before .before .pre .asks .laid))
+
+-- src/lib.rt:75:40
+cast-label : tie.Need-cast-label
+cast-label c = search needs
+
+-- src/lib.rt:75:13
+label-requires : tie.Need-label-requires
+label-requires c κs = (c .before .before .before .before .before .before .before .before .before .before .pre .asks .laid, (branch-numbers _ _ _ _ _ _ _ _ (c .before .before .before .before .before .before .before .before .before .before .pre) .ready, (branch-numbers _ _ _ _ _ _ _ _ (c .before .before .before .before .before .before .before .before .before .before .pre) .entry (sym (rw (c .before .before .before .before .before .before .node-at .ensures) at (c .before .before .before .before .before .get .ensures)) ∙ (c .if2 .taken ∙ (c .before .num .ensures .0 ∙ kind-is _ _ (c .before .before .before .before .before .before .before .before .before .before .pre .asks .laid)))) .0, rw (c .before .before .get2 .ensures, c .before .before .before .before .before .before .node-at .ensures) (branch-numbers _ _ _ _ _ _ _ _ (c .before .before .before .before .before .before .before .before .before .before .pre) .entry (sym (rw (c .before .before .before .before .before .before .node-at .ensures) at (c .before .before .before .before .before .get .ensures)) ∙ (c .if2 .taken ∙ (c .before .num .ensures .0 ∙ kind-is _ _ (c .before .before .before .before .before .before .before .before .before .before .pre .asks .laid)))) .1))))
+
+-- src/lib.rt:77:19
+get-requires-3 : tie.Need-get-requires-3
+get-requires-3 c κs = omega (arith, query-long _ _ (c .before .before .before .before .before .before .before .before .before .before .before .pre .asks .laid))
+
+-- src/lib.rt:78:24
+get-requires-4 : tie.Need-get-requires-4
+get-requires-4 c κs = omega (arith, query-long _ _ (c .before .before .before .before .before .before .before .before .before .before .before .before .pre .asks .laid))
+
+-- src/lib.rt:76:9
+returns-2 : tie.Need-returns-2
+returns-2 c = rw (c .before .get3 .ensures, c .get4 .ensures) (path-label _ _ _ _ _ _ _ _ (rw (c .before .before .before .before .before .before .before .before .before .node-at .ensures) at (c .before .before .before .before .before .before .before .before .get .ensures)) (words-small (c .before .before .before .before .before .before .before .before .before .before .before .before .before .args .image .now) (λ j. (c .before .before .before .before .before .before .before .before .before .before .before .before .shared-slice-known .given) j .fits)) _ (not-false _ (c .before .before .before .before .before .before .if1 .left)) (rw (c .before .before .before .before .before .before .before .before .before .node-at .ensures) at (c .before .before .before .before .before .before .before .may .ensures)) (c .before .before .before .if2 .taken ∙ (c .before .before .before .before .num .ensures .0 ∙ kind-is _ _ (c .before .before .before .before .before .before .before .before .before .before .before .before .before .pre .asks .laid))) _ (c .before .before .label .ensures .0 ∙ rw (c .before .before .before .before .before .get2 .ensures, c .before .before .before .before .before .before .before .before .before .node-at .ensures) refl))
+
+-- src/lib.rt:84:23
+get-requires-5 : tie.Need-get-requires-5
+get-requires-5 c κs = omega (arith, query-long _ _ (c .before .before .before .before .before .before .before .before .before .before .pre .asks .laid), branch-numbers _ _ _ _ _ _ _ _ (c .before .before .before .before .before .before .before .before .before .before .pre) .small, (rw (c .before .before .before .before .before .before .node-at .ensures) at (c .before .before .before .before .before .get .ensures)))
+
+-- src/lib.rt:60:1
+returns-3 : tie.Need-returns-3
+returns-3 c = path-limit _ _ _ _ _ _ _ _ (rw (c .before .before .before .before .before .before .before .node-at .ensures) at (c .before .before .before .before .before .before .get .ensures)) (words-small (c .before .before .before .before .before .before .before .before .before .before .before .args .image .now) (λ j. (c .before .before .before .before .before .before .before .before .before .before .shared-slice-known .given) j .fits)) _ (not-false _ (c .before .before .before .before .if1 .left)) (rw (c .before .before .before .before .before .before .before .node-at .ensures) at (c .before .before .before .before .before .may .ensures)) (λ z. (c .before .if2 .left) (z ∙ sym (c .before .before .num .ensures .0 ∙ kind-is _ _ (c .before .before .before .before .before .before .before .before .before .before .before .pre .asks .laid)))) _ (rw (c .before .before .before .get2 .ensures, c .before .before .before .before .before .before .before .node-at .ensures, c .get5 .ensures) refl)
+
+pub path-at-spec : {M : Type 1} → statement M
+path-at-spec =
+    tie.close
+    (tie.spec
+    node-at-requires
+    get-requires
+    cast-tag
+    may-requires
+    returns
+    add-get
+    get-requires-2
+    num-requires
+    cast-label
+    label-requires
+    get-requires-3
+    get-requires-4
+    returns-2
+    get-requires-5
+    returns-3)

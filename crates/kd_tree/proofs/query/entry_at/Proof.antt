@@ -1,0 +1,30 @@
+use native.Mathlib.Omega.{arith}
+use mathlib.Core.Path.{_≡_, refl, sym, ap, _∙_}
+use Rattle.kd_tree.proofs.Laying.{query-long}
+use Rattle.index_image.proofs.Places.{place-room}
+use Prim.Native.Nat.{ℕ, _+_, _≤_}
+use borrow.Author.Needs.{needs}
+use Rattle.kd_tree.proofs.query.entry_at.Statement.{statement}
+use Rattle.kd_tree.proofs.query.entry_at.Tie as tie
+use Rattle.kd_tree.proofs.query.entry_at.Reads as reads
+use Rattle.kd_tree.proofs.query.entry_at.Lts as lts
+use Rattle.kd_tree.proofs.query.num.Reads as num-reads
+
+-- src/query.rt:71:16
+num-requires : tie.Need-num-requires
+num-requires c κs = omega (arith, query-long _ _ (c .before .before .pre .0))
+
+-- src/query.rt:71:16
+add-num : tie.Need-add-num
+add-num c = omega (arith, place-room (c .before .before .before .args .image .now) _ (c .before .before .before .pre .1 .0) (c .before .before .before .args .p) (omega (arith, c .before .before .before .pre .1 .1)), c .num .ensures .0, c .before .before .before .pre .0 .permutation)
+
+-- src/query.rt:71:5
+num-requires-2 : tie.Need-num-requires-2
+num-requires-2 c κs = omega (arith, place-room (c .before .before .before .args .image .now) _ (c .before .before .before .pre .1 .0) ((c .before .before .before .args .p) + 1) (omega (arith, c .before .before .before .pre .1 .1)), c .num .ensures .0, c .before .before .before .pre .0 .permutation)
+
+-- src/query.rt:65:1
+returns : tie.Need-returns
+returns c = (c .num2 .ensures .0 ∙ rw (c .before .num .ensures .0, c .before .before .before .before .pre .0 .permutation) refl, rw (c .num2 .ensures .0, c .before .num .ensures .0, c .before .before .before .before .pre .0 .permutation) ((c .before .before .before .before .pre .1 .0 .places) (c .before .before .before .before .args .p) (c .before .before .before .before .pre .1 .1)))
+
+pub entry-at-spec : {M : Type 1} → statement M
+entry-at-spec = tie.close (tie.spec num-requires add-num num-requires-2 returns)

@@ -1,0 +1,69 @@
+use native.Mathlib.Omega.{arith}
+use Rattle.kd_tree.proofs.Laying.{query-long, row-read, label-read}
+use mathlib.Core.Path.{_≡_, refl, sym, ap, _∙_}
+use borrow.Author.Needs.{needs}
+use Rattle.kd_tree.proofs.query.label.Statement.{statement}
+use Rattle.kd_tree.proofs.query.label.Tie as tie
+use Rattle.kd_tree.proofs.query.label.Reads as reads
+use Rattle.kd_tree.proofs.query.label.Lts as lts
+use Rattle.kd_tree.proofs.query.num.Reads as num-reads
+
+-- src/query.rt:81:26
+num-requires : tie.Need-num-requires
+num-requires c κs = omega (arith, query-long _ _ (c .before .before .pre .0))
+
+-- src/query.rt:81:44
+num-requires-2 : tie.Need-num-requires-2
+num-requires-2 c κs = omega (arith, query-long _ _ (c .before .before .before .pre .0))
+
+-- src/query.rt:81:40
+mul-num : tie.Need-mul-num
+mul-num c = rw (c .num2 .ensures .0) (omega (arith, row-read (c .before .before .before .before .args .image .now) (c .before .before .before .before .args .q .now) _ (c .before .before .before .before .pre .0) (c .before .before .before .before .pre .1 .0) (c .before .before .before .before .args .e) (c .before .before .before .before .pre .1 .1 .0) (c .before .before .before .before .pre .1 .1 .1) .is, row-read (c .before .before .before .before .args .image .now) (c .before .before .before .before .args .q .now) _ (c .before .before .before .before .pre .0) (c .before .before .before .before .pre .1 .0) (c .before .before .before .before .args .e) (c .before .before .before .before .pre .1 .1 .0) (c .before .before .before .before .pre .1 .1 .1) .small))
+
+-- src/query.rt:81:26
+add-num : tie.Need-add-num
+add-num c = rw (c .num2 .ensures .0) (omega (arith, row-read (c .before .before .before .before .args .image .now) (c .before .before .before .before .args .q .now) _ (c .before .before .before .before .pre .0) (c .before .before .before .before .pre .1 .0) (c .before .before .before .before .args .e) (c .before .before .before .before .pre .1 .1 .0) (c .before .before .before .before .pre .1 .1 .1) .is, row-read (c .before .before .before .before .args .image .now) (c .before .before .before .before .args .q .now) _ (c .before .before .before .before .pre .0) (c .before .before .before .before .pre .1 .0) (c .before .before .before .before .args .e) (c .before .before .before .before .pre .1 .1 .0) (c .before .before .before .before .pre .1 .1 .1) .small, c .before .num .ensures .0))
+
+-- src/query.rt:81:9
+num-requires-3 : tie.Need-num-requires-3
+num-requires-3 c κs = rw (c .num2 .ensures .0) (omega (arith, row-read (c .before .before .before .before .args .image .now) (c .before .before .before .before .args .q .now) _ (c .before .before .before .before .pre .0) (c .before .before .before .before .pre .1 .0) (c .before .before .before .before .args .e) (c .before .before .before .before .pre .1 .1 .0) (c .before .before .before .before .pre .1 .1 .1) .is, row-read (c .before .before .before .before .args .image .now) (c .before .before .before .before .args .q .now) _ (c .before .before .before .before .pre .0) (c .before .before .before .before .pre .1 .0) (c .before .before .before .before .args .e) (c .before .before .before .before .pre .1 .1 .0) (c .before .before .before .before .pre .1 .1 .1) .room, c .before .num .ensures .0))
+
+-- src/query.rt:82:16
+num-requires-4 : tie.Need-num-requires-4
+num-requires-4 c κs = omega (arith, query-long _ _ (c .before .before .before .before .before .pre .0))
+
+-- src/query.rt:82:38
+num-requires-5 : tie.Need-num-requires-5
+num-requires-5 c κs = omega (arith, query-long _ _ (c .before .before .before .before .before .before .pre .0))
+
+-- src/query.rt:82:32
+mul-num-2 : tie.Need-mul-num-2
+mul-num-2 c = rw (c .num5 .ensures .0) (omega (arith, label-read (c .before .before .before .before .before .before .before .args .image .now) (c .before .before .before .before .before .before .before .args .q .now) _ (c .before .before .before .before .before .before .before .pre .0) (c .before .before .before .before .before .before .before .pre .1 .0) (c .before .before .before .before .before .before .before .args .e) (c .before .before .before .before .before .before .before .pre .1 .1 .0) (c .before .before .before .before .before .before .before .pre .1 .1 .1) (c .before .before .num3 .result) (c .before .before .num3 .ensures .0 ∙ rw (c .before .before .before .before .num .ensures .0, c .before .before .before .num2 .ensures .0) refl) .small))
+
+-- src/query.rt:82:16
+add-num-2 : tie.Need-add-num-2
+add-num-2 c = rw (c .num5 .ensures .0) (omega (arith, label-read (c .before .before .before .before .before .before .before .args .image .now) (c .before .before .before .before .before .before .before .args .q .now) _ (c .before .before .before .before .before .before .before .pre .0) (c .before .before .before .before .before .before .before .pre .1 .0) (c .before .before .before .before .before .before .before .args .e) (c .before .before .before .before .before .before .before .pre .1 .1 .0) (c .before .before .before .before .before .before .before .pre .1 .1 .1) (c .before .before .num3 .result) (c .before .before .num3 .ensures .0 ∙ rw (c .before .before .before .before .num .ensures .0, c .before .before .before .num2 .ensures .0) refl) .small, c .before .num4 .ensures .0))
+
+-- src/query.rt:82:5
+num-requires-6 : tie.Need-num-requires-6
+num-requires-6 c κs = rw (c .num5 .ensures .0) (omega (arith, label-read (c .before .before .before .before .before .before .before .args .image .now) (c .before .before .before .before .before .before .before .args .q .now) _ (c .before .before .before .before .before .before .before .pre .0) (c .before .before .before .before .before .before .before .pre .1 .0) (c .before .before .before .before .before .before .before .args .e) (c .before .before .before .before .before .before .before .pre .1 .1 .0) (c .before .before .before .before .before .before .before .pre .1 .1 .1) (c .before .before .num3 .result) (c .before .before .num3 .ensures .0 ∙ rw (c .before .before .before .before .num .ensures .0, c .before .before .before .num2 .ensures .0) refl) .room, c .before .num4 .ensures .0))
+
+-- src/query.rt:75:1
+returns : tie.Need-returns
+returns c = (label-read (c .before .before .before .before .before .before .before .before .args .image .now) (c .before .before .before .before .before .before .before .before .args .q .now) _ (c .before .before .before .before .before .before .before .before .pre .0) (c .before .before .before .before .before .before .before .before .pre .1 .0) (c .before .before .before .before .before .before .before .before .args .e) (c .before .before .before .before .before .before .before .before .pre .1 .1 .0) (c .before .before .before .before .before .before .before .before .pre .1 .1 .1) (c .before .before .before .num3 .result) (c .before .before .before .num3 .ensures .0 ∙ rw (c .before .before .before .before .before .num .ensures .0, c .before .before .before .before .num2 .ensures .0) refl) .is _ (c .num6 .ensures .0 ∙ rw (c .before .before .num4 .ensures .0, c .before .num5 .ensures .0) refl), c .num6 .ensures .1)
+
+pub label-spec : {M : Type 1} → statement M
+label-spec =
+    tie.close
+    (tie.spec
+    num-requires
+    num-requires-2
+    mul-num
+    add-num
+    num-requires-3
+    num-requires-4
+    num-requires-5
+    mul-num-2
+    add-num-2
+    num-requires-6
+    returns)

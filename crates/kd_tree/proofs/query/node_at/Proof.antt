@@ -1,0 +1,31 @@
+use native.Mathlib.Omega.{arith}
+use Rattle.kd_tree.proofs.Laying.{query-long, node-word}
+use borrow.Author.Needs.{needs}
+use Rattle.kd_tree.proofs.query.node_at.Statement.{statement}
+use Rattle.kd_tree.proofs.query.node_at.Tie as tie
+use Rattle.kd_tree.proofs.query.node_at.Reads as reads
+use Rattle.kd_tree.proofs.query.node_at.Lts as lts
+use Rattle.kd_tree.proofs.query.num.Reads as num-reads
+
+-- src/query.rt:61:5
+num-requires : tie.Need-num-requires
+num-requires c κs = omega (arith, query-long _ _ (c .before .pre .0))
+
+-- src/query.rt:61:24
+num-requires-2 : tie.Need-num-requires-2
+num-requires-2 c κs = omega (arith, query-long _ _ (c .before .before .pre .0))
+
+-- src/query.rt:61:20
+mul-result : tie.Need-mul-result
+mul-result c = rw (c .num2 .ensures .0) (omega (arith, node-word _ _ (c .before .before .before .pre .0) (c .before .before .before .args .k) (c .before .before .before .pre .1) .is, node-word _ _ (c .before .before .before .pre .0) (c .before .before .before .args .k) (c .before .before .before .pre .1) .small))
+
+-- src/query.rt:61:5
+add-result : tie.Need-add-result
+add-result c = rw (c .num2 .ensures .0) (omega (arith, node-word _ _ (c .before .before .before .pre .0) (c .before .before .before .args .k) (c .before .before .before .pre .1) .is, node-word _ _ (c .before .before .before .pre .0) (c .before .before .before .args .k) (c .before .before .before .pre .1) .small, c .before .num .ensures .0))
+
+-- src/query.rt:56:1
+returns : tie.Need-returns
+returns c = rw (c .num2 .ensures .0) (omega (arith, node-word _ _ (c .before .before .before .pre .0) (c .before .before .before .args .k) (c .before .before .before .pre .1) .is, c .before .num .ensures .0))
+
+pub node-at-spec : {M : Type 1} → statement M
+node-at-spec = tie.close (tie.spec num-requires num-requires-2 mul-result add-result returns)

@@ -1,0 +1,15 @@
+use native.Mathlib.Omega.{arith}
+use Rattle.kd_tree.specs.Searched.{rowsOf, bestOf, onOf}
+use borrow.Author.Needs.{needs}
+use Rattle.kd_tree.proofs.step.best.Statement.{statement}
+use Rattle.kd_tree.proofs.step.best.Tie as tie
+use Rattle.kd_tree.proofs.step.best.Reads as reads
+use Rattle.kd_tree.proofs.step.best.Lts as lts
+
+-- src/step.rt:14:1
+returns : tie.Need-returns
+unfolding bestOf
+returns c = omega arith
+
+pub best-spec : {M : Type 1} → statement M
+best-spec = tie.close (tie.spec returns)

@@ -1,0 +1,15 @@
+use Rattle.kd_tree.proofs.Packing.{on-is}
+use native.Mathlib.Omega.{arith}
+use Rattle.kd_tree.specs.Searched.{rowsOf, bestOf, onOf}
+use borrow.Author.Needs.{needs}
+use Rattle.kd_tree.proofs.step.goes_on.Statement.{statement}
+use Rattle.kd_tree.proofs.step.goes_on.Tie as tie
+use Rattle.kd_tree.proofs.step.goes_on.Reads as reads
+use Rattle.kd_tree.proofs.step.goes_on.Lts as lts
+
+-- src/step.rt:20:1
+returns : tie.Need-returns
+returns c = on-is _
+
+pub goes-on-spec : {M : Type 1} → statement M
+goes-on-spec = tie.close (tie.spec returns)

@@ -1,0 +1,4 @@
+pub mod Asked
+pub mod Searched
+pub mod Counted
+pub mod Rooted
