@@ -41,12 +41,12 @@ put-requires-2 : tie.Need-put-requires-2 Inv-loop μ-loop
 put-requires-2 c κs = search needs
 
 -- src/main.rt:57:58
-slice-aggregate-fast-compare-get-comparer :
-    tie.Need-slice-aggregate-fast-compare-get-comparer Inv-loop μ-loop
-slice-aggregate-fast-compare-get-comparer c = search needs
+slice-aggregate-divisor-index-fast-compare-get-comparer :
+    tie.Need-slice-aggregate-divisor-index-fast-compare-get-comparer Inv-loop μ-loop
+slice-aggregate-divisor-index-fast-compare-get-comparer c = search needs
 
 -- src/main.rt:57:13
-divisor-index-fast-compare-get-comparer-requires : tie.Need-fast-compare-get-comparer-requires Inv-loop μ-loop
+divisor-index-fast-compare-get-comparer-requires : tie.Need-divisor-index-fast-compare-get-comparer-requires Inv-loop μ-loop
 divisor-index-fast-compare-get-comparer-requires c κs = search needs
 
 -- src/main.rt:59:13
@@ -93,7 +93,7 @@ rising-spec =
     slice-aggregate-put-2
     add-put
     put-requires-2
-    slice-aggregate-fast-compare-get-comparer
+    slice-aggregate-divisor-index-fast-compare-get-comparer
     divisor-index-fast-compare-get-comparer-requires
     report-requires
     same-length

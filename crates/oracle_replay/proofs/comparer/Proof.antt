@@ -28,11 +28,11 @@ array-borrow-prefix-out : tie.Need-array-borrow-prefix-out
 array-borrow-prefix-out c = search needs
 
 -- src/main.rt:118:60
-slice-aggregate-fast-compare-get-comparer : tie.Need-slice-aggregate-fast-compare-get-comparer
-slice-aggregate-fast-compare-get-comparer c = sym (length-take-le (length (c .before .before .before .before .before .before .before .before .args .a .now)) _ (omega (arith, c .before .before .copy .kept)))
+slice-aggregate-divisor-index-fast-compare-get-comparer : tie.Need-slice-aggregate-divisor-index-fast-compare-get-comparer
+slice-aggregate-divisor-index-fast-compare-get-comparer c = sym (length-take-le (length (c .before .before .before .before .before .before .before .before .args .a .now)) _ (omega (arith, c .before .before .copy .kept)))
 
 -- src/main.rt:118:9
-divisor-index-fast-compare-get-comparer-requires : tie.Need-fast-compare-get-comparer-requires
+divisor-index-fast-compare-get-comparer-requires : tie.Need-divisor-index-fast-compare-get-comparer-requires
 divisor-index-fast-compare-get-comparer-requires c κs = search needs
 
 -- src/main.rt:119:26
@@ -67,7 +67,7 @@ comparer-spec =
     slice-aggregate-copy
     copy-requires
     array-borrow-prefix-out
-    slice-aggregate-fast-compare-get-comparer
+    slice-aggregate-divisor-index-fast-compare-get-comparer
     divisor-index-fast-compare-get-comparer-requires
     cast-if2
     returns-2

@@ -18,19 +18,19 @@ returns-2 : tie.Need-returns-2
 returns-2 c = search needs
 
 -- src/main.rt:101:60
-shared-slice-read-divmask-growth : tie.Need-shared-slice-read-divmask-growth
-shared-slice-read-divmask-growth c = search needs
+shared-slice-read-divisor-index-divmask-growth : tie.Need-shared-slice-read-divisor-index-divmask-growth
+shared-slice-read-divisor-index-divmask-growth c = search needs
 
 -- src/main.rt:101:66
 array-borrow-prefix-out : tie.Need-array-borrow-prefix-out
 array-borrow-prefix-out c = search needs
 
 -- src/main.rt:101:66
-slice-aggregate-divmask-growth : tie.Need-slice-aggregate-divmask-growth
-slice-aggregate-divmask-growth c = sym (length-take-le (c .before .before .before .before .before .before .before .args .c .room) _ (omega arith))
+slice-aggregate-divisor-index-divmask-growth : tie.Need-slice-aggregate-divisor-index-divmask-growth
+slice-aggregate-divisor-index-divmask-growth c = sym (length-take-le (c .before .before .before .before .before .before .before .args .c .room) _ (omega arith))
 
 -- src/main.rt:101:9
-divisor-index-divmask-growth-requires : tie.Need-divmask-growth-requires
+divisor-index-divmask-growth-requires : tie.Need-divisor-index-divmask-growth-requires
 divisor-index-divmask-growth-requires c κs = search needs
 
 -- src/main.rt:103:9
@@ -51,9 +51,9 @@ growth-spec =
     (tie.spec
     returns
     returns-2
-    shared-slice-read-divmask-growth
+    shared-slice-read-divisor-index-divmask-growth
     array-borrow-prefix-out
-    slice-aggregate-divmask-growth
+    slice-aggregate-divisor-index-divmask-growth
     divisor-index-divmask-growth-requires
     returns-3
     holds-requires

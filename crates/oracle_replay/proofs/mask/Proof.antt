@@ -18,11 +18,11 @@ array-borrow-prefix-out : tie.Need-array-borrow-prefix-out
 array-borrow-prefix-out c = search needs
 
 -- src/main.rt:61:61
-slice-aggregate-divmask-mask : tie.Need-slice-aggregate-divmask-mask
-slice-aggregate-divmask-mask c = sym (length-take-le (c .before .before .before .before .before .args .c .room) _ (omega arith))
+slice-aggregate-divisor-index-divmask-mask : tie.Need-slice-aggregate-divisor-index-divmask-mask
+slice-aggregate-divisor-index-divmask-mask c = sym (length-take-le (c .before .before .before .before .before .args .c .room) _ (omega arith))
 
 -- src/main.rt:61:9
-divisor-index-divmask-mask-requires : tie.Need-divmask-mask-requires
+divisor-index-divmask-mask-requires : tie.Need-divisor-index-divmask-mask-requires
 divisor-index-divmask-mask-requires c κs = search needs
 
 -- src/main.rt:63:9
@@ -43,7 +43,7 @@ mask-spec =
     (tie.spec
     returns
     array-borrow-prefix-out
-    slice-aggregate-divmask-mask
+    slice-aggregate-divisor-index-divmask-mask
     divisor-index-divmask-mask-requires
     returns-2
     holds-requires

@@ -28,11 +28,11 @@ array-borrow-prefix-out : tie.Need-array-borrow-prefix-out
 array-borrow-prefix-out c = search needs
 
 -- src/main.rt:135:55
-slice-aggregate-fast-compare-rebuild : tie.Need-slice-aggregate-fast-compare-rebuild
-slice-aggregate-fast-compare-rebuild c = sym (length-take-le (length (c .before .before .before .before .before .before .before .args .a .now)) _ (omega (arith, c .before .before .copy .kept)))
+slice-aggregate-divisor-index-fast-compare-rebuild : tie.Need-slice-aggregate-divisor-index-fast-compare-rebuild
+slice-aggregate-divisor-index-fast-compare-rebuild c = sym (length-take-le (length (c .before .before .before .before .before .before .before .args .a .now)) _ (omega (arith, c .before .before .copy .kept)))
 
 -- src/main.rt:135:9
-divisor-index-fast-compare-rebuild-requires : tie.Need-fast-compare-rebuild-requires
+divisor-index-fast-compare-rebuild-requires : tie.Need-divisor-index-fast-compare-rebuild-requires
 divisor-index-fast-compare-rebuild-requires c κs = search needs
 
 -- src/main.rt:137:9
@@ -55,7 +55,7 @@ rebuild-spec =
     slice-aggregate-copy
     copy-requires
     array-borrow-prefix-out
-    slice-aggregate-fast-compare-rebuild
+    slice-aggregate-divisor-index-fast-compare-rebuild
     divisor-index-fast-compare-rebuild-requires
     returns-2
     holds-requires

@@ -28,11 +28,11 @@ array-borrow-prefix-out : tie.Need-array-borrow-prefix-out
 array-borrow-prefix-out c = search needs
 
 -- src/main.rt:85:57
-slice-aggregate-divmask-update : tie.Need-slice-aggregate-divmask-update
-slice-aggregate-divmask-update c = sym (length-take-le (length (c .before .before .before .before .before .before .before .before .args .a .now)) _ (omega (arith, c .before .before .copy .kept)))
+slice-aggregate-divisor-index-divmask-update : tie.Need-slice-aggregate-divisor-index-divmask-update
+slice-aggregate-divisor-index-divmask-update c = sym (length-take-le (length (c .before .before .before .before .before .before .before .before .args .a .now)) _ (omega (arith, c .before .before .copy .kept)))
 
 -- src/main.rt:85:9
-divisor-index-divmask-update-requires : tie.Need-divmask-update-requires
+divisor-index-divmask-update-requires : tie.Need-divisor-index-divmask-update-requires
 divisor-index-divmask-update-requires c κs = search needs
 
 -- src/main.rt:87:9
@@ -55,7 +55,7 @@ update-spec =
     slice-aggregate-copy
     copy-requires
     array-borrow-prefix-out
-    slice-aggregate-divmask-update
+    slice-aggregate-divisor-index-divmask-update
     divisor-index-divmask-update-requires
     returns-2
     holds-requires
