@@ -5,3 +5,4 @@ pub mod Scanning
 pub mod Choosing
 pub mod Visiting
 pub mod Rooting
+pub mod Ending

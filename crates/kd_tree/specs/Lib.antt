@@ -2,3 +2,4 @@ pub mod Asked
 pub mod Searched
 pub mod Counted
 pub mod Rooted
+pub mod Ended
