@@ -7,6 +7,7 @@ use Prim.Native.Nat.{ℕ, _+_, _*_, _%_, _≤_, _<_}
 use native.Mathlib.Omega.{arith}
 use lib.Dec.{eqb, leb}
 use lib.ListN.{length, take, drop}
+use lib.Seq.{take-all}
 use Rattle.words.specs.Words.{words, pasteW}
 use Rattle.monomial.specs.Monomial.{Canonical, Starts, first, lent, pow}
 use Rattle.monomial.specs.Operations.{result, divides, divided}
@@ -17,7 +18,7 @@ use Rattle.monomial.specs.declared.monomial_ordering.CmpOrd.the-variants.{Less,
 use Rattle.monomial.specs.declared.ordered_ops.Op.{Op}
 use Rattle.monomial.proofs.Laws.{length-result}
 use Rattle.monomial.proofs.Firsts.{starts-wide, starts-whole, first-whole}
-use Rattle.monomial_work.specs.Served.{lentKind, yes, number, answer, small, powersFit, variablesFit, verdict, Served}
+use Rattle.monomial_work.specs.Served.{lentKind, yes, number, one, division, answer}
 use Rattle.monomial_work.specs.declared.Work.{Work}
 use Rattle.monomial_work.specs.declared.Work.the-variants.{Gcd, Mul, WholeDivision, FractionDivision, Divides, Eq, Cmp, RatioEq, RatioCmp}
 
@@ -30,13 +31,22 @@ pub ready : (o : Op) (a b out : List ℕ) → Canonical 1 64 a → Canonical 1 6
 ready o a b out ca cb h =
     (starts ca, (starts cb, rw (first-whole ca, first-whole cb) (omega (arith, length-result 64 a b ca cb o (omega arith)))))
 
+-- a division's words, by the test that it makes
+pub division-words : (a b : List ℕ) → division (divided a b) (result Op.Quotient a b) ≡ cond (divides b a) (result Op.Quotient a b) (one 0)
+unfolding divided division
+division-words a b = go (divides b a)
+  where
+    go : (t : Bool) → division (cond t (Whole (length (result Op.Quotient a b))) NotDivisible) (result Op.Quotient a b) ≡ cond t (result Op.Quotient a b) (one 0)
+    go true = take-all (length (result Op.Quotient a b)) (result Op.Quotient a b) (omega arith)
+    go false = refl
+
 pub answer-length : (w : Work) (a b : List ℕ) → Canonical (lentKind w) 64 a → Canonical (lentKind w) 64 b → length (answer w a b) ≤ 65
 unfolding answer
 answer-length Gcd a b ca cb = length-result 64 a b ca cb Op.Gcd (omega arith)
 answer-length Mul a b ca cb = length-result 64 a b ca cb Op.Product (omega arith)
-answer-length WholeDivision a b ca cb = go (divides b a)
+answer-length WholeDivision a b ca cb = rw (division-words a b) (go (divides b a))
   where
-    go : (t : Bool) → length (cond t (result Op.Quotient a b) (1073741824 ∷ [])) ≤ 65
+    go : (t : Bool) → length (cond t (result Op.Quotient a b) (one 0)) ≤ 65
     go true = length-result 64 a b ca cb Op.Quotient (omega arith)
     go false = omega arith
 answer-length FractionDivision a b ca cb = length-result 64 a b ca cb Op.Ratio (omega arith)
