@@ -1,8 +1,7 @@
 use mathlib.Core.List.{List, [], _∷_}
 use Prim.Native.Nat.{ℕ}
-use mathlib.Core.Path.{_≡_, refl, sym, ap, _∙_}
+use mathlib.Core.Path.{sym, ap, _∙_}
 use Rattle.words.specs.Words.{words, pasteW}
-use Rattle.monomial.specs.Operations.{divided, divides}
 use Rattle.monomial.specs.Monomial.{first}
 use Rattle.monomial_work.specs.Served.{answer}
 use Rattle.monomial_work.proofs.Laws.{not-whole, whole, division-words}
