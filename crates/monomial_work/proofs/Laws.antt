@@ -1,25 +1,22 @@
 -- What the doors cite: room for every answer in at most 64 variables, and the questions one by one. Assumes nothing.
-use mathlib.Core.Path.{_≡_, refl, sym, ap, _∙_}
-use mathlib.Core.Bool.{Bool, true, false, cond, _&&_}
-use mathlib.Core.List.{List, [], _∷_, _++_}
-use mathlib.Core.Logic.{_↔_}
-use Prim.Native.Nat.{ℕ, _+_, _*_, _%_, _≤_, _<_}
+use mathlib.Core.Path.{_≡_, refl}
+use mathlib.Core.Bool.{Bool, true, false, cond}
+use mathlib.Core.List.{List}
+use Prim.Native.Nat.{ℕ, _*_, _≤_, _<_}
 use native.Mathlib.Omega.{arith}
-use lib.Dec.{eqb, leb}
-use lib.ListN.{length, take, drop}
-use Rattle.words.specs.Words.{words, pasteW}
-use Rattle.monomial.specs.Monomial.{Canonical, Starts, first, lent, pow}
+use lib.ListN.{length}
+use lib.Seq.{take-all}
+use Rattle.words.specs.Words.{words}
+use Rattle.monomial.specs.Monomial.{Canonical, Starts, first}
 use Rattle.monomial.specs.Operations.{result, divides, divided}
-use Rattle.monomial.specs.declared.Division.{Division}
 use Rattle.monomial.specs.declared.Division.the-variants.{Whole, NotDivisible}
 use Rattle.monomial.specs.declared.monomial_ordering.CmpOrd.{CmpOrd}
 use Rattle.monomial.specs.declared.monomial_ordering.CmpOrd.the-variants.{Less, Equal, Greater}
 use Rattle.monomial.specs.declared.ordered_ops.Op.{Op}
 use Rattle.monomial.proofs.Laws.{length-result}
 use Rattle.monomial.proofs.Firsts.{starts-wide, starts-whole, first-whole}
-use Rattle.monomial_work.specs.Served.{lentKind, yes, number, answer, small, powersFit, variablesFit, verdict, Served}
-use Rattle.monomial_work.specs.declared.Work.{Work}
-use Rattle.monomial_work.specs.declared.Work.the-variants.{Gcd, Mul, WholeDivision, FractionDivision, Divides, Eq, Cmp, RatioEq, RatioCmp}
+use Rattle.monomial_work.specs.Served.{yes, number, one, division, answer}
+use Rattle.monomial_work.specs.Steps.{workOf}
 
 pub starts : {k : ℕ} {a : List ℕ} → Canonical k 64 a → Starts k 4096 a
 starts c = starts-wide (starts-whole c)
@@ -30,21 +27,25 @@ pub ready : (o : Op) (a b out : List ℕ) → Canonical 1 64 a → Canonical 1 6
 ready o a b out ca cb h =
     (starts ca, (starts cb, rw (first-whole ca, first-whole cb) (omega (arith, length-result 64 a b ca cb o (omega arith)))))
 
-pub answer-length : (w : Work) (a b : List ℕ) → Canonical (lentKind w) 64 a → Canonical (lentKind w) 64 b → length (answer w a b) ≤ 65
-unfolding answer
-answer-length Gcd a b ca cb = length-result 64 a b ca cb Op.Gcd (omega arith)
-answer-length Mul a b ca cb = length-result 64 a b ca cb Op.Product (omega arith)
-answer-length WholeDivision a b ca cb = go (divides b a)
+-- a division's words, by the test that it makes
+pub division-words : (a b : List ℕ) → division (divided a b) (result Op.Quotient a b) ≡ cond (divides b a) (result Op.Quotient a b) (one 0)
+unfolding divided division
+division-words a b = go (divides b a)
   where
-    go : (t : Bool) → length (cond t (result Op.Quotient a b) (1073741824 ∷ [])) ≤ 65
+    go : (t : Bool) → division (cond t (Whole (length (result Op.Quotient a b))) NotDivisible) (result Op.Quotient a b) ≡ cond t (result Op.Quotient a b) (one 0)
+    go true = take-all (length (result Op.Quotient a b)) (result Op.Quotient a b) (omega arith)
+    go false = refl
+
+pub answer-length : (o : Op) (a b : List ℕ) → Canonical 1 64 a → Canonical 1 64 b → length (answer (workOf o) a b) ≤ 65
+unfolding answer
+answer-length Op.Gcd a b ca cb = length-result 64 a b ca cb Op.Gcd (omega arith)
+answer-length Op.Product a b ca cb = length-result 64 a b ca cb Op.Product (omega arith)
+answer-length Op.Quotient a b ca cb = rw (division-words a b) (go (divides b a))
+  where
+    go : (t : Bool) → length (cond t (result Op.Quotient a b) (one 0)) ≤ 65
     go true = length-result 64 a b ca cb Op.Quotient (omega arith)
     go false = omega arith
-answer-length FractionDivision a b ca cb = length-result 64 a b ca cb Op.Ratio (omega arith)
-answer-length Divides a b ca cb = omega arith
-answer-length Eq a b ca cb = omega arith
-answer-length Cmp a b ca cb = omega arith
-answer-length RatioEq a b ca cb = omega arith
-answer-length RatioCmp a b ca cb = omega arith
+answer-length Op.Ratio a b ca cb = length-result 64 a b ca cb Op.Ratio (omega arith)
 
 -- what whole division answered
 pub not-whole : (a b : List ℕ) → divided a b ≡ NotDivisible → divides b a ≡ false

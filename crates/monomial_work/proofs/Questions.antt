@@ -1,15 +1,15 @@
 -- The questions of a door, one law for each way out of it. Assumes nothing.
 use mathlib.Core.Path.{_≡_, refl, sym, ap, _∙_}
 use mathlib.Core.Bool.{Bool, true, false, cond, not, _&&_}
-use mathlib.Core.List.{List, [], _∷_, _++_}
-use mathlib.Core.Logic.{_↔_}
-use Prim.Native.Nat.{ℕ, _+_, _*_, _%_, _≤_, _<_}
+use mathlib.Core.List.{List, _++_}
+use Prim.Native.Nat.{ℕ, _+_, _*_, _≤_, _<_}
 use native.Mathlib.Omega.{arith}
 use native.Mathlib.Decide.{decLe}
 use lib.Dec.{eqb, leb}
 use lib.ListN.{length, take, drop}
 use lib.Seq.{take-at, take-all, length-take-le}
-use borrow.Author.Tests.{le-leb, lt-leb, leb-true}
+use borrow.Author.Tests.{ne-eqb, le-leb, lt-leb, leb-true}
+use Rattle.monomial.proofs.Canon.{both-true}
 use Rattle.words.specs.Words.{words, bytes, pasteW}
 use Rattle.words.proofs.Laws.{pasteW-front, length-pasteW, length-bytes, words-bytes}
 use Rattle.monomial.specs.Monomial.{Canonical, lent, pow}
@@ -18,34 +18,18 @@ use Rattle.monomial.specs.declared.ordered_ops.Op.{Op}
 use Rattle.monomial.proofs.Divisions.{all-true, all-each}
 use Rattle.monomial.proofs.Laws.{canonical-more, lent-canonical, product-canonical, result-small}
 use Rattle.monomial.proofs.Powers.{pow-ids}
-use Rattle.monomial_work.specs.Served.{lentKind, answer, small, powersFit, variablesFit, verdict, Served}
-use Rattle.monomial_work.specs.Steps.{tooLarge}
+use Rattle.monomial_work.specs.Served.{lentKind, one, answer, small, powersFit, variablesFit, verdict, Served}
+use Rattle.monomial_work.specs.Steps.{refusal, workOf, tooLarge, Told}
 use Rattle.monomial_work.specs.declared.Work.{Work}
-use Rattle.monomial_work.specs.declared.Work.the-variants.{Gcd, Mul, WholeDivision, FractionDivision, Divides, Eq, Cmp, RatioEq, RatioCmp}
 
 same-truth : (x y : Bool) → (x ≡ true → y ≡ true) → (y ≡ true → x ≡ true) → x ≡ y
 same-truth true y f g = sym (f refl)
 same-truth false true f g = g refl
 same-truth false false f g = refl
 
-pub kind-fits : (w : Work) → (1 ≤ lentKind w) × (lentKind w ≤ 2)
-kind-fits Gcd = (omega arith, omega arith)
-kind-fits Mul = (omega arith, omega arith)
-kind-fits WholeDivision = (omega arith, omega arith)
-kind-fits FractionDivision = (omega arith, omega arith)
-kind-fits Divides = (omega arith, omega arith)
-kind-fits Eq = (omega arith, omega arith)
-kind-fits Cmp = (omega arith, omega arith)
-kind-fits RatioEq = (omega arith, omega arith)
-kind-fits RatioCmp = (omega arith, omega arith)
-
 pub fits : (m : ℕ) → 1 ≤ m → m ≤ 64 → variablesFit m ≡ true
 unfolding variablesFit
 fits m h l = simp (le-leb 1 m h, le-leb m 64 l)
-
--- what was lent is canonical in 64 variables too
-pub canonical-64 : (w : Work) (m : ℕ) (s : List ℕ) → m ≤ 64 → lent (lentKind w) m s ≡ true → Canonical (lentKind w) 64 (words s)
-canonical-64 w m s h e = canonical-more (kind-fits w .0) h (lent-canonical (lentKind w) m s .0 e .1)
 
 -- the words made are a product in range exactly where they are canonical
 product-asked : (m : ℕ) (a b : List ℕ) → m ≤ 64 → Canonical 1 m a → Canonical 1 m b → lent 1 m (bytes (result Op.Product a b)) ≡ powersFit a b
@@ -71,86 +55,129 @@ product-asked m a b h ca cb = same-truth _ _ to from
               ])),
         )
 
-pub asked : (w : Work) (m : ℕ) (a b : List ℕ) → m ≤ 64 → Canonical (lentKind w) m a → Canonical (lentKind w) m b
-    → tooLarge w m (bytes (answer w a b)) ≡ not (small w a b)
+asked : (o : Op) (m : ℕ) (a b : List ℕ) → m ≤ 64 → Canonical 1 m a → Canonical 1 m b → tooLarge o m (bytes (answer (workOf o) a b)) ≡ not (small (workOf o) a b)
 unfolding answer small
-asked Gcd m a b h ca cb = refl
-asked Mul m a b h ca cb = ap not (product-asked m a b h ca cb)
-asked WholeDivision m a b h ca cb = refl
-asked FractionDivision m a b h ca cb = refl
-asked Divides m a b h ca cb = refl
-asked Eq m a b h ca cb = refl
-asked Cmp m a b h ca cb = refl
-asked RatioEq m a b h ca cb = refl
-asked RatioCmp m a b h ca cb = refl
+asked Op.Gcd m a b h ca cb = refl
+asked Op.Product m a b h ca cb = ap not (product-asked m a b h ca cb)
+asked Op.Quotient m a b h ca cb = refl
+asked Op.Ratio m a b h ca cb = refl
+
+pub kinds : (o : Op) → lentKind (workOf o) ≡ 1
+kinds Op.Gcd = refl
+kinds Op.Product = refl
+kinds Op.Quotient = refl
+kinds Op.Ratio = refl
+
+-- ---- questions 1 and 7
+pub few-variables : (k m : ℕ) (a b : List ℕ) → m ≡ 0 → 1 ≡ refusal k m a b
+unfolding refusal variablesFit
+few-variables k m a b h = rw h
+
+pub many-variables : (k m : ℕ) (a b : List ℕ) → 64 < m → 1 ≡ refusal k m a b
+unfolding refusal variablesFit
+many-variables k m a b h = simp (le-leb 1 m (omega arith), lt-leb m 64 h)
+
+module _ (k m : ℕ) (a b : List ℕ) (one : 1 ≤ m) (few : m ≤ 64) where
+  pub first-not : lent k m a ≡ false → 7 ≡ refusal k m a b
+  unfolding refusal
+  first-not h = rw (fits m one few, h)
+
+  pub second-not : lent k m a ≡ true → lent k m b ≡ false → 7 ≡ refusal k m a b
+  unfolding refusal
+  second-not h l = rw (fits m one few, h, l)
+
+  pub both-canonical : lent k m a ≡ true → lent k m b ≡ true → 0 ≡ refusal k m a b
+  unfolding refusal
+  both-canonical h l = rw (fits m one few, h, l)
+
+-- what they tell where no reply is no
+pub record Fine (k m : ℕ) (a b : List ℕ) : Type 0 where
+  pub fit : variablesFit m ≡ true
+  pub few : m ≤ 64
+  pub la : lent k m a ≡ true
+  pub lb : lent k m b ≡ true
+
+pub fine : (k m : ℕ) (a b : List ℕ) → 0 ≡ refusal k m a b → Fine k m a b
+unfolding refusal variablesFit
+fine k m a b e = go (leb 1 m && leb m 64) (lent k m a) (lent k m b) refl refl refl e
+  where
+    go : (x y z : Bool) → (leb 1 m && leb m 64) ≡ x → lent k m a ≡ y → lent k m b ≡ z → _≡_ {A = ℕ} 0 (cond x (cond (y && z) 0 7) 1) → Fine k m a b
+    go true true true p q r t = record { fit = p; few = leb-true m 64 (both-true (leb 1 m) (leb m 64) p .1); la = q; lb = r }
+    go true true false p q r t = absurd (omega arith)
+    go true false z p q r t = absurd (omega arith)
+    go false y z p q r t = absurd (omega arith)
+
+-- what was lent is canonical in 64 variables too
+pub canonical-64 : (k m : ℕ) (s : List ℕ) → 0 < k → m ≤ 64 → lent k m s ≡ true → Canonical k 64 (words s)
+canonical-64 k m s pos h e = canonical-more pos h (lent-canonical k m s .0 e .1)
 
 module _ (w : Work) (m : ℕ) (a b out : List ℕ) where
   refused : (r : ℕ) → verdict w m a b out ≡ r → eqb r 0 ≡ false → Served w m a b out r out
   refused r e z = record { number-is = sym e; bytes-are = rw (e, z) }
 
-  pub no-variables : m ≡ 0 → Served w m a b out 1 out
-  unfolding verdict variablesFit
-  no-variables h = refused 1 (rw h) refl
+  -- a no to question 1 or 7
+  pub asked-no : {r : ℕ} → r ≡ refusal (lentKind w) m a b → (r ≡ 0 → ⊥) → Served w m a b out r out
+  unfolding verdict refusal
+  asked-no {r} e h = refused r (go (variablesFit m) (lent (lentKind w) m a && lent (lentKind w) m b) _ e) (ne-eqb r 0 h)
+    where
+      go : (x y : Bool) (z : ℕ) → r ≡ cond x (cond y 0 7) 1 → cond x (cond y z 7) 1 ≡ r
+      go true true z q = absurd (h q)
+      go true false z q = sym q
+      go false y z q = sym q
 
-  pub many-variables : 64 < m → Served w m a b out 1 out
-  unfolding verdict variablesFit
-  many-variables h = refused 1 (simp (le-leb 1 m (omega arith), lt-leb m 64 h)) refl
-
-  module _ (one : 1 ≤ m) (few : m ≤ 64) where
-    pub first-not-canonical : lent (lentKind w) m a ≡ false → Served w m a b out 7 out
+  module _ (f : Fine (lentKind w) m a b) where
+    pub told : {p r : ℕ} {after : List ℕ} → small w (words a) (words b) ≡ true → answer w (words a) (words b) ≡ one p → Told p out r after → Served w m a b out r after
     unfolding verdict
-    first-not-canonical h = refused 7 (rw (fits m one few, h)) refl
+    told {p} {r} {after} s e t = go (leb 4 (length out)) refl
+      where
+        is : (x : Bool) → leb 4 (length out) ≡ x → verdict w m a b out ≡ cond x 0 5
+        is x q = rw (f .fit, f .la, f .lb, s, e, q)
 
-    module _ (la : lent (lentKind w) m a ≡ true) where
-      pub second-not-canonical : lent (lentKind w) m b ≡ false → Served w m a b out 7 out
-      unfolding verdict
-      second-not-canonical h = refused 7 (rw (fits m one few, la, h)) refl
+        go : (x : Bool) → leb 4 (length out) ≡ x → Served w m a b out r after
+        go true q = record { number-is = t .number-is ∙ rw q (sym (is true q)); bytes-are = t .bytes-are ∙ rw (q, is true q, e) }
+        go false q = record { number-is = t .number-is ∙ rw q (sym (is false q)); bytes-are = t .bytes-are ∙ rw (q, is false q) }
 
-      module _ (lb : lent (lentKind w) m b ≡ true) (space made : List ℕ) (n : ℕ)
-          (en : n ≡ length (answer w (words a) (words b))) (em : made ≡ pasteW space 0 (answer w (words a) (words b))) where
-        front : take (4 * n) made ≡ bytes (answer w (words a) (words b))
-        front =
-            rw (em, pasteW-front space (answer w (words a) (words b)))
-            (take-at (bytes (answer w (words a) (words b))) _ (4 * n) (length-bytes (answer w (words a) (words b)) ∙ ap (λ (i : ℕ). 4 * i) (sym en)))
+module _ (o : Op) (m : ℕ) (a b out : List ℕ) (f : Fine 1 m a b) (space made : List ℕ) (n : ℕ)
+    (en : n ≡ length (answer (workOf o) (words a) (words b))) (em : made ≡ pasteW space 0 (answer (workOf o) (words a) (words b))) where
+  front : take (4 * n) made ≡ bytes (answer (workOf o) (words a) (words b))
+  front =
+      rw (em, pasteW-front space (answer (workOf o) (words a) (words b)))
+      (take-at (bytes (answer (workOf o) (words a) (words b))) _ (4 * n) (length-bytes (answer (workOf o) (words a) (words b)) ∙ ap (λ (i : ℕ). 4 * i) (sym en)))
 
-        question : tooLarge w m (take (4 * n) made) ≡ not (small w (words a) (words b))
-        question =
-            rw front
-            (asked w m (words a) (words b) few (lent-canonical (lentKind w) m a .0 la .1) (lent-canonical (lentKind w) m b .0 lb .1))
+  question : tooLarge o m (take (4 * n) made) ≡ not (small (workOf o) (words a) (words b))
+  question = rw front (asked o m (words a) (words b) (f .few) (lent-canonical 1 m a .0 (f .la) .1) (lent-canonical 1 m b .0 (f .lb) .1))
 
-        small-is : (t : Bool) → tooLarge w m (take (4 * n) made) ≡ not t → small w (words a) (words b) ≡ t
-        small-is t h = go (small w (words a) (words b)) t (sym question ∙ h)
-          where
-            go : (x y : Bool) → not x ≡ not y → x ≡ y
-            go true true e = refl
-            go true false e = sym e
-            go false true e = sym e
-            go false false e = refl
+  small-is : (t : Bool) → tooLarge o m (take (4 * n) made) ≡ not t → small (workOf o) (words a) (words b) ≡ t
+  small-is t h = go (small (workOf o) (words a) (words b)) t (sym question ∙ h)
+    where
+      go : (x y : Bool) → not x ≡ not y → x ≡ y
+      go true true e = refl
+      go true false e = sym e
+      go false true e = sym e
+      go false false e = refl
 
-        pub power-too-large : tooLarge w m (take (4 * n) made) ≡ true → Served w m a b out 9 out
-        unfolding verdict
-        power-too-large h = refused 9 (rw (fits m one few, la, lb, small-is false h)) refl
+  verdict-is : (t : Bool) → tooLarge o m (take (4 * n) made) ≡ not t → verdict (workOf o) m a b out ≡ cond t (cond (leb (4 * n) (length out)) 0 5) 9
+  unfolding verdict
+  verdict-is t h = rw (kinds o, f .fit, f .la, f .lb, small-is t h, ← en)
 
-        pub no-room : tooLarge w m (take (4 * n) made) ≡ false → length out < 4 * n → Served w m a b out 5 out
-        unfolding verdict
-        no-room h l = refused 5 (rw (fits m one few, la, lb, small-is true h, ← en, lt-leb (4 * n) (length out) l)) refl
+  pub power-too-large : tooLarge o m (take (4 * n) made) ≡ true → Served (workOf o) m a b out 9 out
+  power-too-large h = refused (workOf o) m a b out 9 (verdict-is false h) refl
 
-        served-is : tooLarge w m (take (4 * n) made) ≡ false → 4 * n ≤ length out → verdict w m a b out ≡ 0
-        unfolding verdict
-        served-is h l = rw (fits m one few, la, lb, small-is true h, ← en, le-leb (4 * n) (length out) l)
+  pub no-room : tooLarge o m (take (4 * n) made) ≡ false → length out < 4 * n → Served (workOf o) m a b out 5 out
+  no-room h l = refused (workOf o) m a b out 5 (verdict-is true h ∙ rw (lt-leb (4 * n) (length out) l)) refl
 
-        pub answered : tooLarge w m (take (4 * n) made) ≡ false → 4 * n ≤ length out → (after : List ℕ)
-            → after ≡ take (length (take (4 * n) made)) (take (4 * n) made) ++ drop (length (take (4 * n) made)) out → Served w m a b out 0 after
-        answered h l after e = record {
-          number-is = sym zero-is;
-          bytes-are = rw zero-is (e ∙ rw front (rw (take-all (length (bytes A)) (bytes A) (omega arith), length-bytes A) (sym (pasteW-front out A))));
-        }
-          where
-            A : List ℕ
-            A = answer w (words a) (words b)
+  pub answered : tooLarge o m (take (4 * n) made) ≡ false → 4 * n ≤ length out → (after : List ℕ)
+      → after ≡ take (length (take (4 * n) made)) (take (4 * n) made) ++ drop (length (take (4 * n) made)) out → Served (workOf o) m a b out 0 after
+  answered h l after e = record {
+    number-is = sym zero-is;
+    bytes-are = rw zero-is (e ∙ rw front (rw (take-all (length (bytes A)) (bytes A) (omega arith), length-bytes A) (sym (pasteW-front out A))));
+  }
+    where
+      A : List ℕ
+      A = answer (workOf o) (words a) (words b)
 
-            zero-is : verdict w m a b out ≡ 0
-            zero-is = served-is h l
+      zero-is : verdict (workOf o) m a b out ≡ 0
+      zero-is = verdict-is true h ∙ rw (le-leb (4 * n) (length out) l)
 
 -- the answer that was made aside has its room
 pub record Made (made : List ℕ) (n : ℕ) : Type 0 where

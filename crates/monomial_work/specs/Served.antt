@@ -4,12 +4,14 @@ use mathlib.Core.Bool.{Bool, true, false, cond, _&&_}
 use mathlib.Core.List.{List, [], _∷_}
 use Prim.Native.Nat.{ℕ, _+_, _*_}
 use lib.Dec.{eqb, leb}
-use lib.ListN.{length}
+use lib.ListN.{length, take}
 use Rattle.words.specs.Kinds.{answerWord}
 use Rattle.words.specs.Words.{words, pasteW}
 use Rattle.monomial.specs.Monomial.{pow, lent}
-use Rattle.monomial.specs.Operations.{result, allBelow, divides, equal}
+use Rattle.monomial.specs.Operations.{result, allBelow, divides, divided, equal}
 use Rattle.monomial.specs.Order.{order}
+use Rattle.monomial.specs.declared.Division.{Division}
+use Rattle.monomial.specs.declared.Division.the-variants.{Whole, NotDivisible}
 use Rattle.monomial.specs.declared.monomial_ordering.CmpOrd.{CmpOrd}
 use Rattle.monomial.specs.declared.monomial_ordering.CmpOrd.the-variants.{Less, Equal, Greater}
 use Rattle.monomial.specs.declared.ordered_ops.Op.{Op}
@@ -42,11 +44,16 @@ number Greater = 2
 abbrev pub one : ℕ → List ℕ
 one p = answerWord p ∷ []
 
--- the words answered; no quotient is a kind 4 word, payload 0
+-- a division's words: the n of its quotient q; no quotient is a kind 4 word, payload 0
+unfoldable pub division : Division → List ℕ → List ℕ
+division (Whole n) q = take n q
+division NotDivisible q = one 0
+
+-- the words answered
 unfoldable pub answer : Work → List ℕ → List ℕ → List ℕ
 answer Gcd a b = result Op.Gcd a b
 answer Mul a b = result Op.Product a b
-answer WholeDivision a b = cond (divides b a) (result Op.Quotient a b) (one 0)
+answer WholeDivision a b = division (divided a b) (result Op.Quotient a b)
 answer FractionDivision a b = result Op.Ratio a b
 answer Divides a b = one (yes (divides a b))
 answer Eq a b = one (yes (equal a b))

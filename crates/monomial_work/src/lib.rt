@@ -1,13 +1,13 @@
 // The monomial work on lent bytes, exported to C. Each door asks its questions in document 01's order and demands nothing.
 use monomial::Division;
 use monomial::monomial_ordering::CmpOrd;
+use monomial::ordered_ops::Op;
 ghost use mathlib.Core.Path.{_≡_};
 ghost use Prim.Native.Nat.{_*_, _<_, _≤_};
 ghost use lib.ListN.{length};
 ghost use Rattle.words.specs.Words.{words, pasteW};
 ghost use Rattle.monomial.specs.Monomial.{Canonical, Starts, first};
 ghost use Rattle.monomial.specs.Operations.{result};
-ghost use Rattle.monomial.specs.declared.ordered_ops.Op.{Op};
 ghost use Rattle.monomial_work.specs.Served as spec;
 ghost use Rattle.monomial_work.specs.Steps as steps;
 
@@ -22,22 +22,6 @@ pub enum Work {
     Cmp,
     RatioEq,
     RatioCmp,
-}
-
-fn lent_kind(w: Work) -> u32
-    ensures { λ r. ⌜ r ≡ spec.lentKind w ⌝ }
-{
-    match w {
-        Work::Gcd => 1,
-        Work::Mul => 1,
-        Work::WholeDivision => 1,
-        Work::FractionDivision => 1,
-        Work::Divides => 1,
-        Work::Eq => 1,
-        Work::Cmp => 1,
-        Work::RatioEq => 2,
-        Work::RatioCmp => 2,
-    }
 }
 
 fn yes(b: bool) -> u32
@@ -79,46 +63,36 @@ fn quotient(a: &[u8], b: &[u8], out: &mut [u8]) -> usize
 }
 
 // Writes the answer's words, and returns their number. The room asked for holds every answer in at most 64 variables.
-fn answer(w: Work, a: &[u8], b: &[u8], out: &mut [u8]) -> usize
-    requires { ⌜ Canonical (spec.lentKind w) 64 (words (now a)) ⌝ }
-    requires { ⌜ Canonical (spec.lentKind w) 64 (words (now b)) ⌝ }
+fn answer(op: Op, a: &[u8], b: &[u8], out: &mut [u8]) -> usize
+    requires { ⌜ Canonical 1 64 (words (now a)) ⌝ }
+    requires { ⌜ Canonical 1 64 (words (now b)) ⌝ }
     requires { ⌜ 260 ≤ length (now out) ⌝ }
-    ensures { λ r. ⌜ r ≡ length (spec.answer w (words (now (a .entry))) (words (now (b .entry)))) ⌝ }
-    ensures { λ _. ⌜ now (out .exit) ≡ pasteW (now (out .entry)) 0 (spec.answer w (words (now (a .entry))) (words (now (b .entry)))) ⌝ }
+    ensures { λ r. ⌜ (r ≡ length (spec.answer (steps.workOf op) (words (now (a .entry))) (words (now (b .entry))))) × (now (out .exit) ≡ pasteW (now (out .entry)) 0 (spec.answer (steps.workOf op) (words (now (a .entry))) (words (now (b .entry))))) ⌝ }
 {
-    match w {
-        Work::Gcd => monomial::gcd(a, b, out),
-        Work::Mul => monomial::mul(a, b, out),
-        Work::WholeDivision => quotient(a, b, out),
-        Work::FractionDivision => monomial::fraction_division(a, b, out),
-        Work::Divides => put_answer(out, yes(monomial::divides(a, b))),
-        Work::Eq => put_answer(out, yes(monomial::eq(a, b))),
-        Work::Cmp => put_answer(out, number(monomial::monomial_ordering::ord(a, b, 1))),
-        Work::RatioEq => put_answer(out, yes(monomial::eq(a, b))),
-        Work::RatioCmp => put_answer(out, number(monomial::monomial_ordering::ord(a, b, 2))),
+    match op {
+        Op::Gcd => monomial::gcd(a, b, out),
+        Op::Product => monomial::mul(a, b, out),
+        Op::Quotient => quotient(a, b, out),
+        Op::Ratio => monomial::fraction_division(a, b, out),
     }
 }
 
 // Whether an answer has a power too large: only a product can.
-fn too_large(w: Work, made: &[u8], variables: u32) -> bool
-    ensures { λ r. ⌜ r ≡ steps.tooLarge w variables (now (made .entry)) ⌝ }
+fn too_large(op: Op, made: &[u8], variables: u32) -> bool
+    ensures { λ r. ⌜ r ≡ steps.tooLarge op variables (now (made .entry)) ⌝ }
 {
-    match w {
-        Work::Gcd => false,
-        Work::Mul => !monomial::is_canonical(made, 1, variables),
-        Work::WholeDivision => false,
-        Work::FractionDivision => false,
-        Work::Divides => false,
-        Work::Eq => false,
-        Work::Cmp => false,
-        Work::RatioEq => false,
-        Work::RatioCmp => false,
+    match op {
+        Op::Gcd => false,
+        Op::Product => !monomial::is_canonical(made, 1, variables),
+        Op::Quotient => false,
+        Op::Ratio => false,
     }
 }
 
-// The answer is made aside first, since a refusal changes no byte.
-pub fn serve(w: Work, variables: u32, a: &[u8], b: &[u8], out: &mut [u8]) -> u32
-    ensures { λ r. ⌜ spec.Served w variables (now (a .entry)) (now (b .entry)) (now (out .entry)) r (now (out .exit)) ⌝ }
+// Questions 1 and 7 of two lists of a kind: 0, or the number of the first whose reply is no.
+fn refusal(variables: u32, a: &[u8], b: &[u8], kind: u32) -> u32
+    requires { ⌜ (1 ≤ kind) × (kind ≤ 2) ⌝ }
+    ensures { λ r. ⌜ r ≡ steps.refusal kind variables (now (a .entry)) (now (b .entry)) ⌝ }
 {
     if variables == 0 {
         return 1;
@@ -126,22 +100,44 @@ pub fn serve(w: Work, variables: u32, a: &[u8], b: &[u8], out: &mut [u8]) -> u32
     if 64 < variables {
         return 1;
     }
-    let kind = lent_kind(w);
     if !monomial::is_canonical(a, kind, variables) {
         return 7;
     }
     if !monomial::is_canonical(b, kind, variables) {
         return 7;
     }
+    0
+}
+
+// The doors whose answer is a monomial or ratio. It is made aside first, since a refusal changes no byte.
+fn make(op: Op, variables: u32, a: &[u8], b: &[u8], out: &mut [u8]) -> u32
+    ensures { λ r. ⌜ spec.Served (steps.workOf op) variables (now (a .entry)) (now (b .entry)) (now (out .entry)) r (now (out .exit)) ⌝ }
+{
+    let r = refusal(variables, a, b, 1);
+    if r != 0 {
+        return r;
+    }
     let mut made = [0u8; 260];
-    let e = 4 * answer(w, a, b, &mut made);
-    if too_large(w, &made[..e], variables) {
+    let e = 4 * answer(op, a, b, &mut made);
+    if too_large(op, &made[..e], variables) {
         return 9;
     }
     if out.len() < e {
         return 5;
     }
     bytes::copy(&made[..e], out);
+    0
+}
+
+// The doors whose answer is one word: question 5, and the word.
+fn tell(out: &mut [u8], p: u32) -> u32
+    requires { ⌜ p < 268435456 ⌝ }
+    ensures { λ r. ⌜ steps.Told p (now (out .entry)) r (now (out .exit)) ⌝ }
+{
+    if out.len() < 4 {
+        return 5;
+    }
+    words::put(out, 0, words::answer_word(p));
     0
 }
 
@@ -155,7 +151,7 @@ pub extern "C" fn divisor_index_monomial_gcd(
 ) -> u32
     ensures { λ r. ⌜ spec.Served Work.Gcd variables (now (a .entry)) (now (b .entry)) (now (out .entry)) r (now (out .exit)) ⌝ }
 {
-    serve(Work::Gcd, variables, a, b, out)
+    make(Op::Gcd, variables, a, b, out)
 }
 
 // The product; 9 where a power is above 32,767.
@@ -168,7 +164,7 @@ pub extern "C" fn divisor_index_monomial_mul(
 ) -> u32
     ensures { λ r. ⌜ spec.Served Work.Mul variables (now (a .entry)) (now (b .entry)) (now (out .entry)) r (now (out .exit)) ⌝ }
 {
-    serve(Work::Mul, variables, a, b, out)
+    make(Op::Product, variables, a, b, out)
 }
 
 // The quotient a / b, or a kind 4 word with payload 0 where b does not divide a.
@@ -181,7 +177,7 @@ pub extern "C" fn divisor_index_monomial_whole_division(
 ) -> u32
     ensures { λ r. ⌜ spec.Served Work.WholeDivision variables (now (a .entry)) (now (b .entry)) (now (out .entry)) r (now (out .exit)) ⌝ }
 {
-    serve(Work::WholeDivision, variables, a, b, out)
+    make(Op::Quotient, variables, a, b, out)
 }
 
 // The ratio a / b.
@@ -194,7 +190,7 @@ pub extern "C" fn divisor_index_monomial_fraction_division(
 ) -> u32
     ensures { λ r. ⌜ spec.Served Work.FractionDivision variables (now (a .entry)) (now (b .entry)) (now (out .entry)) r (now (out .exit)) ⌝ }
 {
-    serve(Work::FractionDivision, variables, a, b, out)
+    make(Op::Ratio, variables, a, b, out)
 }
 
 // Whether a divides b.
@@ -207,7 +203,11 @@ pub extern "C" fn divisor_index_monomial_divides(
 ) -> u32
     ensures { λ r. ⌜ spec.Served Work.Divides variables (now (a .entry)) (now (b .entry)) (now (out .entry)) r (now (out .exit)) ⌝ }
 {
-    serve(Work::Divides, variables, a, b, out)
+    let r = refusal(variables, a, b, 1);
+    if r != 0 {
+        return r;
+    }
+    tell(out, yes(monomial::divides(a, b)))
 }
 
 // Whether two monomials are equal.
@@ -220,7 +220,11 @@ pub extern "C" fn divisor_index_monomial_eq(
 ) -> u32
     ensures { λ r. ⌜ spec.Served Work.Eq variables (now (a .entry)) (now (b .entry)) (now (out .entry)) r (now (out .exit)) ⌝ }
 {
-    serve(Work::Eq, variables, a, b, out)
+    let r = refusal(variables, a, b, 1);
+    if r != 0 {
+        return r;
+    }
+    tell(out, yes(monomial::eq(a, b)))
 }
 
 // How two monomials compare: less 0, equal 1, greater 2.
@@ -233,7 +237,11 @@ pub extern "C" fn divisor_index_monomial_cmp(
 ) -> u32
     ensures { λ r. ⌜ spec.Served Work.Cmp variables (now (a .entry)) (now (b .entry)) (now (out .entry)) r (now (out .exit)) ⌝ }
 {
-    serve(Work::Cmp, variables, a, b, out)
+    let r = refusal(variables, a, b, 1);
+    if r != 0 {
+        return r;
+    }
+    tell(out, number(monomial::monomial_ordering::ord(a, b, 1)))
 }
 
 // Whether two ratios are equal.
@@ -241,7 +249,11 @@ pub extern "C" fn divisor_index_monomial_cmp(
 pub extern "C" fn divisor_index_ratio_eq(variables: u32, a: &[u8], b: &[u8], out: &mut [u8]) -> u32
     ensures { λ r. ⌜ spec.Served Work.RatioEq variables (now (a .entry)) (now (b .entry)) (now (out .entry)) r (now (out .exit)) ⌝ }
 {
-    serve(Work::RatioEq, variables, a, b, out)
+    let r = refusal(variables, a, b, 2);
+    if r != 0 {
+        return r;
+    }
+    tell(out, yes(monomial::eq(a, b)))
 }
 
 // How two ratios compare.
@@ -249,5 +261,26 @@ pub extern "C" fn divisor_index_ratio_eq(variables: u32, a: &[u8], b: &[u8], out
 pub extern "C" fn divisor_index_ratio_cmp(variables: u32, a: &[u8], b: &[u8], out: &mut [u8]) -> u32
     ensures { λ r. ⌜ spec.Served Work.RatioCmp variables (now (a .entry)) (now (b .entry)) (now (out .entry)) r (now (out .exit)) ⌝ }
 {
-    serve(Work::RatioCmp, variables, a, b, out)
+    let r = refusal(variables, a, b, 2);
+    if r != 0 {
+        return r;
+    }
+    tell(out, number(monomial::monomial_ordering::ord(a, b, 2)))
+}
+
+// The door of each work, for programs that run them all.
+pub fn serve(w: Work, variables: u32, a: &[u8], b: &[u8], out: &mut [u8]) -> u32
+    ensures { λ r. ⌜ spec.Served w variables (now (a .entry)) (now (b .entry)) (now (out .entry)) r (now (out .exit)) ⌝ }
+{
+    match w {
+        Work::Gcd => divisor_index_monomial_gcd(variables, a, b, out),
+        Work::Mul => divisor_index_monomial_mul(variables, a, b, out),
+        Work::WholeDivision => divisor_index_monomial_whole_division(variables, a, b, out),
+        Work::FractionDivision => divisor_index_monomial_fraction_division(variables, a, b, out),
+        Work::Divides => divisor_index_monomial_divides(variables, a, b, out),
+        Work::Eq => divisor_index_monomial_eq(variables, a, b, out),
+        Work::Cmp => divisor_index_monomial_cmp(variables, a, b, out),
+        Work::RatioEq => divisor_index_ratio_eq(variables, a, b, out),
+        Work::RatioCmp => divisor_index_ratio_cmp(variables, a, b, out),
+    }
 }

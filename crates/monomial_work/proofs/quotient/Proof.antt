@@ -1,11 +1,10 @@
 use mathlib.Core.List.{List, [], _∷_}
 use Prim.Native.Nat.{ℕ}
-use mathlib.Core.Path.{_≡_, refl, sym, ap, _∙_}
+use mathlib.Core.Path.{sym, ap, _∙_}
 use Rattle.words.specs.Words.{words, pasteW}
-use Rattle.monomial.specs.Operations.{divided, divides}
 use Rattle.monomial.specs.Monomial.{first}
 use Rattle.monomial_work.specs.Served.{answer}
-use Rattle.monomial_work.proofs.Laws.{not-whole, whole}
+use Rattle.monomial_work.proofs.Laws.{not-whole, whole, division-words}
 use borrow.Author.Needs.{needs}
 use Rattle.monomial_work.proofs.quotient.Statement.{statement}
 use Rattle.monomial_work.proofs.quotient.Tie as tie
@@ -37,8 +36,11 @@ same-length c = search needs
 -- src/lib.rt:79:9
 returns : tie.Need-returns
 unfolding answer
-returns c = let e = not-whole (first 1 (words (c .before .before .before .before .before .before .before .before .before .before .before .before .before .args .a .now))) (first 1 (words (c .before .before .before .before .before .before .before .before .before .before .before .before .before .args .b .now))) (sym (c .before .before .before .before .before .before .before .before .whole-division .ensures .0) ∙ c .before .before .before .before .enum-told .given .1) in
-    rw e (c .before .before .put-answer .ensures .0, c .before .before .put-answer .ensures .1 ∙ ap (λ (l : List ℕ). pasteW l 0 (1073741824 ∷ [])) (c .before .before .before .before .before .before .before .before .whole-division .ensures .1 ∙ rw e))
+returns c =
+    let a = first 1 (words (c .before .before .before .before .before .before .before .before .before .before .before .before .before .args .a .now)) in
+    let b = first 1 (words (c .before .before .before .before .before .before .before .before .before .before .before .before .before .args .b .now)) in
+    let e = not-whole a b (sym (c .before .before .before .before .before .before .before .before .whole-division .ensures .0) ∙ c .before .before .before .before .enum-told .given .1) in
+    rw (division-words a b, e) (c .before .before .put-answer .ensures .0, c .before .before .put-answer .ensures .1 ∙ ap (λ (l : List ℕ). pasteW l 0 (1073741824 ∷ [])) (c .before .before .before .before .before .before .before .before .whole-division .ensures .1 ∙ rw e))
 
 -- src/lib.rt:72:1
 same-length-2 : tie.Need-same-length-2
@@ -47,8 +49,11 @@ same-length-2 c = search needs
 -- src/lib.rt:72:1
 returns-2 : tie.Need-returns-2
 unfolding answer
-returns-2 c = let e = whole (first 1 (words (c .before .before .before .before .before .before .before .before .before .before .args .a .now))) (first 1 (words (c .before .before .before .before .before .before .before .before .before .before .args .b .now))) (c .before .n .given .0 .0) (sym (c .before .before .before .before .before .whole-division .ensures .0) ∙ c .before .n .given .1) in
-    rw (e .0) (e .1, c .before .before .before .before .before .whole-division .ensures .1 ∙ rw (e .0))
+returns-2 c =
+    let a = first 1 (words (c .before .before .before .before .before .before .before .before .before .before .args .a .now)) in
+    let b = first 1 (words (c .before .before .before .before .before .before .before .before .before .before .args .b .now)) in
+    let e = whole a b (c .before .n .given .0 .0) (sym (c .before .before .before .before .before .whole-division .ensures .0) ∙ c .before .n .given .1) in
+    rw (division-words a b, e .0) (e .1, c .before .before .before .before .before .whole-division .ensures .1 ∙ rw (e .0))
 
 pub quotient-spec : {M : Type 1} → statement M
 quotient-spec =
