@@ -6,3 +6,4 @@ pub mod Choosing
 pub mod Visiting
 pub mod Rooting
 pub mod Ending
+pub mod Posing

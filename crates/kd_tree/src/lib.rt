@@ -174,7 +174,7 @@ pub fn find(image: &mut [u8], q: &[u8], m: &[u8]) -> usize
 {
     let rows = query::num(q, query::NODES);
     let acc = step::first(rows);
-    let n = open_node(image, q, 0, 0, 0, rows);
+    let n = kd_split::split_node(image, query::shape(q), 0, 0, 0, rows);
     if n == 0 {
         let r = scan(image, q, m, 0, 0, acc);
         words::put(image, fields::NODES, rows as u32);
