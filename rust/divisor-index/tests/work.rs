@@ -150,15 +150,15 @@ fn map_openings() {
 /// A monomial index of one variable and capacity 1 that holds x0.
 #[test]
 fn images() {
-    let mut words = [0; 16 + 2 + 3 + 1 + 7];
+    let mut words = [0; 24 + 2 + 4 + 1 + 7];
     words[..6].copy_from_slice(&[1, 0, 1, 1, 1, 1]);
-    words[16..22].copy_from_slice(&[1, 1, 0x1000_0001, 1, u32::MAX, 0]);
-    words[22..].copy_from_slice(&[0, 0, 1, 0, u32::MAX, 0x1000_0001, 1]);
+    words[24..31].copy_from_slice(&[1, 1, 0x1000_0001, 1, u32::MAX, 1, 0]);
+    words[31..].copy_from_slice(&[0, 0, 1, 0, u32::MAX, 0x1000_0001, 1]);
     let mut lent: Vec<u8> = words.iter().flat_map(|word| word.to_le_bytes()).collect();
-    assert_eq!(image::check(&lent[..115]), Err(Refusal::Unsound));
+    assert_eq!(image::check(&lent[..151]), Err(Refusal::Unsound));
     assert_eq!(image::check(&lent), Ok(()));
     lent.push(0xEE);
     assert_eq!(image::check(&lent), Ok(()));
-    lent[4 * 24] = 2;
+    lent[4 * 33] = 2;
     assert_eq!(image::check(&lent), Err(Refusal::Unsound));
 }
