@@ -56,6 +56,9 @@ slotIn Q = getD Q 78 0
 abbrev pub maskAtIn : List ℕ → ℕ
 maskAtIn Q = getD Q 79 0
 
+abbrev pub entryWidthIn : List ℕ → ℕ
+entryWidthIn Q = getD Q 83 0
+
 -- ---- the image's shape
 unfoldable pub shapeIn : List ℕ → Shape
 shapeIn Q = record { kind = getD Q 87 0; variables = getD Q 88 0; capacity = getD Q 89 0; entries = getD Q 90 0; nodes = getD Q 91 0 }
@@ -68,7 +71,7 @@ pub record Laid (Q : List ℕ) (s : Shape) : Type 0 where
   pub node : getD Q 80 0 ≡ at.nodeAt s 0
   pub node-width : getD Q 81 0 ≡ at.nodeWidth (s .variables)
   pub permutation : getD Q 82 0 ≡ at.permutationAt s
-  pub entry-width : getD Q 83 0 ≡ at.entryWidth s
+  pub entry-width : entryWidthIn Q ≡ at.entryWidth s
   pub row : getD Q 84 0 ≡ at.rowAt s 0
   pub row-width : getD Q 85 0 ≡ s .variables + 3
   pub label : getD Q 86 0 ≡ at.labelAt s 0

@@ -15,7 +15,7 @@ use Rattle.index_image.specs.Rows.{monomialIn}
 use Rattle.index_image.specs.Walk.{label}
 use Rattle.index_image.specs.declared.Shape.{Shape}
 use Rattle.kd_split.specs.Held.{Holds}
-use Rattle.kd_tree.specs.Asked.{maskIn, vectorIn, slotIn, maskAtIn, toIn, Asks}
+use Rattle.kd_tree.specs.Asked.{maskIn, vectorIn, slotIn, maskAtIn, entryWidthIn, toIn, Asks}
 
 -- entry e is one of those that the query is asked of
 pub record Entered (bs ms : List ℕ) (s : Shape) (Q : List ℕ) (e : ℕ) : Type 0 where
@@ -27,7 +27,7 @@ pub record Entered (bs ms : List ℕ) (s : Shape) (Q : List ℕ) (e : ℕ) : Typ
 
 -- its mask and short exponent vector leave it open that it divides
 unfoldable pub mayAt : (W Q : List ℕ) → ℕ → Bool
-mayAt W Q e = within (getD W (maskAtIn Q + e * getD Q 83 0) 0) (maskIn Q) && within (getD W (maskAtIn Q + e * getD Q 83 0 + 1) 0) (vectorIn Q)
+mayAt W Q e = within (getD W (maskAtIn Q + e * entryWidthIn Q) 0) (maskIn Q) && within (getD W (maskAtIn Q + e * entryWidthIn Q + 1) 0) (vectorIn Q)
 
 -- its lm or signature monomial divides
 unfoldable pub divisorAt : (W : List ℕ) (s : Shape) (Q M : List ℕ) → ℕ → Bool

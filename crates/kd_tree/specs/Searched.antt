@@ -116,6 +116,6 @@ Chosen bs ms s Q k lo rows less other next =
 
 -- the skip of the branch at row k has grown, and where its other side is
 pub record Grew (bs bs′ : List ℕ) (s : Shape) (k added row less : ℕ) : Type 0 where
-  pub bytes : bs′ ≡ putW bs (at.nodeAt s k + 3) (getD (words bs) (at.nodeAt s k + 3) 0 + added)
-  pub row-is : row ≡ k + 1 + (getD (words bs) (at.nodeAt s k + 3) 0 + added)
-  pub less-is : less ≡ getD (words bs) (at.nodeAt s (k + 1) + 2) 0
+  pub bytes : bs′ ≡ putW bs (at.skipAt (at.nodeAt s k)) (getD (words bs) (at.skipAt (at.nodeAt s k)) 0 + added)
+  pub row-is : row ≡ k + 1 + (getD (words bs) (at.skipAt (at.nodeAt s k)) 0 + added)
+  pub less-is : less ≡ getD (words bs) (at.countAt (at.nodeAt s (k + 1))) 0

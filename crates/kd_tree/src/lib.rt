@@ -35,7 +35,7 @@ pub struct Other {
 fn grow(image: &mut [u8], q: &[u8], k: usize, added: usize) -> Other
     requires { ⌜ Laid (words (now q)) (shapeIn (words (now q))) ⌝ }
     requires { ⌜ (k ≤ 8190) × (4 * (at.nodeAt (shapeIn (words (now q))) k + (2 * shapeIn (words (now q)) .variables + 12)) ≤ length (now image)) ⌝ }
-    requires { ⌜ getD (words (now image)) (at.nodeAt (shapeIn (words (now q))) k + 3) 0 + added ≤ 8191 ⌝ }
+    requires { ⌜ getD (words (now image)) (at.skipAt (at.nodeAt (shapeIn (words (now q))) k)) 0 + added ≤ 8191 ⌝ }
     ensures { λ r. ⌜ Grew (now (image .entry)) (now (image .exit)) (shapeIn (words (now (q .entry)))) k added (r .row) (r .less) ⌝ }
 {
     let at = query::node_at(q, k);

@@ -23,7 +23,7 @@ pub record Here (W : List ℕ) (s : Shape) (k lo room : ℕ) : Type 0 where
   pub few : lo + count tree ≤ s .entries
   pub fits : 4 * length (lms W s (inorder tree)) ≤ room
 
--- r words are monomialsAt at the front: the monomials of the tree
+-- r words are written at the front: the monomials of the tree
 pub record Below (W : List ℕ) (s : Shape) (k lo : ℕ) (out out′ : List ℕ) (r : ℕ) (h : Here W s k lo (length out)) : Type 0 where
   pub long : r ≡ length (lms W s (inorder (h .tree)))
   pub bytes : out′ ≡ pasteW out 0 (lms W s (inorder (h .tree)))
