@@ -3,7 +3,7 @@ use mathlib.Core.Path.{_≡_, refl, sym, ap, _∙_}
 use mathlib.Core.Bool.{true, false, _&&_}
 use mathlib.Core.List.{List, [], _∷_, append-nil}
 use mathlib.Core.Logic.{_⊎_, inl, inr, _↔_}
-use Prim.Native.Nat.{ℕ, zero, suc, _+_, _*_, _/_, _≤_, _<_}
+use Prim.Native.Nat.{ℕ, zero, suc, _+_, _*_, _≤_, _<_}
 use native.Mathlib.Omega.{arith}
 use native.Mathlib.Decide.{ℕ-discrete, decLe}
 use lib.Dec.{eqb, leb}
@@ -218,7 +218,7 @@ module _ {m : ℕ} {A bs₀ bs : List ℕ} {i : ℕ} (s : Updating m A bs₀ bs 
       let n : length bs₀ ≡ 4 * length (words bs) = omega (arith, s .whole, s .good .one-each) in
       rw (left, h) (sym (paste-all bs₀ (words bs) n ∙ bytes-words bs (s .small) (omega (arith, s .kept, s .whole))))
 
-  pub at-end : w / 65536 ≡ 0 → bs ≡ pasteW bs₀ 0 (updated A (words bs₀))
+  pub at-end : kind w ≡ 0 → bs ≡ pasteW bs₀ 0 (updated A (words bs₀))
   at-end h = stopped (updated-end w (drop (i + 1) A) (words bs) (λ k. omega arith))
 
   pub record Word : Type 0 where
@@ -227,17 +227,17 @@ module _ {m : ℕ} {A bs₀ bs : List ℕ} {i : ℕ} (s : Updating m A bs₀ bs 
     pub high : power w ≤ 32767
     pub rest : Rest 1 A (i + 1) (ident w)
 
-  pub variable : (w / 65536 ≡ 0 → ⊥) → Word
+  pub variable : (kind w ≡ 0 → ⊥) → Word
   variable h = go (word-at (omega arith) w (s .ra) e)
     where
       go : Last 1 A (s .b) w ⊎ Next 1 A i (s .b) w → Word
-      go (inl z) = absurd (h (z .upper))
+      go (inl z) = absurd (h (omega (arith, z .upper)))
       go (inr z) = record { kinded = z .var .kinded; known = omega (arith, z .var .below, s .below); high = z .var .high; rest = z .rest }
 
-  pub not-above : (w / 65536 ≡ 0 → ⊥) → power w ≤ getD (words bs) (ident w) 0 → bs ≡ pasteW bs₀ 0 (updated A (words bs₀))
+  pub not-above : (kind w ≡ 0 → ⊥) → power w ≤ getD (words bs) (ident w) 0 → bs ≡ pasteW bs₀ 0 (updated A (words bs₀))
   not-above h l = stopped (updated-stop w (drop (i + 1) A) (words bs) (variable h .kinded) l)
 
-  pub raises : (w / 65536 ≡ 0 → ⊥) → getD (words bs) (ident w) 0 < power w → {bs′ : List ℕ} → bs′ ≡ putW bs (ident w) (power w) → Bytes bs′ → Updating m A bs₀ bs′ (i + 1)
+  pub raises : (kind w ≡ 0 → ⊥) → getD (words bs) (ident w) 0 < power w → {bs′ : List ℕ} → bs′ ≡ putW bs (ident w) (power w) → Bytes bs′ → Updating m A bs₀ bs′ (i + 1)
   raises h l {bs′} q k =
       let v = variable h in
       let f : words bs′ ≡ set (words bs) (ident w) (power w) =

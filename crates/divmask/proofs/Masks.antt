@@ -12,7 +12,7 @@ use lib.Dec.{leb, ltb}
 use lib.ListN.{getD}
 use lib.Pow.{pow-mono}
 use borrow.Author.Tests.{leb-false}
-use Rattle.words.specs.Kinds.{ident, power}
+use Rattle.words.specs.Kinds.{kind, ident, power}
 use Rattle.monomial.specs.Monomial.{Canonical, first, pow}
 use Rattle.monomial.specs.Operations.{Divides, allBelow}
 use Rattle.monomial.proofs.Canon.{canon-of}
@@ -208,7 +208,7 @@ unfolding bits
 bits-are m v b e = e
 
 module _ {m : ℕ} {xs A : List ℕ} {i sum : ℕ} (s : Mapping m xs A i sum) {w : ℕ} (e : w ≡ getD A i 0) where
-  pub mapped : w / 65536 ≡ 0 → sum ≡ mask m xs (pow 1 A)
+  pub mapped : kind w ≡ 0 → sum ≡ mask m xs (pow 1 A)
   mapped h = go (word-at (omega arith) w (s .ra) e)
     where
       go : Last 1 A (s .b) w ⊎ Next 1 A i (s .b) w → sum ≡ mask m xs (pow 1 A)
@@ -225,11 +225,11 @@ module _ {m : ℕ} {xs A : List ℕ} {i sum : ℕ} (s : Mapping m xs A i sum) {w
     pub fits : sum + parts (bits m (ident w)) (getD xs (ident w) 0) (power w) (bits m (ident w)) * 2 ^ firstBit m (ident w) < 2 ^ 32
     pub rest : Mapping m xs A (i + 1) (sum + parts (bits m (ident w)) (getD xs (ident w) 0) (power w) (bits m (ident w)) * 2 ^ firstBit m (ident w))
 
-  pub step : (w / 65536 ≡ 0 → ⊥) → Step
+  pub step : (kind w ≡ 0 → ⊥) → Step
   step h = go (word-at (omega arith) w (s .ra) e)
     where
       go : Last 1 A (s .b) w ⊎ Next 1 A i (s .b) w → Step
-      go (inl z) = absurd (h (z .upper))
+      go (inl z) = absurd (h (omega (arith, z .upper)))
       go (inr z) =
           let u = ident w in
           let f : fields m xs (pow 1 A) (s .b) ≡ fields m xs (pow 1 A) u + parts (bits m u) (getD xs u 0) (power w) (bits m u) * 2 ^ firstBit m u =
@@ -245,9 +245,9 @@ module _ {m : ℕ} {xs A : List ℕ} {i sum : ℕ} (s : Mapping m xs A i sum) {w
             rest = record { b = u; below = omega arith; ra = z .rest; split = omega (arith, s .split) };
           }
 
-  -- the same with what the code's helpers gave: x the maximum, b the bits, f the field, t the first bit
-  module _ (h : w / 65536 ≡ 0 → ⊥) {x b f t : ℕ} (ex : x ≡ getD xs (ident w) 0) (eb : b ≡ 32 / m + cond (ltb (ident w) (32 % m)) 1 0)
-      (ef : f ≡ parts b x (power w) b) (et : t ≡ ident w * (32 / m) + min (ident w) (32 % m)) where
+  -- the same with what the code's helpers gave: v the id, p the power, x the maximum, b the bits, f the field, t the first bit
+  module _ (h : kind w ≡ 0 → ⊥) {v p x b f t : ℕ} (ev : v ≡ ident w) (ep : p ≡ power w) (ex : x ≡ getD xs v 0)
+      (eb : b ≡ 32 / m + cond (ltb v (32 % m)) 1 0) (ef : f ≡ parts b x p b) (et : t ≡ v * (32 / m) + min v (32 % m)) where
     pub record Stepped : Type 0 where
       pub shift : t ≤ 32
       pub fits : sum + f * 2 ^ t % 2 ^ 64 < 2 ^ 32
@@ -256,8 +256,8 @@ module _ {m : ℕ} {xs A : List ℕ} {i sum : ℕ} (s : Mapping m xs A i sum) {w
     pub stepped : Stepped
     stepped =
         let k = step h in
-        let is : t ≡ firstBit m (ident w) = et ∙ sym (first-closed m (ident w)) in
-        let fs : f ≡ parts (bits m (ident w)) (getD xs (ident w) 0) (power w) (bits m (ident w)) = ef ∙ rw (ex, bits-are m (ident w) b eb) in
+        let is : t ≡ firstBit m (ident w) = et ∙ sym (first-closed m v) ∙ ap (firstBit m) ev in
+        let fs : f ≡ parts (bits m (ident w)) (getD xs (ident w) 0) (power w) (bits m (ident w)) = ef ∙ rw (ex, bits-are m v b eb, ev, ep) in
         let small : f * 2 ^ t < 2 ^ 64 = rw (is, fs) (omega (arith, k .fits)) in
         record {
           shift = omega (arith, k .first);

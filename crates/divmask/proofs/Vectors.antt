@@ -10,7 +10,7 @@ use lib.Dec.{ltb}
 use lib.ListN.{length, getD, List·getD-append}
 use lib.Seq.{getD-append-seam}
 use borrow.Author.Tests.{lt-ltb, le-ltb}
-use Rattle.words.specs.Kinds.{ident, power}
+use Rattle.words.specs.Kinds.{kind, ident, power}
 use Rattle.words.specs.Tables.{table}
 use Rattle.words.proofs.Tables.{length-table}
 use Rattle.monomial.specs.Monomial.{pow}
@@ -85,15 +85,15 @@ pub record Short (m : ℕ) (A : List ℕ) (i sum t f : ℕ) : Type 0 where
   pub rest : Mapping m (bitCounts m) A (i + 1) (sum + f * 2 ^ t % 2 ^ 64)
 
 module _ {m : ℕ} {A : List ℕ} {i sum : ℕ} (s : Mapping m (bitCounts m) A i sum) {w : ℕ} (e : w ≡ getD A i 0) where
-  pub vector-mapped : w / 65536 ≡ 0 → sum ≡ vector m (pow 1 A)
+  pub vector-mapped : kind w ≡ 0 → sum ≡ vector m (pow 1 A)
   unfolding vector
   vector-mapped h = mapped s e h
 
-  pub short-stepped : (h : w / 65536 ≡ 0 → ⊥) {b f t : ℕ} (eb : b ≡ 32 / m + cond (ltb (ident w) (32 % m)) 1 0) → f ≡ parts b (max 1 b) (power w) b
-      → (et : t ≡ ident w * (32 / m) + min (ident w) (32 % m)) → Short m A i sum t f
-  short-stepped h {b} {f} {t} eb ef et =
+  pub short-stepped : (kind w ≡ 0 → ⊥) → {v p b f t : ℕ} → v ≡ ident w → p ≡ power w → b ≡ 32 / m + cond (ltb v (32 % m)) 1 0
+      → f ≡ parts b (max 1 b) p b → t ≡ v * (32 / m) + min v (32 % m) → Short m A i sum t f
+  short-stepped h {v} {p} {b} {f} {t} ev ep eb ef et =
       let k = step s e h in
-      let is = bits-are m (ident w) b eb in
-      let c : max 1 b ≡ getD (bitCounts m) (ident w) 0 = ap (max 1) is ∙ sym (count-at m (ident w) (k .known)) in
-      let z = stepped s e h c eb ef et in
+      let is = bits-are m v b eb in
+      let c : max 1 b ≡ getD (bitCounts m) v 0 = ap (max 1) is ∙ sym (count-at m v (omega (arith, k .known))) in
+      let z = stepped s e h ev ep c eb ef et in
       record { shift = z .shift; fits = z .fits; rest = z .rest }

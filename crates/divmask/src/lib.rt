@@ -60,12 +60,12 @@ pub fn map(maxima: &[u8], variables: u32, monomial: &[u8]) -> u32
     let mut i: usize = 0;
     loop {
         let w = words::get(monomial, i);
-        if w / 65536 == 0 {
+        if words::is_end(w) {
             return mask as u32;
         }
-        let v = w / 65536 % 4096;
+        let v = words::id(w);
         let x = words::get(maxima, v as usize);
-        let f = field(bits_of(whole, extra, v), x, w % 65536);
+        let f = field(bits_of(whole, extra, v), x, words::power(w));
         mask += f << first_bit(whole, extra, v);
         i += 1;
     }

@@ -36,15 +36,16 @@ pub fn map(maxima: &[u8], variables: u32, monomial: &[u8]) -> u64
     let mut i: usize = 0;
     loop {
         let w = words::get(monomial, i);
-        if w / 65536 == 0 {
+        if words::is_end(w) {
             return mask + 4294967296 * vector;
         }
-        let v = w / 65536 % 4096;
+        let v = words::id(w);
+        let p = words::power(w);
         let x = words::get(maxima, v as usize);
         let b = crate::bits_of(whole, extra, v);
         let t = crate::first_bit(whole, extra, v);
-        mask += crate::field(b, x, w % 65536) << t;
-        vector += short_field(b, w % 65536) << t;
+        mask += crate::field(b, x, p) << t;
+        vector += short_field(b, p) << t;
         i += 1;
     }
 }

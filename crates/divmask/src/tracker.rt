@@ -51,11 +51,11 @@ pub fn update(maxima: &mut [u8], variables: u32, monomial: &[u8])
     let mut i: usize = 0;
     loop {
         let w = words::get(monomial, i);
-        if w / 65536 == 0 {
+        if words::is_end(w) {
             return;
         }
-        let v = (w / 65536 % 4096) as usize;
-        let p = w % 65536;
+        let v = words::id(w) as usize;
+        let p = words::power(w);
         if p <= words::get(maxima, v) {
             return;
         }

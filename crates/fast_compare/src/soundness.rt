@@ -15,7 +15,7 @@ fn row_ok(map: &[u8], variables: usize, at: usize) -> bool
     ensures { λ r. ⌜ (r ≡ true) ↔ RowOk (words (now (map .entry))) variables at ⌝ }
 {
     let i = words::get(map, at);
-    if i / 268435456 != 3 {
+    if words::kind(i) != 3 {
         return false;
     }
     let n = monomial::canonical_words(map, at + 1, 2, variables as u32);

@@ -3,14 +3,14 @@ use mathlib.Core.Path.{_≡_, refl, sym, ap, _∙_}
 use mathlib.Core.Bool.{Bool, true, false, cond, _&&_}
 use mathlib.Core.List.{List, [], _∷_}
 use mathlib.Core.Logic.{_⊎_, inl, inr, _↔_}
-use Prim.Native.Nat.{ℕ, zero, suc, _+_, _-_, _*_, _/_, _%_, _≤_, _<_}
+use Prim.Native.Nat.{ℕ, zero, suc, _+_, _-_, _*_, _≤_, _<_}
 use native.Mathlib.Omega.{arith}
 use native.Mathlib.Decide.{ℕ-discrete, decLe}
 use lib.Dec.{eqb, leb}
 use lib.ListN.{length, getD, drop, drop-of-length-le}
 use Rattle.words.proofs.Laws.{word-and-rest}
 use borrow.Author.Tests.{eq-eqb, ne-eqb, eqb-true, le-leb, lt-leb, leb-true}
-use Rattle.words.specs.Kinds.{kind, ident, power}
+use Rattle.words.specs.Kinds.{kind, ident, power, upperHalf}
 use Rattle.monomial.specs.Monomial.{bias, Canonical, find, powerOf, pow}
 use Rattle.monomial.specs.Operations.{Divides, allBelow, divides, equal}
 use Rattle.monomial.specs.Walk.{powerAt, past}
@@ -76,7 +76,7 @@ pub begin : {A B : List ℕ} → Rest 1 A 0 4096 → Rest 1 B 0 4096 → Dividin
 begin {A} {B} ra rb = record { b = 4096; ra = ra; rb = rb; passed = λ v h. omega (arith, pow-ids 1 A v h) }
 
 module _ {A B : List ℕ} {i j : ℕ} (s : Dividing A B i j) {x : ℕ} (ex : x ≡ getD A i 0) where
-  pub all-passed : x / 65536 ≡ 0 → true ≡ divides A B
+  pub all-passed : kind x ≡ 0 → true ≡ divides A B
   all-passed h = sym (divides-true A B (divides-by A B (go (word-at (omega arith) x (s .ra) ex))))
     where
       go : Last 1 A (s .b) x ⊎ Next 1 A i (s .b) x → (v : ℕ) → pow 1 A v ≤ pow 1 B v
@@ -84,11 +84,11 @@ module _ {A B : List ℕ} {i j : ℕ} (s : Dividing A B i j) {x : ℕ} (ex : x �
       go (inr z) v = absurd (omega (arith, z .upper))
 
 module _ {A B : List ℕ} {i j : ℕ} (s : Dividing A B i j) {x y : ℕ} (ex : x ≡ getD A i 0) (ey : y ≡ getD B j 0) where
-  pub exceeds : (x / 65536 ≡ 0 → ⊥) → y < x → false ≡ divides A B
+  pub exceeds : (kind x ≡ 0 → ⊥) → y < x → false ≡ divides A B
   exceeds h l = sym (go (word-at (omega arith) x (s .ra) ex) (word-at (omega arith) y (s .rb) ey))
     where
       go : Last 1 A (s .b) x ⊎ Next 1 A i (s .b) x → Last 1 B (s .b) y ⊎ Next 1 B j (s .b) y → divides A B ≡ false
-      go (inl z) w = absurd (h (z .upper))
+      go (inl z) w = absurd (h (omega (arith, z .upper)))
       go (inr z) (inl w) = divides-false A B (ident x) (omega (arith, z .here, z .var .low, w .none (ident x) (z .var .below)))
       go (inr z) (inr w) =
           elim (ℕ-discrete (ident y) (ident x)) [
@@ -98,17 +98,17 @@ module _ {A B : List ℕ} {i j : ℕ} (s : Dividing A B i j) {x y : ℕ} (ex : x
                 divides-false A B (ident x) (omega (arith, z .here, z .var .low, w .gap (ident x) q (z .var .below)))
           ]
 
-  pub goes-on : (x / 65536 ≡ 0 → ⊥) → x ≤ y → Dividing A B (past i x (y / 65536)) (j + 1)
+  pub goes-on : (kind x ≡ 0 → ⊥) → x ≤ y → Dividing A B (past i x (upperHalf y)) (j + 1)
   goes-on h l = go (word-at (omega arith) y (s .rb) ey)
     where
-      go : Last 1 B (s .b) y ⊎ Next 1 B j (s .b) y → Dividing A B (past i x (y / 65536)) (j + 1)
+      go : Last 1 B (s .b) y ⊎ Next 1 B j (s .b) y → Dividing A B (past i x (upperHalf y)) (j + 1)
       go (inl w) = absurd (h (omega (arith, w .upper)))
       go (inr w) =
-          let t = turn (omega arith) x (ident y) (y / 65536) (s .ra) ex (w .var .below) (w .upper) (omega arith) in
+          let t = turn (omega arith) x (ident y) (upperHalf y) (s .ra) ex (w .var .below) (w .upper) (omega arith) in
           let here : pow 1 A (ident y) ≤ power y =
-          elim (ℕ-discrete (x / 65536) (y / 65536)) [
-            | yes e ↦ omega (arith, t .power-is, at-yes x (y / 65536) 0 e)
-            | no e ↦ omega (arith, t .power-is, at-no x (y / 65536) 0 e)
+          elim (ℕ-discrete (upperHalf x) (upperHalf y)) [
+            | yes e ↦ omega (arith, t .power-is, at-yes x (upperHalf y) 0 e)
+            | no e ↦ omega (arith, t .power-is, at-no x (upperHalf y) 0 e)
           ] in
           record {
             b = ident y;
@@ -148,7 +148,7 @@ pub record Finding (k : ℕ) (A : List ℕ) (v i : ℕ) : Type 0 where
   pub ra : Rest k A i b
 
 module _ {k : ℕ} (pos : 0 < k) {A : List ℕ} (ca : Canonical k 4096 A) {v i : ℕ} (s : Finding k A v i) {w : ℕ} (e : w ≡ getD A i 0) where
-  pub absent-here : w / 65536 < 4096 * k + v → Absent ≡ find k A v
+  pub absent-here : upperHalf w < 4096 * k + v → Absent ≡ find k A v
   absent-here h = sym (absent (find-cases k 4096 0 A v pos (canon-of ca)) (zero (word-at pos w (s .ra) e)))
     where
       zero : Last k A (s .b) w ⊎ Next k A i (s .b) w → pow k A v ≡ bias k
@@ -159,7 +159,7 @@ module _ {k : ℕ} (pos : 0 < k) {A : List ℕ} (ca : Canonical k 4096 A) {v i :
       absent (inl z) q = z .0
       absent (inr z) q = absurd (z .1 q)
 
-  pub found-here : w / 65536 ≡ 4096 * k + v → Found (power w) ≡ find k A v
+  pub found-here : upperHalf w ≡ 4096 * k + v → Found (power w) ≡ find k A v
   found-here h = sym (there (find-cases k 4096 0 A v pos (canon-of ca)) (word-at pos w (s .ra) e))
     where
       there : ((find k A v ≡ Absent) × (pow k A v ≡ bias k)) ⊎ ((find k A v ≡ Found (pow k A v)) × (pow k A v ≡ bias k → ⊥)) → Last k A (s .b) w ⊎ Next k A i (s .b) w → find k A v ≡ Found (power w)
@@ -171,7 +171,7 @@ module _ {k : ℕ} (pos : 0 < k) {A : List ℕ} (ca : Canonical k 4096 A) {v i :
           let q : ident w ≡ v = omega (arith, z .upper) in
           c .0 ∙ ap Found (ap (pow k A) (sym q) ∙ z .here)
 
-  pub found-later : 4096 * k + v < w / 65536 → Finding k A v (i + 1)
+  pub found-later : 4096 * k + v < upperHalf w → Finding k A v (i + 1)
   found-later h = go (word-at pos w (s .ra) e)
     where
       go : Last k A (s .b) w ⊎ Next k A i (s .b) w → Finding k A v (i + 1)

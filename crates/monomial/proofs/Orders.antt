@@ -3,7 +3,7 @@ use mathlib.Core.Path.{_≡_, refl, sym, ap, _∙_}
 use mathlib.Core.Bool.{cond}
 use mathlib.Core.List.{List, [], _∷_}
 use mathlib.Core.Logic.{_⊎_, inl, inr}
-use Prim.Native.Nat.{ℕ, zero, suc, _+_, _-_, _*_, _/_, _^_, _≤_, _<_}
+use Prim.Native.Nat.{ℕ, zero, suc, _+_, _-_, _*_, _^_, _≤_, _<_}
 use native.Mathlib.Omega.{arith}
 use native.Mathlib.Numerals.{add-one}
 use native.Mathlib.Nat.{suc-mul, add-mul, mul-le-mul}
@@ -11,7 +11,7 @@ use native.Mathlib.Decide.{ℕ-discrete, decLe, decLt}
 use lib.Dec.{eqb, ltb}
 use lib.ListN.{length, getD, drop, length-drop, drop-of-length-le}
 use borrow.Author.Tests.{eq-eqb, ne-eqb, lt-ltb, le-ltb}
-use Rattle.words.specs.Kinds.{kind, ident, power}
+use Rattle.words.specs.Kinds.{kind, ident, power, upperHalf}
 use Rattle.words.proofs.Laws.{word-and-rest}
 use Rattle.monomial.specs.Monomial.{bias, Canonical, pow}
 use Rattle.monomial.specs.Order.{compare, andThen, total, revlex, grevlex, order}
@@ -334,25 +334,25 @@ module _ {k : ℕ} (pos : 0 < k) {A B : List ℕ} (ra : Rest k A 0 4096) (rb : R
       pub differs : (x ≡ y → ⊥) → differing x y (bias k) ≡ revlex 4096 (pow k A) (pow k B)
       unfolding differing
       differs d =
-          elim (decLt (x / 65536) (y / 65536)) [
+          elim (decLt (upperHalf x) (upperHalf y)) [
             | yes l ↦
                 let u = ident x in
                 let lt : u < ident y = omega (arith, va .kinded, vb .kinded) in
                 let pb : pow k B u ≡ bias k = vb .below u lt ∙ sym (s .same u) ∙ va .none u (omega arith) in
-                rw (lt-ltb (x / 65536) (y / 65536) l)
+                rw (lt-ltb (upperHalf x) (upperHalf y) l)
                 (sym (decides 4096 u (pow k A) (pow k B) (va .low) (λ v m. va .below v m ∙ s .same v ∙ sym (vb .below v (omega arith))) (λ q. va .some (sym (va .here) ∙ q ∙ pb)) ∙ rw (pb, va .here)))
-            | no l ↦ elim (decLt (y / 65536) (x / 65536)) [
+            | no l ↦ elim (decLt (upperHalf y) (upperHalf x)) [
               | yes g ↦
                   let u = ident y in
                   let lt : u < ident x = omega (arith, va .kinded, vb .kinded) in
                   let pa : pow k A u ≡ bias k = va .below u lt ∙ s .same u ∙ vb .none u (omega arith) in
-                  rw (le-ltb (x / 65536) (y / 65536) (omega arith), lt-ltb (y / 65536) (x / 65536) g)
+                  rw (le-ltb (upperHalf x) (upperHalf y) (omega arith), lt-ltb (upperHalf y) (upperHalf x) g)
                   (sym (decides 4096 u (pow k A) (pow k B) (vb .low) (λ v m. va .below v (omega arith) ∙ s .same v ∙ sym (vb .below v m)) (λ q. vb .some (sym (vb .here) ∙ sym q ∙ pa)) ∙ rw (pa, vb .here)))
               | no g ↦
                   let u = ident x in
                   let same : ident y ≡ u = omega (arith, va .kinded, vb .kinded) in
                   let pb : pow k B u ≡ power y = rw same at (vb .here) in
-                  rw (le-ltb (x / 65536) (y / 65536) (omega arith), le-ltb (y / 65536) (x / 65536) (omega arith))
+                  rw (le-ltb (upperHalf x) (upperHalf y) (omega arith), le-ltb (upperHalf y) (upperHalf x) (omega arith))
                   (sym (decides 4096 u (pow k A) (pow k B) (va .low) (λ v m. va .below v m ∙ s .same v ∙ sym (vb .below v (omega arith))) (λ q. d (let z : power x ≡ power y = sym (va .here) ∙ q ∙ pb in omega arith)) ∙ rw (pb, va .here)))
             ]
           ]

@@ -2,13 +2,13 @@
 use mathlib.Core.Path.{_≡_, refl, sym, ap, _∙_}
 use mathlib.Core.Bool.{cond}
 use mathlib.Core.List.{List, [], _∷_, _++_, append-assoc, append-nil}
-use Prim.Native.Nat.{ℕ, suc, max, _+_, _-_, _*_, _/_, _%_, _≤_, _<_}
+use Prim.Native.Nat.{ℕ, suc, max, _+_, _-_, _*_, _%_, _≤_, _<_}
 use native.Mathlib.Omega.{arith}
 use native.Mathlib.Decide.{ℕ-discrete}
 use lib.Dec.{eqb}
 use lib.ListN.{length, getD, length-append}
 use borrow.Author.Tests.{eq-eqb, ne-eqb}
-use Rattle.words.specs.Kinds.{varWord}
+use Rattle.words.specs.Kinds.{upperHalf, varWord}
 use Rattle.words.specs.Words.{putW, pasteW}
 use Rattle.words.proofs.Laws.{pasteW-snoc, putW-paste, length-putW}
 use Rattle.words.proofs.Tables.{paste-over, over-mid}
@@ -85,7 +85,7 @@ module _ {o : Op} {A B out₀ out : List ℕ} {i j n : ℕ} (s : Summing o A B o
         kept = s .kept;
       }
 
-  module _ {x y t : ℕ} (ex : x ≡ getD A i 0) (ey : y ≡ getD B j 0) (et : t ≡ max (x / 65536) (y / 65536)) where
+  module _ {x y t : ℕ} (ex : x ≡ getD A i 0) (ey : y ≡ getD B j 0) (et : t ≡ max (upperHalf x) (upperHalf y)) where
     pub finished : t ≡ 0 → (n + 1 ≡ length (result o A B)) × (putW out n n ≡ pasteW out₀ 0 (result o A B))
     unfolding result monomialOf powers
     finished h =

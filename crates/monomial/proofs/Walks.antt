@@ -3,14 +3,14 @@ use mathlib.Core.Path.{_≡_, refl, sym, ap, _∙_}
 use mathlib.Core.Bool.{cond}
 use mathlib.Core.List.{List, [], _∷_}
 use mathlib.Core.Logic.{_⊎_, inl, inr}
-use Prim.Native.Nat.{ℕ, suc, max, _+_, _-_, _*_, _/_, _%_, _≤_, _<_}
+use Prim.Native.Nat.{ℕ, suc, max, _+_, _-_, _*_, _≤_, _<_}
 use native.Mathlib.Omega.{arith}
 use native.Mathlib.Decide.{ℕ-discrete, decLe}
 use lib.Dec.{eqb}
 use lib.ListN.{length, getD, drop, length-drop}
 use Rattle.words.proofs.Laws.{word-and-rest}
 use borrow.Author.Tests.{eq-eqb, ne-eqb}
-use Rattle.words.specs.Kinds.{kind, payload, ident, power}
+use Rattle.words.specs.Kinds.{kind, payload, ident, power, upperHalf}
 use Rattle.monomial.specs.Monomial.{bias, Canonical, pow}
 use Rattle.monomial.specs.Walk.{powerAt, past}
 use Rattle.monomial.proofs.Canon.{IsVar, IsEnd, Canon, canon-of, canon-some, weaken, lower}
@@ -30,30 +30,30 @@ pub within : {k i b : ℕ} {A : List ℕ} → Rest k A i b → i < length A
 within {k} {i} {b} {A} r = omega (arith, canon-some k b (r .n) (drop i A) (r .canon), length-drop i A)
 
 -- place i took part in a step to variable u, or not
-pub past-yes : (i x t : ℕ) → x / 65536 ≡ t → past i x t ≡ i + 1
+pub past-yes : (i x t : ℕ) → upperHalf x ≡ t → past i x t ≡ i + 1
 unfolding past
-past-yes i x t e = rw (eq-eqb (x / 65536) t e)
+past-yes i x t e = rw (eq-eqb (upperHalf x) t e)
 
-pub past-no : (i x t : ℕ) → (x / 65536 ≡ t → ⊥) → past i x t ≡ i
+pub past-no : (i x t : ℕ) → (upperHalf x ≡ t → ⊥) → past i x t ≡ i
 unfolding past
-past-no i x t e = rw (ne-eqb (x / 65536) t e)
+past-no i x t e = rw (ne-eqb (upperHalf x) t e)
 
-pub at-yes : (x t z : ℕ) → x / 65536 ≡ t → powerAt x t z ≡ power x
+pub at-yes : (x t z : ℕ) → upperHalf x ≡ t → powerAt x t z ≡ power x
 unfolding powerAt
-at-yes x t z e = rw (eq-eqb (x / 65536) t e)
+at-yes x t z e = rw (eq-eqb (upperHalf x) t e)
 
-pub at-no : (x t z : ℕ) → (x / 65536 ≡ t → ⊥) → powerAt x t z ≡ z
+pub at-no : (x t z : ℕ) → (upperHalf x ≡ t → ⊥) → powerAt x t z ≡ z
 unfolding powerAt
-at-no x t z e = rw (ne-eqb (x / 65536) t e)
+at-no x t z e = rw (ne-eqb (upperHalf x) t e)
 
 -- what the word x at i is: an end word, and below b every power is 0; or a variable's
 pub record Last (k : ℕ) (A : List ℕ) (b x : ℕ) : Type 0 where
-  pub upper : x / 65536 ≡ 0
+  pub upper : upperHalf x ≡ 0
   pub none : (v : ℕ) → v < b → pow k A v ≡ bias k
 
 pub record Next (k : ℕ) (A : List ℕ) (i b x : ℕ) : Type 0 where
   pub var : IsVar k b x
-  pub upper : x / 65536 ≡ 4096 * k + ident x
+  pub upper : upperHalf x ≡ 4096 * k + ident x
   pub here : pow k A (ident x) ≡ power x
   pub gap : (v : ℕ) → ident x < v → v < b → pow k A v ≡ bias k
   pub rest : Rest k A (i + 1) (ident x)
@@ -105,12 +105,12 @@ pub record Turn (k : ℕ) (A : List ℕ) (i b x u t : ℕ) : Type 0 where
   pub gap : (v : ℕ) → u < v → v < b → pow k A v ≡ bias k
   pub rest : Rest k A (past i x t) u
 
-pub turn : {k : ℕ} → 0 < k → {A : List ℕ} {i b : ℕ} (x u t : ℕ) → Rest k A i b → x ≡ getD A i 0 → u < b → t ≡ 4096 * k + u → x / 65536 ≤ t → Turn k A i b x u t
+pub turn : {k : ℕ} → 0 < k → {A : List ℕ} {i b : ℕ} (x u t : ℕ) → Rest k A i b → x ≡ getD A i 0 → u < b → t ≡ 4096 * k + u → upperHalf x ≤ t → Turn k A i b x u t
 turn {k} pos {A} {i} {b} x u t r e h is l = go (word-at pos x r e)
   where
     go : Last k A b x ⊎ Next k A i b x → Turn k A i b x u t
     go (inl z) =
-        let no : x / 65536 ≡ t → ⊥ = λ q. omega (arith, z .upper) in
+        let no : upperHalf x ≡ t → ⊥ = λ q. omega (arith, z .upper) in
         record {
           power-is = z .none u h ∙ sym (at-no x t (bias k) no);
           gap = λ v i j. z .none v j;
@@ -119,7 +119,7 @@ turn {k} pos {A} {i} {b} x u t r e h is l = go (word-at pos x r e)
     go (inr z) =
         elim (ℕ-discrete (ident x) u) [
           | yes q ↦
-              let y : x / 65536 ≡ t = omega (arith, z .upper) in
+              let y : upperHalf x ≡ t = omega (arith, z .upper) in
               record {
                 power-is = ap (pow k A) (sym q) ∙ z .here ∙ sym (at-yes x t (bias k) y);
                 gap = λ v i j. z .gap v (omega arith) j;
@@ -127,7 +127,7 @@ turn {k} pos {A} {i} {b} x u t r e h is l = go (word-at pos x r e)
               }
           | no q ↦
               let lt : ident x < u = omega (arith, z .upper) in
-              let no : x / 65536 ≡ t → ⊥ = λ y. omega (arith, z .upper) in
+              let no : upperHalf x ≡ t → ⊥ = λ y. omega (arith, z .upper) in
               record {
                 power-is = z .gap u lt h ∙ sym (at-no x t (bias k) no);
                 gap = λ v i j. z .gap v (omega arith) j;
@@ -141,7 +141,7 @@ pub record Top (k b t : ℕ) : Type 0 where
   pub is : t ≡ 4096 * k + u
   pub below : u < b
 
-module _ {k : ℕ} (pos : 0 < k) {A B : List ℕ} {i j b : ℕ} (x y t : ℕ) (ra : Rest k A i b) (rb : Rest k B j b) (ex : x ≡ getD A i 0) (ey : y ≡ getD B j 0) (et : t ≡ max (x / 65536) (y / 65536)) where
+module _ {k : ℕ} (pos : 0 < k) {A B : List ℕ} {i j b : ℕ} (x y t : ℕ) (ra : Rest k A i b) (rb : Rest k B j b) (ex : x ≡ getD A i 0) (ey : y ≡ getD B j 0) (et : t ≡ max (upperHalf x) (upperHalf y)) where
   pub top : (t ≡ 0 → ⊥) → Top k b t
   top h = go (word-at pos x ra ex) (word-at pos y rb ey)
     where
@@ -171,10 +171,10 @@ module _ {k : ℕ} (pos : 0 < k) {A B : List ℕ} {i j b : ℕ} (x y t : ℕ) (r
       go (inr p) = absurd (omega (arith, p .upper))
 
 -- one of the two places moves, and neither goes back
-pub falls : (x y t i j a b : ℕ) → t ≡ max (x / 65536) (y / 65536) → i < a → j < b → (a - past i x t) + (b - past j y t) < (a - i) + (b - j)
+pub falls : (x y t i j a b : ℕ) → t ≡ max (upperHalf x) (upperHalf y) → i < a → j < b → (a - past i x t) + (b - past j y t) < (a - i) + (b - j)
 falls x y t i j a b e h l =
-    elim (ℕ-discrete (x / 65536) t) [
-      | yes p ↦ elim (ℕ-discrete (y / 65536) t) [
+    elim (ℕ-discrete (upperHalf x) t) [
+      | yes p ↦ elim (ℕ-discrete (upperHalf y) t) [
         | yes q ↦ rw (past-yes i x t p, past-yes j y t q) (omega arith)
         | no q ↦ rw (past-yes i x t p, past-no j y t q) (omega arith)
       ]

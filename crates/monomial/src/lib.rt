@@ -29,13 +29,13 @@ fn is_variable(w: u32, kind: u32, bound: u32) -> bool
     requires { ⌜ (1 ≤ kind) × (kind ≤ 2) ⌝ }
     ensures { λ r. ⌜ r ≡ isVar kind bound w ⌝ }
 {
-    if w / 268435456 != kind {
+    if words::kind(w) != kind {
         return false;
     }
-    if bound <= w / 65536 % 4096 {
+    if bound <= words::id(w) {
         return false;
     }
-    let p = w % 65536;
+    let p = words::power(w);
     if p == 0 {
         return false;
     }
@@ -59,8 +59,8 @@ pub fn canonical_words(s: &[u8], at: usize, kind: u32, variables: u32) -> usize
     let mut n: u32 = 0;
     while i < end {
         let w = words::get(s, i);
-        if w / 268435456 == 0 {
-            if w % 268435456 == n {
+        if words::is_end(w) {
+            if words::payload(w) == n {
                 return n as usize + 1;
             }
             return 0;
@@ -68,7 +68,7 @@ pub fn canonical_words(s: &[u8], at: usize, kind: u32, variables: u32) -> usize
         if !is_variable(w, kind, bound) {
             return 0;
         }
-        bound = w / 65536 % 4096;
+        bound = words::id(w);
         n += 1;
         i += 1;
     }
@@ -120,7 +120,7 @@ fn words_to_end(s: &[u8], at: usize) -> usize
     let end = s.len() / 4;
     let mut i = at;
     while i < end {
-        if words::get(s, i) / 268435456 == 0 {
+        if words::is_end(words::get(s, i)) {
             return i - at + 1;
         }
         i += 1;
@@ -151,11 +151,12 @@ pub fn find_power(m: &[u8], kind: u32, v: u32) -> Power
     let mut i: usize = 0;
     loop {
         let w = words::get(m, i);
-        if w / 65536 < upper {
+        let u = words::upper_half(w);
+        if u < upper {
             return Power::Absent;
         }
-        if w / 65536 == upper {
-            return Power::Found(w % 65536);
+        if u == upper {
+            return Power::Found(words::power(w));
         }
         i += 1;
     }
@@ -183,14 +184,14 @@ pub fn divides(a: &[u8], b: &[u8]) -> bool
     let mut j: usize = 0;
     loop {
         let x = words::get(a, i);
-        if x / 65536 == 0 {
+        if words::is_end(x) {
             return true;
         }
         let y = words::get(b, j);
         if y < x {
             return false;
         }
-        i = ordered_ops::step(i, x, y / 65536);
+        i = ordered_ops::step(i, x, words::upper_half(y));
         j += 1;
     }
 }

@@ -42,7 +42,7 @@ fn total_of(s: &[u8], kind: u32) -> Total
     let mut i: usize = 0;
     loop {
         let w = words::get(s, i);
-        if words::kind(w) == 0 {
+        if words::is_end(w) {
             return Total {
                 sum: sum + (4096 - i as u32) * absent,
                 variables: i,
@@ -57,10 +57,12 @@ fn total_of(s: &[u8], kind: u32) -> Total
 fn differ(x: u32, y: u32, absent: u32) -> CmpOrd
     ensures { λ r. ⌜ r ≡ differing x y absent ⌝ }
 {
-    if x / 65536 < y / 65536 {
+    let u = words::upper_half(x);
+    let v = words::upper_half(y);
+    if u < v {
         return cmp(absent, words::power(x));
     }
-    if y / 65536 < x / 65536 {
+    if v < u {
         return cmp(words::power(y), absent);
     }
     cmp(words::power(y), words::power(x))

@@ -1,10 +1,10 @@
 // From ordered_ops.rs: one walk over two products, ids falling.
 ghost use mathlib.Core.Path.{_≡_};
 ghost use mathlib.Core.Bool.{cond};
-ghost use Prim.Native.Nat.{_+_, _*_, _/_, _%_, _<_, _≤_, max};
+ghost use Prim.Native.Nat.{_+_, _*_, _<_, _≤_, max};
 ghost use lib.Dec.{eqb};
 ghost use lib.ListN.{length};
-ghost use Rattle.words.specs.Kinds.{varWord};
+ghost use Rattle.words.specs.Kinds.{upperHalf, varWord};
 ghost use Rattle.words.specs.Words.{words, putW, pasteW};
 ghost use Rattle.monomial.specs.Monomial.{bias, Starts, first};
 ghost use Rattle.monomial.specs.Operations.{met, kindOf, result};
@@ -44,10 +44,10 @@ fn meet(op: Op, x: u32, y: u32) -> u32
 
 // The larger of two words' upper halves, which hold kind and id; 0 where both are end words.
 pub fn upper(x: u32, y: u32) -> u32
-    ensures { λ r. ⌜ r ≡ max (x / 65536) (y / 65536) ⌝ }
+    ensures { λ r. ⌜ r ≡ max (upperHalf x) (upperHalf y) ⌝ }
 {
-    let u = x / 65536;
-    let v = y / 65536;
+    let u = words::upper_half(x);
+    let v = words::upper_half(y);
     if u < v { v } else { u }
 }
 
@@ -55,7 +55,11 @@ pub fn upper(x: u32, y: u32) -> u32
 pub fn power_at(w: u32, u: u32, absent: u32) -> u32
     ensures { λ r. ⌜ r ≡ powerAt w u absent ⌝ }
 {
-    if w / 65536 == u { w % 65536 } else { absent }
+    if words::upper_half(w) == u {
+        words::power(w)
+    } else {
+        absent
+    }
 }
 
 // The place after i where w, at i, has the upper half u.
@@ -63,7 +67,7 @@ pub fn step(i: usize, w: u32, u: u32) -> usize
     requires { ⌜ i < 4611686018427387904 ⌝ }
     ensures { λ r. ⌜ r ≡ past i w u ⌝ }
 {
-    if w / 65536 == u { i + 1 } else { i }
+    if words::upper_half(w) == u { i + 1 } else { i }
 }
 
 // Writes variable v to the power p as word n, and returns the next place: the same one for power 0, so that the next word goes over it.
@@ -73,7 +77,7 @@ fn push(out: &mut [u8], n: usize, kind: u32, v: u32, p: u32) -> usize
     requires { ⌜ (n ≤ 4096) × (4 * n + 4 ≤ length (now out)) ⌝ }
     ensures { λ r. ⌜ (r ≡ cond (eqb p (bias kind)) n (n + 1)) × (now (out .exit) ≡ putW (now (out .entry)) n (varWord kind v p)) ⌝ }
 {
-    words::put(out, n, 268435456 * kind + (65536 * v + p));
+    words::put(out, n, words::var_word(kind, v, p));
     if p == 32768 * (kind - 1) { n } else { n + 1 }
 }
 

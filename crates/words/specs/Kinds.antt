@@ -1,5 +1,7 @@
 -- The kinds of words, from document 01: the top 4 bits are the kind, 28 bits the payload. Assumes nothing.
+use mathlib.Core.Bool.{Bool}
 use Prim.Native.Nat.{ℕ, _+_, _*_, _/_, _%_}
+use lib.Dec.{eqb}
 
 abbrev pub kind : ℕ → ℕ
 kind w = w / 268435456
@@ -14,6 +16,14 @@ ident w = w / 65536 % 4096
 
 abbrev pub power : ℕ → ℕ
 power w = w % 65536
+
+-- the upper half: kind and id, 4,096 times the kind and the id
+abbrev pub upperHalf : ℕ → ℕ
+upperHalf w = w / 65536
+
+-- the end of a monomial or ratio has kind 0
+abbrev pub isEnd : ℕ → Bool
+isEnd w = eqb (kind w) 0
 
 -- the word of a kind and a payload
 abbrev pub wordOf : ℕ → ℕ → ℕ

@@ -61,6 +61,20 @@ pub fn power(w: u32) -> u32
     w % 65536
 }
 
+// Kind and id of a variable's word, in one number.
+pub fn upper_half(w: u32) -> u32
+    ensures { λ r. ⌜ r ≡ kinds.upperHalf w ⌝ }
+{
+    w / 65536
+}
+
+// Whether w ends a monomial or ratio.
+pub fn is_end(w: u32) -> bool
+    ensures { λ r. ⌜ r ≡ kinds.isEnd w ⌝ }
+{
+    kind(w) == 0
+}
+
 // The end of a monomial or ratio of n variables.
 pub fn end_word(n: u32) -> u32
     requires { ⌜ n < 268435456 ⌝ }
@@ -69,12 +83,20 @@ pub fn end_word(n: u32) -> u32
     n
 }
 
+// Variable v with p in the bits of its power, of kind 1 or 2.
+pub fn var_word(k: u32, v: u32, p: u32) -> u32
+    requires { ⌜ (k < 16) × ((v < 4096) × (p < 65536)) ⌝ }
+    ensures { λ r. ⌜ r ≡ kinds.varWord k v p ⌝ }
+{
+    268435456 * k + (65536 * v + p)
+}
+
 // Variable v to the power p.
 pub fn variable_word(v: u32, p: u32) -> u32
     requires { ⌜ (v < 4096) × (p < 65536) ⌝ }
     ensures { λ r. ⌜ r ≡ kinds.varWord 1 v p ⌝ }
 {
-    268435456 + (65536 * v + p)
+    var_word(1, v, p)
 }
 
 // Variable v of a ratio, its power + 32,768 given.
@@ -82,7 +104,7 @@ pub fn ratio_word(v: u32, p: u32) -> u32
     requires { ⌜ (v < 4096) × (p < 65536) ⌝ }
     ensures { λ r. ⌜ r ≡ kinds.varWord 2 v p ⌝ }
 {
-    536870912 + (65536 * v + p)
+    var_word(2, v, p)
 }
 
 pub fn index_word(i: u32) -> u32

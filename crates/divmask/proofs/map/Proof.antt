@@ -1,13 +1,15 @@
+use borrow.Author.Needs.{needs}
 use Rattle.monomial.proofs.Firsts.{seen, first-bytes, first-canonical}
 use native.Mathlib.Omega.{arith}
 use lib.ListN.{length}
 use native.Mathlib.Nat.{div-le-self}
 use Rattle.words.specs.Words.{words}
+use Rattle.words.proofs.Fields.{is-end-true, is-end-false}
 use Rattle.words.proofs.Laws.{length-words}
 use Rattle.monomial.proofs.Walks.{within}
 use Rattle.divmask.proofs.Masks.{mask-small, Mapping, begin, mapped, step, bits-are, stepped}
 use Rattle.monomial.specs.Monomial.{pow, first}
-use Prim.Native.Nat.{_%_, _-_, _/_}
+use Prim.Native.Nat.{_-_}
 use Rattle.divmask.proofs.map.Statement.{statement}
 use Rattle.divmask.proofs.map.Tie as tie
 use Rattle.divmask.proofs.map.Reads as reads
@@ -16,6 +18,9 @@ use Rattle.divmask.proofs.bits_of.Reads as bits-of-reads
 use Rattle.divmask.proofs.field.Reads as field-reads
 use Rattle.divmask.proofs.first_bit.Reads as first-bit-reads
 use Rattle.words.proofs.get.Reads as get-reads
+use Rattle.words.proofs.id.Reads as id-reads
+use Rattle.words.proofs.is_end.Reads as is-end-reads
+use Rattle.words.proofs.power.Reads as power-reads
 
 abbrev Inv-loop : tie.InvT-loop
 Inv-loop maxima variables monomial whole extra mask₀ i₀ mask i = Mapping variables (words maxima) (first 1 (words monomial)) i mask
@@ -23,75 +28,87 @@ Inv-loop maxima variables monomial whole extra mask₀ i₀ mask i = Mapping var
 abbrev μ-loop : tie.MeasureT-loop
 μ-loop maxima variables monomial whole extra mask₀ i₀ mask i = length (first 1 (words monomial)) - i
 
--- src/lib.rt:53:17
+-- src/lib.rt:57:17
 div-whole : tie.Need-div-whole Inv-loop μ-loop
 div-whole c = omega (arith, c .before .before .pre .0 .some)
 
--- src/lib.rt:54:17
+-- src/lib.rt:58:17
 rem-extra : tie.Need-rem-extra Inv-loop μ-loop
 rem-extra c = omega (arith, c .before .before .pre .0 .some)
 
--- src/lib.rt:57:5
+-- src/lib.rt:61:5
 loop-holds : tie.Need-loop-holds Inv-loop μ-loop
 loop-holds c = begin (words (c .before .before .args .maxima .now)) (c .before .before .pre .0 .few) (first-canonical (omega arith) (c .before .before .pre .1))
 
--- src/lib.rt:58:13
+-- src/lib.rt:62:13
 get-requires : tie.Need-get-requires Inv-loop μ-loop
 get-requires c κs = omega (arith, first-bytes 1 (c .before .before .before .args .monomial .now), within (c .loop .inv .ra))
 
--- src/lib.rt:60:20
+-- src/lib.rt:63:12
+is-end-requires : tie.Need-is-end-requires Inv-loop μ-loop
+is-end-requires c κs = search needs
+
+-- src/lib.rt:64:20
 cast-result : tie.Need-cast-result Inv-loop μ-loop
-cast-result c = let e = mapped (c .before .before .loop .inv) (seen _ (c .before .before .loop .inv .ra) (c .before .get .ensures)) (c .if1 .taken) in omega (arith, mask-small (c .before .before .before .before .before .args .variables) (words (c .before .before .before .before .before .args .maxima .now)) (pow 1 (first 1 (words (c .before .before .before .before .before .args .monomial .now)))))
+cast-result c = let e = mapped (c .before .before .before .loop .inv) (seen _ (c .before .before .before .loop .inv .ra) (c .before .before .get .ensures)) (is-end-true _ (c .before .is-end .ensures) (c .if1 .taken)) in omega (arith, mask-small (c .before .before .before .before .before .before .args .variables) (words (c .before .before .before .before .before .before .args .maxima .now)) (pow 1 (first 1 (words (c .before .before .before .before .before .before .args .monomial .now)))))
 
--- src/lib.rt:60:13
+-- src/lib.rt:64:13
 returns : tie.Need-returns Inv-loop μ-loop
-returns c = mapped (c .before .before .loop .inv) (seen _ (c .before .before .loop .inv .ra) (c .before .get .ensures)) (c .if1 .taken)
+returns c = mapped (c .before .before .before .loop .inv) (seen _ (c .before .before .before .loop .inv .ra) (c .before .before .get .ensures)) (is-end-true _ (c .before .is-end .ensures) (c .if1 .taken))
 
--- src/lib.rt:63:36
+-- src/lib.rt:66:13
+id-requires : tie.Need-id-requires Inv-loop μ-loop
+id-requires c κs = search needs
+
+-- src/lib.rt:67:36
 cast-get : tie.Need-cast-get Inv-loop μ-loop
 cast-get c = omega arith
 
--- src/lib.rt:63:13
+-- src/lib.rt:67:13
 get-requires-2 : tie.Need-get-requires-2 Inv-loop μ-loop
-get-requires-2 c κs = let k = step (c .before .before .loop .inv) (seen _ (c .before .before .loop .inv .ra) (c .before .get .ensures)) (c .if1 .left) in omega (arith, k .known, length-words (c .before .before .before .before .before .args .maxima .now), c .before .before .before .before .before .pre .0 .one-each)
+get-requires-2 c κs = let k = step (c .before .before .before .before .loop .inv) (seen _ (c .before .before .before .before .loop .inv .ra) (c .before .before .before .get .ensures)) (is-end-false _ (c .before .before .is-end .ensures) (c .before .if1 .left)) in omega (arith, c .id .ensures, k .known, length-words (c .before .before .before .before .before .before .before .args .maxima .now), c .before .before .before .before .before .before .before .pre .0 .one-each)
 
--- src/lib.rt:64:23
+-- src/lib.rt:68:23
 bits-of-requires : tie.Need-bits-of-requires Inv-loop μ-loop
-bits-of-requires c κs = div-le-self 32 (c .before .before .before .before .before .before .args .variables)
+bits-of-requires c κs = div-le-self 32 (c .before .before .before .before .before .before .before .before .args .variables)
 
--- src/lib.rt:64:13
+-- src/lib.rt:68:52
+power-requires : tie.Need-power-requires Inv-loop μ-loop
+power-requires c κs = search needs
+
+-- src/lib.rt:68:13
 field-requires : tie.Need-field-requires Inv-loop μ-loop
-field-requires c κs = let k = step (c .before .before .before .before .loop .inv) (seen _ (c .before .before .before .before .loop .inv .ra) (c .before .before .before .get .ensures)) (c .before .before .if1 .left) in let v = (c .before .before .before .get .result) / 65536 % 4096 in let e = bits-are (c .before .before .before .before .before .before .before .args .variables) v (c .bits-of .result) (c .bits-of .ensures) in
-    let p = c .before .before .before .before .before .before .before .pre .0 in
-    ((omega (arith, k .few), (omega (arith, c .before .get2 .ensures, (p .low) v (k .known)), omega (arith, c .before .get2 .ensures, (p .high) v (k .known)))), (k .low, k .high))
+field-requires c κs = let k = step (c .before .before .before .before .before .before .before .loop .inv) (seen _ (c .before .before .before .before .before .before .before .loop .inv .ra) (c .before .before .before .before .before .before .get .ensures)) (is-end-false _ (c .before .before .before .before .before .is-end .ensures) (c .before .before .before .before .if1 .left)) in let v = (c .before .before .before .id .result) in let e = bits-are (c .before .before .before .before .before .before .before .before .before .before .args .variables) v (c .before .bits-of .result) (c .before .bits-of .ensures) in
+    let p = (c .before .before .before .before .before .before .before .before .before .before .pre .0) in
+    ((omega (arith, rw (c .before .before .before .id .ensures) at e, k .few), (omega (arith, c .before .before .get2 .ensures, (p .low) v (omega (arith, k .known, c .before .before .before .id .ensures))), omega (arith, c .before .before .get2 .ensures, (p .high) v (omega (arith, k .known, c .before .before .before .id .ensures))))), (omega (arith, c .power .ensures, k .low), omega (arith, c .power .ensures, k .high)))
 
--- src/lib.rt:65:22
+-- src/lib.rt:69:22
 first-bit-requires : tie.Need-first-bit-requires Inv-loop μ-loop
-first-bit-requires c κs = let k = step (c .before .before .before .before .before .loop .inv) (seen _ (c .before .before .before .before .before .loop .inv .ra) (c .before .before .before .before .get .ensures)) (c .before .before .before .if1 .left) in (div-le-self 32 (c .before .before .before .before .before .before .before .before .args .variables), omega (arith, k .known, c .before .before .before .before .before .before .before .before .pre .0 .few))
+first-bit-requires c κs = let k = step (c .before .before .before .before .before .before .before .before .loop .inv) (seen _ (c .before .before .before .before .before .before .before .before .loop .inv .ra) (c .before .before .before .before .before .before .before .get .ensures)) (is-end-false _ (c .before .before .before .before .before .before .is-end .ensures) (c .before .before .before .before .before .if1 .left)) in (div-le-self 32 (c .before .before .before .before .before .before .before .before .before .before .before .args .variables), omega (arith, c .before .before .before .before .id .ensures, k .known, c .before .before .before .before .before .before .before .before .before .before .before .pre .0 .few))
 
--- src/lib.rt:65:22
+-- src/lib.rt:69:22
 cast-mask : tie.Need-cast-mask Inv-loop μ-loop
 cast-mask c = omega arith
 
--- src/lib.rt:65:17
+-- src/lib.rt:69:17
 shl-mask : tie.Need-shl-mask Inv-loop μ-loop
-shl-mask c = omega (arith, stepped (c .before .before .before .before .before .before .loop .inv) (seen _ (c .before .before .before .before .before .before .loop .inv .ra) (c .before .before .before .before .before .get .ensures)) (c .before .before .before .before .if1 .left) (c .before .before .before .get2 .ensures) (c .before .before .bits-of .ensures) (c .before .field .ensures) (c .first-bit .ensures) .shift)
+shl-mask c = omega (arith, stepped (c .before .before .before .before .before .before .before .before .before .loop .inv) (seen _ (c .before .before .before .before .before .before .before .before .before .loop .inv .ra) (c .before .before .before .before .before .before .before .before .get .ensures)) (is-end-false _ (c .before .before .before .before .before .before .before .is-end .ensures) (c .before .before .before .before .before .before .if1 .left)) (c .before .before .before .before .before .id .ensures) (c .before .before .power .ensures) (c .before .before .before .before .get2 .ensures) (c .before .before .before .bits-of .ensures) (c .before .field .ensures) (c .first-bit .ensures) .shift)
 
--- src/lib.rt:65:9
+-- src/lib.rt:69:9
 add-mask : tie.Need-add-mask Inv-loop μ-loop
-add-mask c = omega (arith, stepped (c .before .before .before .before .before .before .loop .inv) (seen _ (c .before .before .before .before .before .before .loop .inv .ra) (c .before .before .before .before .before .get .ensures)) (c .before .before .before .before .if1 .left) (c .before .before .before .get2 .ensures) (c .before .before .bits-of .ensures) (c .before .field .ensures) (c .first-bit .ensures) .fits)
+add-mask c = omega (arith, stepped (c .before .before .before .before .before .before .before .before .before .loop .inv) (seen _ (c .before .before .before .before .before .before .before .before .before .loop .inv .ra) (c .before .before .before .before .before .before .before .before .get .ensures)) (is-end-false _ (c .before .before .before .before .before .before .before .is-end .ensures) (c .before .before .before .before .before .before .if1 .left)) (c .before .before .before .before .before .id .ensures) (c .before .before .power .ensures) (c .before .before .before .before .get2 .ensures) (c .before .before .before .bits-of .ensures) (c .before .field .ensures) (c .first-bit .ensures) .fits)
 
--- src/lib.rt:66:9
+-- src/lib.rt:70:9
 add-i : tie.Need-add-i Inv-loop μ-loop
-add-i c = omega (arith, first-bytes 1 (c .before .before .before .before .before .before .before .before .before .args .monomial .now), within (c .before .before .before .before .before .before .loop .inv .ra))
+add-i c = omega (arith, first-bytes 1 (c .before .before .before .before .before .before .before .before .before .before .before .before .args .monomial .now), within (c .before .before .before .before .before .before .before .before .before .loop .inv .ra))
 
--- src/lib.rt:57:5
+-- src/lib.rt:61:5
 loop-less : tie.Need-loop-less Inv-loop μ-loop
-loop-less c = omega (arith, within (c .before .before .before .before .before .before .loop .inv .ra))
+loop-less c = omega (arith, within (c .before .before .before .before .before .before .before .before .before .loop .inv .ra))
 
--- src/lib.rt:57:5
+-- src/lib.rt:61:5
 loop-again : tie.Need-loop-again Inv-loop μ-loop
-loop-again c = stepped (c .before .before .before .before .before .before .loop .inv) (seen _ (c .before .before .before .before .before .before .loop .inv .ra) (c .before .before .before .before .before .get .ensures)) (c .before .before .before .before .if1 .left) (c .before .before .before .get2 .ensures) (c .before .before .bits-of .ensures) (c .before .field .ensures) (c .first-bit .ensures) .rest
+loop-again c = stepped (c .before .before .before .before .before .before .before .before .before .loop .inv) (seen _ (c .before .before .before .before .before .before .before .before .before .loop .inv .ra) (c .before .before .before .before .before .before .before .before .get .ensures)) (is-end-false _ (c .before .before .before .before .before .before .before .is-end .ensures) (c .before .before .before .before .before .before .if1 .left)) (c .before .before .before .before .before .id .ensures) (c .before .before .power .ensures) (c .before .before .before .before .get2 .ensures) (c .before .before .before .bits-of .ensures) (c .before .field .ensures) (c .first-bit .ensures) .rest
 
 pub map-spec : {M : Type 1} → statement M
 map-spec =
@@ -103,11 +120,14 @@ map-spec =
     rem-extra
     loop-holds
     get-requires
+    is-end-requires
     cast-result
     returns
+    id-requires
     cast-get
     get-requires-2
     bits-of-requires
+    power-requires
     field-requires
     first-bit-requires
     cast-mask

@@ -1,19 +1,23 @@
 use native.Mathlib.Omega.{arith}
-use borrow.Author.Needs.{needs}
 use mathlib.Core.Path.{_≡_, refl, sym, _∙_}
 use Prim.Native.Nat.{_+_, _-_, _/_, _≤_, min}
 use lib.ListN.{length, drop, drop-of-length-le}
 use borrow.Author.Tests.{not-true, not-false}
 use Rattle.words.specs.Words.{words}
+use Rattle.words.proofs.Fields.{is-end-true, is-end-false}
 use Rattle.words.proofs.Laws.{length-words, word-and-rest}
 use Rattle.monomial.specs.Monomial.{front}
 use Rattle.monomial.proofs.Canon.{is-var, front-none, front-end, front-bad-end, front-var, front-bad-var}
+use borrow.Author.Needs.{needs}
 use Rattle.monomial.proofs.canonical_words.Statement.{statement}
 use Rattle.monomial.proofs.canonical_words.Tie as tie
 use Rattle.monomial.proofs.canonical_words.Reads as reads
 use Rattle.monomial.proofs.canonical_words.Lts as lts
 use Rattle.monomial.proofs.is_variable.Reads as is-variable-reads
 use Rattle.words.proofs.get.Reads as get-reads
+use Rattle.words.proofs.id.Reads as id-reads
+use Rattle.words.proofs.is_end.Reads as is-end-reads
+use Rattle.words.proofs.payload.Reads as payload-reads
 
 abbrev Inv-loop : tie.InvT-loop
 Inv-loop s at kind variables end i₀ bound₀ n₀ i bound n = (n + min bound 4096 ≤ 4096) × (front kind variables 0 (drop at (words s)) ≡ front kind bound n (drop i (words s)))
@@ -29,6 +33,14 @@ loop-holds c = (omega arith, refl)
 get-requires : tie.Need-get-requires Inv-loop μ-loop
 get-requires c κs = search needs
 
+-- src/lib.rt:62:12
+is-end-requires : tie.Need-is-end-requires Inv-loop μ-loop
+is-end-requires c κs = search needs
+
+-- src/lib.rt:63:16
+payload-requires : tie.Need-payload-requires Inv-loop μ-loop
+payload-requires c κs = search needs
+
 -- src/lib.rt:64:24
 cast-result : tie.Need-cast-result Inv-loop μ-loop
 cast-result c = search needs
@@ -39,11 +51,11 @@ add-result c = search needs
 
 -- src/lib.rt:64:17
 returns : tie.Need-returns Inv-loop μ-loop
-returns c = sym (c .before .before .before .before .loop .inv .1 ∙ rw (word-and-rest (words (c .before .before .before .before .before .before .args .s .now)) (c .before .before .before .before .loop .i) (c .before .before .get .result) (omega (arith, length-words (c .before .before .before .before .before .before .args .s .now))) (c .before .before .get .ensures)) (front-end _ _ _ _ _ (c .before .if1 .taken) (c .if2 .taken)))
+returns c = sym (c .before .before .before .before .before .before .loop .inv .1 ∙ rw (word-and-rest (words (c .before .before .before .before .before .before .before .before .args .s .now)) (c .before .before .before .before .before .before .loop .i) (c .before .before .before .before .get .result) (omega (arith, length-words (c .before .before .before .before .before .before .before .before .args .s .now))) (c .before .before .before .before .get .ensures)) (front-end _ _ _ _ _ (is-end-true _ (c .before .before .before .is-end .ensures) (c .before .before .if1 .taken)) (sym (c .before .payload .ensures) ∙ c .if2 .taken)))
 
 -- src/lib.rt:66:13
 returns-2 : tie.Need-returns-2 Inv-loop μ-loop
-returns-2 c = sym (c .before .before .before .before .loop .inv .1 ∙ rw (word-and-rest (words (c .before .before .before .before .before .before .args .s .now)) (c .before .before .before .before .loop .i) (c .before .before .get .result) (omega (arith, length-words (c .before .before .before .before .before .before .args .s .now))) (c .before .before .get .ensures)) (front-bad-end _ _ _ _ _ (c .before .if1 .taken) (c .if2 .left)))
+returns-2 c = sym (c .before .before .before .before .before .before .loop .inv .1 ∙ rw (word-and-rest (words (c .before .before .before .before .before .before .before .before .args .s .now)) (c .before .before .before .before .before .before .loop .i) (c .before .before .before .before .get .result) (omega (arith, length-words (c .before .before .before .before .before .before .before .before .args .s .now))) (c .before .before .before .before .get .ensures)) (front-bad-end _ _ _ _ _ (is-end-true _ (c .before .before .before .is-end .ensures) (c .before .before .if1 .taken)) (λ q. (c .if2 .left) (c .before .payload .ensures ∙ q))))
 
 -- src/lib.rt:68:13
 is-variable-requires : tie.Need-is-variable-requires Inv-loop μ-loop
@@ -51,11 +63,15 @@ is-variable-requires c κs = search needs
 
 -- src/lib.rt:69:13
 returns-3 : tie.Need-returns-3 Inv-loop μ-loop
-returns-3 c = sym (c .before .before .before .before .before .loop .inv .1 ∙ rw (word-and-rest (words (c .before .before .before .before .before .before .before .args .s .now)) (c .before .before .before .before .before .loop .i) (c .before .before .before .get .result) (omega (arith, length-words (c .before .before .before .before .before .before .before .args .s .now))) (c .before .before .before .get .ensures)) (front-bad-var _ _ _ _ _ (c .before .before .if1 .left) (sym (c .before .is-variable .ensures) ∙ not-true _ (c .if3 .taken))))
+returns-3 c = sym (c .before .before .before .before .before .before .loop .inv .1 ∙ rw (word-and-rest (words (c .before .before .before .before .before .before .before .before .args .s .now)) (c .before .before .before .before .before .before .loop .i) (c .before .before .before .before .get .result) (omega (arith, length-words (c .before .before .before .before .before .before .before .before .args .s .now))) (c .before .before .before .before .get .ensures)) (front-bad-var _ _ _ _ _ (is-end-false _ (c .before .before .before .is-end .ensures) (c .before .before .if1 .left)) (sym (c .before .is-variable .ensures) ∙ not-true _ (c .if3 .taken))))
+
+-- src/lib.rt:71:9
+id-requires : tie.Need-id-requires Inv-loop μ-loop
+id-requires c κs = search needs
 
 -- src/lib.rt:72:9
 add-n : tie.Need-add-n Inv-loop μ-loop
-add-n c = let v = sym (c .before .is-variable .ensures) ∙ not-false _ (c .if3 .left) in
+add-n c = let v = sym (c .before .before .is-variable .ensures) ∙ not-false _ (c .before .if3 .left) in
     omega (arith, is-var _ _ _ v .below)
 
 -- src/lib.rt:73:9
@@ -68,8 +84,8 @@ loop-less c = search needs
 
 -- src/lib.rt:60:5
 loop-again : tie.Need-loop-again Inv-loop μ-loop
-loop-again c = let v = sym (c .before .is-variable .ensures) ∙ not-false _ (c .if3 .left) in
-    (omega (arith, is-var _ _ _ v .below), c .before .before .before .before .before .loop .inv .1 ∙ rw (word-and-rest (words (c .before .before .before .before .before .before .before .args .s .now)) (c .before .before .before .before .before .loop .i) (c .before .before .before .get .result) (omega (arith, length-words (c .before .before .before .before .before .before .before .args .s .now))) (c .before .before .before .get .ensures)) (front-var _ _ _ _ _ (c .before .before .if1 .left) v))
+loop-again c = let v = sym (c .before .before .is-variable .ensures) ∙ not-false _ (c .before .if3 .left) in
+    (omega (arith, is-var _ _ _ v .below, c .id .ensures), rw (c .id .ensures) (c .before .before .before .before .before .before .before .loop .inv .1 ∙ rw (word-and-rest (words (c .before .before .before .before .before .before .before .before .before .args .s .now)) (c .before .before .before .before .before .before .before .loop .i) (c .before .before .before .before .before .get .result) (omega (arith, length-words (c .before .before .before .before .before .before .before .before .before .args .s .now))) (c .before .before .before .before .before .get .ensures)) (front-var _ _ _ _ _ (is-end-false _ (c .before .before .before .before .is-end .ensures) (c .before .before .before .if1 .left)) v)))
 
 -- src/lib.rt:52:1
 returns-4 : tie.Need-returns-4 Inv-loop μ-loop
@@ -83,12 +99,15 @@ canonical-words-spec =
     μ-loop
     loop-holds
     get-requires
+    is-end-requires
+    payload-requires
     cast-result
     add-result
     returns
     returns-2
     is-variable-requires
     returns-3
+    id-requires
     add-n
     add-i
     loop-less

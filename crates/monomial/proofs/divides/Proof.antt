@@ -5,15 +5,19 @@ use Prim.Native.Nat.{_-_}
 use mathlib.Core.Path.{refl}
 use lib.ListN.{length, getD}
 use Rattle.words.specs.Words.{words}
+use Rattle.words.proofs.Fields.{is-end-true, is-end-false}
 use Rattle.words.proofs.Laws.{length-words}
 use Rattle.monomial.proofs.Walks.{within}
 use Rattle.monomial.proofs.Divisions.{Dividing, begin, all-passed, exceeds, goes-on}
+use borrow.Author.Needs.{needs}
 use Rattle.monomial.proofs.divides.Statement.{statement}
 use Rattle.monomial.proofs.divides.Tie as tie
 use Rattle.monomial.proofs.divides.Reads as reads
 use Rattle.monomial.proofs.divides.Lts as lts
 use Rattle.monomial.proofs.ordered_ops.step.Reads as step-reads
 use Rattle.words.proofs.get.Reads as get-reads
+use Rattle.words.proofs.is_end.Reads as is-end-reads
+use Rattle.words.proofs.upper_half.Reads as upper-half-reads
 
 abbrev Inv-loop : tie.InvT-loop
 Inv-loop a b i₀ j₀ i j = Dividing (first 1 (words a)) (first 1 (words b)) i j
@@ -21,41 +25,49 @@ Inv-loop a b i₀ j₀ i j = Dividing (first 1 (words a)) (first 1 (words b)) i 
 abbrev μ-loop : tie.MeasureT-loop
 μ-loop a b i₀ j₀ i j = length (first 1 (words b)) - j
 
--- src/lib.rt:156:5
+-- src/lib.rt:185:5
 loop-holds : tie.Need-loop-holds Inv-loop μ-loop
 loop-holds c = begin (begins (omega arith) (c .before .before .pre .0)) (begins (omega arith) (c .before .before .pre .1))
 
--- src/lib.rt:157:13
+-- src/lib.rt:186:13
 get-requires : tie.Need-get-requires Inv-loop μ-loop
 get-requires c κs = omega (arith, within (c .loop .inv .ra), first-bytes 1 (c .before .before .before .args .a .now))
 
--- src/lib.rt:159:13
+-- src/lib.rt:187:12
+is-end-requires : tie.Need-is-end-requires Inv-loop μ-loop
+is-end-requires c κs = search needs
+
+-- src/lib.rt:188:13
 returns : tie.Need-returns Inv-loop μ-loop
-returns c = all-passed (c .before .before .loop .inv) (seen _ (c .before .before .loop .inv .ra) (c .before .get .ensures)) (c .if1 .taken)
+returns c = all-passed (c .before .before .before .loop .inv) (seen _ (c .before .before .before .loop .inv .ra) (c .before .before .get .ensures)) (is-end-true _ (c .before .is-end .ensures) (c .if1 .taken))
 
--- src/lib.rt:161:13
+-- src/lib.rt:190:13
 get-requires-2 : tie.Need-get-requires-2 Inv-loop μ-loop
-get-requires-2 c κs = omega (arith, within (c .before .before .loop .inv .rb), first-bytes 1 (c .before .before .before .before .before .args .b .now))
+get-requires-2 c κs = omega (arith, within (c .before .before .before .loop .inv .rb), first-bytes 1 (c .before .before .before .before .before .before .args .b .now))
 
--- src/lib.rt:163:13
+-- src/lib.rt:192:13
 returns-2 : tie.Need-returns-2 Inv-loop μ-loop
-returns-2 c = exceeds (c .before .before .before .before .loop .inv) (seen _ (c .before .before .before .before .loop .inv .ra) (c .before .before .before .get .ensures)) (seen _ (c .before .before .before .before .loop .inv .rb) (c .before .get2 .ensures)) (c .before .before .if1 .left) (c .if2 .taken)
+returns-2 c = exceeds (c .before .before .before .before .before .loop .inv) (seen _ (c .before .before .before .before .before .loop .inv .ra) (c .before .before .before .before .get .ensures)) (seen _ (c .before .before .before .before .before .loop .inv .rb) (c .before .get2 .ensures)) (is-end-false _ (c .before .before .before .is-end .ensures) (c .before .before .if1 .left)) (c .if2 .taken)
 
--- src/lib.rt:165:9
+-- src/lib.rt:194:37
+upper-half-requires : tie.Need-upper-half-requires Inv-loop μ-loop
+upper-half-requires c κs = search needs
+
+-- src/lib.rt:194:9
 step-requires : tie.Need-step-requires Inv-loop μ-loop
-step-requires c κs = omega (arith, within (c .before .before .before .before .loop .inv .ra), first-bytes 1 (c .before .before .before .before .before .before .before .args .a .now))
+step-requires c κs = omega (arith, within (c .before .before .before .before .before .before .loop .inv .ra), first-bytes 1 (c .before .before .before .before .before .before .before .before .before .args .a .now))
 
--- src/lib.rt:166:9
+-- src/lib.rt:195:9
 add-j : tie.Need-add-j Inv-loop μ-loop
-add-j c = omega (arith, within (c .before .before .before .before .before .loop .inv .rb), first-bytes 1 (c .before .before .before .before .before .before .before .before .args .b .now))
+add-j c = omega (arith, within (c .before .before .before .before .before .before .before .loop .inv .rb), first-bytes 1 (c .before .before .before .before .before .before .before .before .before .before .args .b .now))
 
--- src/lib.rt:156:5
+-- src/lib.rt:185:5
 loop-less : tie.Need-loop-less Inv-loop μ-loop
-loop-less c = omega (arith, within (c .before .before .before .before .before .loop .inv .rb))
+loop-less c = omega (arith, within (c .before .before .before .before .before .before .before .loop .inv .rb))
 
--- src/lib.rt:156:5
+-- src/lib.rt:185:5
 loop-again : tie.Need-loop-again Inv-loop μ-loop
-loop-again c = rw (c .step .ensures) (goes-on (c .before .before .before .before .before .loop .inv) (seen _ (c .before .before .before .before .before .loop .inv .ra) (c .before .before .before .before .get .ensures)) (seen _ (c .before .before .before .before .before .loop .inv .rb) (c .before .before .get2 .ensures)) (c .before .before .before .if1 .left) (c .before .if2 .left))
+loop-again c = rw (c .step .ensures, c .before .upper-half .ensures) (goes-on (c .before .before .before .before .before .before .before .loop .inv) (seen _ (c .before .before .before .before .before .before .before .loop .inv .ra) (c .before .before .before .before .before .before .get .ensures)) (seen _ (c .before .before .before .before .before .before .before .loop .inv .rb) (c .before .before .before .get2 .ensures)) (is-end-false _ (c .before .before .before .before .before .is-end .ensures) (c .before .before .before .before .if1 .left)) (c .before .before .if2 .left))
 
 pub divides-spec : {M : Type 1} → statement M
 divides-spec =
@@ -65,9 +77,11 @@ divides-spec =
     μ-loop
     loop-holds
     get-requires
+    is-end-requires
     returns
     get-requires-2
     returns-2
+    upper-half-requires
     step-requires
     add-j
     loop-less

@@ -1,18 +1,20 @@
 use Rattle.monomial.specs.Monomial.{first}
 use Rattle.monomial.proofs.Firsts.{begins, seen, first-bytes, first-canonical}
 use native.Mathlib.Omega.{arith}
-use borrow.Author.Needs.{needs}
 use Prim.Native.Nat.{_-_}
 use lib.ListN.{length}
 use Rattle.words.specs.Words.{words}
 use Rattle.words.proofs.Laws.{length-words}
 use Rattle.monomial.proofs.Walks.{start, within}
 use Rattle.monomial.proofs.Divisions.{Finding, absent-here, found-here, found-later}
+use borrow.Author.Needs.{needs}
 use Rattle.monomial.proofs.find_power.Statement.{statement}
 use Rattle.monomial.proofs.find_power.Tie as tie
 use Rattle.monomial.proofs.find_power.Reads as reads
 use Rattle.monomial.proofs.find_power.Lts as lts
 use Rattle.words.proofs.get.Reads as get-reads
+use Rattle.words.proofs.power.Reads as power-reads
+use Rattle.words.proofs.upper_half.Reads as upper-half-reads
 
 abbrev Inv-loop : tie.InvT-loop
 Inv-loop m kind v upper i₀ i = Finding kind (first kind (words m)) v i
@@ -20,41 +22,49 @@ Inv-loop m kind v upper i₀ i = Finding kind (first kind (words m)) v i
 abbrev μ-loop : tie.MeasureT-loop
 μ-loop m kind v upper i₀ i = length (first kind (words m)) - i
 
--- src/lib.rt:122:17
+-- src/lib.rt:150:17
 mul-upper : tie.Need-mul-upper Inv-loop μ-loop
 mul-upper c = search needs
 
--- src/lib.rt:122:17
+-- src/lib.rt:150:17
 add-upper : tie.Need-add-upper Inv-loop μ-loop
 add-upper c = search needs
 
--- src/lib.rt:124:5
+-- src/lib.rt:152:5
 loop-holds : tie.Need-loop-holds Inv-loop μ-loop
 loop-holds c = record { b = 4096; below = c .before .pre .0 .1 .1; ra = begins (c .before .pre .0 .0) (c .before .pre .1) }
 
--- src/lib.rt:125:13
+-- src/lib.rt:153:13
 get-requires : tie.Need-get-requires Inv-loop μ-loop
 get-requires c κs = omega (arith, within (c .loop .inv .ra), first-bytes (c .before .before .args .kind) (c .before .before .args .m .now))
 
--- src/lib.rt:127:13
+-- src/lib.rt:154:13
+upper-half-requires : tie.Need-upper-half-requires Inv-loop μ-loop
+upper-half-requires c κs = search needs
+
+-- src/lib.rt:156:13
 returns : tie.Need-returns Inv-loop μ-loop
-returns c = let k = (c .before .before .before .before .pre .0 .0) in absent-here k (first-canonical k (c .before .before .before .before .pre .1)) (c .before .before .loop .inv) (seen _ (c .before .before .loop .inv .ra) (c .before .get .ensures)) (c .if1 .taken)
+returns c = let k = (c .before .before .before .before .before .pre .0 .0) in absent-here k (first-canonical k (c .before .before .before .before .before .pre .1)) (c .before .before .before .loop .inv) (seen _ (c .before .before .before .loop .inv .ra) (c .before .before .get .ensures)) (omega (arith, c .before .upper-half .ensures))
 
--- src/lib.rt:130:13
+-- src/lib.rt:159:33
+power-requires : tie.Need-power-requires Inv-loop μ-loop
+power-requires c κs = search needs
+
+-- src/lib.rt:159:13
 returns-2 : tie.Need-returns-2 Inv-loop μ-loop
-returns-2 c = let k = (c .before .before .before .before .before .pre .0 .0) in found-here k (first-canonical k (c .before .before .before .before .before .pre .1)) (c .before .before .before .loop .inv) (seen _ (c .before .before .before .loop .inv .ra) (c .before .before .get .ensures)) (c .if2 .taken)
+returns-2 c = let k = (c .before .before .before .before .before .before .before .pre .0 .0) in rw (c .power .ensures) (found-here k (first-canonical k (c .before .before .before .before .before .before .before .pre .1)) (c .before .before .before .before .before .loop .inv) (seen _ (c .before .before .before .before .before .loop .inv .ra) (c .before .before .before .before .get .ensures)) (omega (arith, c .before .before .before .upper-half .ensures)))
 
--- src/lib.rt:132:9
+-- src/lib.rt:161:9
 add-i : tie.Need-add-i Inv-loop μ-loop
-add-i c = omega (arith, within (c .before .before .before .loop .inv .ra), first-bytes (c .before .before .before .before .before .args .kind) (c .before .before .before .before .before .args .m .now))
+add-i c = omega (arith, within (c .before .before .before .before .loop .inv .ra), first-bytes (c .before .before .before .before .before .before .args .kind) (c .before .before .before .before .before .before .args .m .now))
 
--- src/lib.rt:124:5
+-- src/lib.rt:152:5
 loop-less : tie.Need-loop-less Inv-loop μ-loop
-loop-less c = omega (arith, within (c .before .before .before .loop .inv .ra))
+loop-less c = omega (arith, within (c .before .before .before .before .loop .inv .ra))
 
--- src/lib.rt:124:5
+-- src/lib.rt:152:5
 loop-again : tie.Need-loop-again Inv-loop μ-loop
-loop-again c = let k = (c .before .before .before .before .before .pre .0 .0) in found-later k (first-canonical k (c .before .before .before .before .before .pre .1)) (c .before .before .before .loop .inv) (seen _ (c .before .before .before .loop .inv .ra) (c .before .before .get .ensures)) (omega arith)
+loop-again c = let k = (c .before .before .before .before .before .before .pre .0 .0) in found-later k (first-canonical k (c .before .before .before .before .before .before .pre .1)) (c .before .before .before .before .loop .inv) (seen _ (c .before .before .before .before .loop .inv .ra) (c .before .before .before .get .ensures)) (omega (arith, c .before .before .upper-half .ensures))
 
 pub find-power-spec : {M : Type 1} → statement M
 find-power-spec =
@@ -66,7 +76,9 @@ find-power-spec =
     add-upper
     loop-holds
     get-requires
+    upper-half-requires
     returns
+    power-requires
     returns-2
     add-i
     loop-less

@@ -1,27 +1,42 @@
 use native.Mathlib.Omega.{arith}
 use borrow.Author.Tests.{eq-eqb, ne-eqb, lt-ltb, le-ltb, le-leb, lt-leb}
 use Rattle.monomial.specs.Monomial.{isVar}
-use Prim.Native.Nat.{_%_}
+use Rattle.words.specs.Kinds.{power}
 use borrow.Author.Needs.{needs}
 use Rattle.monomial.proofs.is_variable.Statement.{statement}
 use Rattle.monomial.proofs.is_variable.Tie as tie
 use Rattle.monomial.proofs.is_variable.Reads as reads
 use Rattle.monomial.proofs.is_variable.Lts as lts
+use Rattle.words.proofs.id.Reads as id-reads
+use Rattle.words.proofs.kind.Reads as kind-reads
+use Rattle.words.proofs.power.Reads as power-reads
+
+-- src/lib.rt:32:8
+kind-requires : tie.Need-kind-requires
+kind-requires c κs = search needs
 
 -- src/lib.rt:33:9
 returns : tie.Need-returns
 unfolding isVar
-returns c = simp (ne-eqb _ _ (c .if1 .taken))
+returns c = simp (ne-eqb _ _ (rw (c .before .kind .ensures) at (c .if1 .taken)))
+
+-- src/lib.rt:35:17
+id-requires : tie.Need-id-requires
+id-requires c κs = search needs
 
 -- src/lib.rt:36:9
 returns-2 : tie.Need-returns-2
 unfolding isVar
-returns-2 c = simp (eq-eqb _ _ (c .before .if1 .left), le-ltb _ _ (c .if2 .taken))
+returns-2 c = simp (eq-eqb _ _ (rw (c .before .before .before .kind .ensures) at (c .before .before .if1 .left)), le-ltb _ _ (rw (c .before .id .ensures) at (c .if2 .taken)))
+
+-- src/lib.rt:38:9
+power-requires : tie.Need-power-requires
+power-requires c κs = search needs
 
 -- src/lib.rt:40:9
 returns-3 : tie.Need-returns-3
 unfolding isVar
-returns-3 c = simp (eq-eqb _ _ (c .before .before .if1 .left), lt-ltb _ _ (c .before .if2 .left), le-ltb 0 ((c .before .before .before .args .w) % 65536) (omega arith))
+returns-3 c = simp (eq-eqb _ _ (rw (c .before .before .before .before .before .kind .ensures) at (c .before .before .before .before .if1 .left)), lt-ltb _ _ (rw (c .before .before .before .id .ensures) at (c .before .before .if2 .left)), le-ltb 0 (power (c .before .before .before .before .before .before .args .w)) (omega (arith, c .before .power .ensures)))
 
 -- src/lib.rt:42:25
 sub-if4 : tie.Need-sub-if4
@@ -38,7 +53,7 @@ add-if4 c = search needs
 -- src/lib.rt:43:9
 returns-4 : tie.Need-returns-4
 unfolding isVar
-returns-4 c = simp (eq-eqb _ _ (c .before .before .before .if1 .left), lt-ltb _ _ (c .before .before .if2 .left), lt-ltb 0 ((c .before .before .before .before .args .w) % 65536) (omega arith), lt-leb _ _ (c .if4 .taken))
+returns-4 c = simp (eq-eqb _ _ (rw (c .before .before .before .before .before .before .kind .ensures) at (c .before .before .before .before .before .if1 .left)), lt-ltb _ _ (rw (c .before .before .before .before .id .ensures) at (c .before .before .before .if2 .left)), lt-ltb 0 (power (c .before .before .before .before .before .before .before .args .w)) (omega (arith, c .before .before .power .ensures)), lt-leb _ _ (rw (c .before .before .power .ensures) at (c .if4 .taken)))
 
 -- src/lib.rt:45:22
 sub-if5 : tie.Need-sub-if5
@@ -51,19 +66,22 @@ mul-if5 c = search needs
 -- src/lib.rt:46:9
 returns-5 : tie.Need-returns-5
 unfolding isVar
-returns-5 c = simp (eq-eqb _ _ (c .before .before .before .before .if1 .left), lt-ltb _ _ (c .before .before .before .if2 .left), lt-ltb 0 ((c .before .before .before .before .before .args .w) % 65536) (omega arith), le-leb _ _ (c .before .if4 .left), eq-eqb _ _ (c .if5 .taken))
+returns-5 c = simp (eq-eqb _ _ (rw (c .before .before .before .before .before .before .before .kind .ensures) at (c .before .before .before .before .before .before .if1 .left)), lt-ltb _ _ (rw (c .before .before .before .before .before .id .ensures) at (c .before .before .before .before .if2 .left)), lt-ltb 0 (power (c .before .before .before .before .before .before .before .before .args .w)) (omega (arith, c .before .before .before .power .ensures)), le-leb _ _ (rw (c .before .before .before .power .ensures) at (c .before .if4 .left)), eq-eqb _ _ (rw (c .before .before .before .power .ensures) at (c .if5 .taken)))
 
 -- src/lib.rt:28:1
 returns-6 : tie.Need-returns-6
 unfolding isVar
-returns-6 c = simp (eq-eqb _ _ (c .before .before .before .before .if1 .left), lt-ltb _ _ (c .before .before .before .if2 .left), lt-ltb 0 ((c .before .before .before .before .before .args .w) % 65536) (omega arith), le-leb _ _ (c .before .if4 .left), ne-eqb _ _ (c .if5 .left))
+returns-6 c = simp (eq-eqb _ _ (rw (c .before .before .before .before .before .before .before .kind .ensures) at (c .before .before .before .before .before .before .if1 .left)), lt-ltb _ _ (rw (c .before .before .before .before .before .id .ensures) at (c .before .before .before .before .if2 .left)), lt-ltb 0 (power (c .before .before .before .before .before .before .before .before .args .w)) (omega (arith, c .before .before .before .power .ensures)), le-leb _ _ (rw (c .before .before .before .power .ensures) at (c .before .if4 .left)), ne-eqb _ _ (rw (c .before .before .before .power .ensures) at (c .if5 .left)))
 
 pub is-variable-spec : {M : Type 1} → statement M
 is-variable-spec =
     tie.close
     (tie.spec
+    kind-requires
     returns
+    id-requires
     returns-2
+    power-requires
     returns-3
     sub-if4
     mul-if4

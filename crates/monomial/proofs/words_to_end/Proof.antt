@@ -3,6 +3,7 @@ use mathlib.Core.Path.{_≡_, refl, sym, ap, _∙_}
 use Prim.Native.Nat.{ℕ, _+_, _-_, _≤_}
 use lib.ListN.{drop, drop-of-length-le}
 use Rattle.words.specs.Words.{words}
+use Rattle.words.proofs.Fields.{is-end-true, is-end-false}
 use Rattle.words.proofs.Laws.{length-words, word-and-rest}
 use Rattle.monomial.specs.Monomial.{toEnd}
 use Rattle.monomial.proofs.Ends.{end-none, end-here, end-past}
@@ -12,6 +13,7 @@ use Rattle.monomial.proofs.words_to_end.Tie as tie
 use Rattle.monomial.proofs.words_to_end.Reads as reads
 use Rattle.monomial.proofs.words_to_end.Lts as lts
 use Rattle.words.proofs.get.Reads as get-reads
+use Rattle.words.proofs.is_end.Reads as is-end-reads
 
 abbrev Inv-loop : tie.InvT-loop
 Inv-loop s at end i₀ i = (at ≤ i) × (toEnd 0 (drop at (words s)) ≡ toEnd (i - at) (drop i (words s)))
@@ -23,9 +25,13 @@ abbrev μ-loop : tie.MeasureT-loop
 loop-holds : tie.Need-loop-holds Inv-loop μ-loop
 loop-holds c = (omega arith, let z : (c .before .args .at) - (c .before .args .at) ≡ 0 = omega arith in rw z)
 
--- src/lib.rt:123:12
+-- src/lib.rt:123:26
 get-requires : tie.Need-get-requires Inv-loop μ-loop
 get-requires c κs = search needs
+
+-- src/lib.rt:123:12
+is-end-requires : tie.Need-is-end-requires Inv-loop μ-loop
+is-end-requires c κs = search needs
 
 -- src/lib.rt:124:20
 sub-result : tie.Need-sub-result Inv-loop μ-loop
@@ -37,7 +43,7 @@ add-result c = search needs
 
 -- src/lib.rt:124:13
 returns : tie.Need-returns Inv-loop μ-loop
-returns c = sym (c .before .before .before .loop .inv .1 ∙ rw (word-and-rest (words (c .before .before .before .before .before .args .s .now)) (c .before .before .before .loop .i) (c .before .get .result) (omega (arith, length-words (c .before .before .before .before .before .args .s .now))) (c .before .get .ensures)) (end-here _ _ _ (c .if1 .taken)))
+returns c = sym (c .before .before .before .before .loop .inv .1 ∙ rw (word-and-rest (words (c .before .before .before .before .before .before .args .s .now)) (c .before .before .before .before .loop .i) (c .before .before .get .result) (omega (arith, length-words (c .before .before .before .before .before .before .args .s .now))) (c .before .before .get .ensures)) (end-here _ _ _ (is-end-true _ (c .before .is-end .ensures) (c .if1 .taken))))
 
 -- src/lib.rt:126:9
 add-i : tie.Need-add-i Inv-loop μ-loop
@@ -49,7 +55,7 @@ loop-less c = search needs
 
 -- src/lib.rt:122:5
 loop-again : tie.Need-loop-again Inv-loop μ-loop
-loop-again c = (omega (arith, c .before .before .before .loop .inv .0), let z : (c .before .before .before .loop .i) - (c .before .before .before .before .before .args .at) + 1 ≡ (c .before .before .before .loop .i) + 1 - (c .before .before .before .before .before .args .at) = omega (arith, c .before .before .before .loop .inv .0) in (c .before .before .before .loop .inv .1) ∙ rw (word-and-rest (words (c .before .before .before .before .before .args .s .now)) (c .before .before .before .loop .i) (c .before .get .result) (omega (arith, length-words (c .before .before .before .before .before .args .s .now))) (c .before .get .ensures)) (end-past _ _ _ (c .if1 .left)) ∙ ap (λ (n : ℕ). toEnd n (drop ((c .before .before .before .loop .i) + 1) (words (c .before .before .before .before .before .args .s .now)))) z)
+loop-again c = (omega (arith, c .before .before .before .before .loop .inv .0), let z : (c .before .before .before .before .loop .i) - (c .before .before .before .before .before .before .args .at) + 1 ≡ (c .before .before .before .before .loop .i) + 1 - (c .before .before .before .before .before .before .args .at) = omega (arith, c .before .before .before .before .loop .inv .0) in (c .before .before .before .before .loop .inv .1) ∙ rw (word-and-rest (words (c .before .before .before .before .before .before .args .s .now)) (c .before .before .before .before .loop .i) (c .before .before .get .result) (omega (arith, length-words (c .before .before .before .before .before .before .args .s .now))) (c .before .before .get .ensures)) (end-past _ _ _ (is-end-false _ (c .before .is-end .ensures) (c .if1 .left))) ∙ ap (λ (n : ℕ). toEnd n (drop ((c .before .before .before .before .loop .i) + 1) (words (c .before .before .before .before .before .before .args .s .now)))) z)
 
 -- src/lib.rt:117:1
 returns-2 : tie.Need-returns-2 Inv-loop μ-loop
@@ -63,6 +69,7 @@ words-to-end-spec =
     μ-loop
     loop-holds
     get-requires
+    is-end-requires
     sub-result
     add-result
     returns

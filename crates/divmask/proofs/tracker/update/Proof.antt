@@ -1,9 +1,11 @@
+use borrow.Author.Needs.{needs}
 use Rattle.monomial.specs.Monomial.{first}
 use Rattle.monomial.proofs.Firsts.{seen, first-bytes, first-canonical}
 use native.Mathlib.Omega.{arith}
 use lib.ListN.{length}
 use Prim.Native.Nat.{_-_}
 use Rattle.words.specs.Words.{words}
+use Rattle.words.proofs.Fields.{is-end-true, is-end-false}
 use Rattle.words.proofs.Laws.{length-words}
 use Rattle.monomial.proofs.Walks.{within}
 use Rattle.divmask.proofs.Growth.{Updating, begin, at-end, variable, not-above, raises}
@@ -12,6 +14,9 @@ use Rattle.divmask.proofs.tracker.update.Tie as tie
 use Rattle.divmask.proofs.tracker.update.Reads as reads
 use Rattle.divmask.proofs.tracker.update.Lts as lts
 use Rattle.words.proofs.get.Reads as get-reads
+use Rattle.words.proofs.id.Reads as id-reads
+use Rattle.words.proofs.is_end.Reads as is-end-reads
+use Rattle.words.proofs.power.Reads as power-reads
 use Rattle.words.proofs.put.Reads as put-reads
 
 abbrev Inv-loop : tie.InvT-loop
@@ -20,53 +25,65 @@ Inv-loop maxima₀ variables monomial i₀ maxima i = Updating variables (first 
 abbrev μ-loop : tie.MeasureT-loop
 μ-loop maxima₀ variables monomial i₀ maxima i = length (first 1 (words monomial)) - i
 
--- src/tracker.rt:49:5
+-- src/tracker.rt:52:5
 loop-holds : tie.Need-loop-holds Inv-loop μ-loop
 loop-holds c = begin (c .before .before .args .maxima .now) (first-canonical (omega arith) (c .before .before .pre .1 .1)) (c .before .before .pre .1 .0) (c .before .before .pre .0) (λ k. omega (arith, (c .before .slice-known .given) k))
 
--- src/tracker.rt:50:13
+-- src/tracker.rt:53:13
 get-requires : tie.Need-get-requires Inv-loop μ-loop
 get-requires c κs = omega (arith, first-bytes 1 (c .before .before .before .args .monomial .now), within (c .loop .inv .ra))
 
--- src/tracker.rt:52:13
+-- src/tracker.rt:54:12
+is-end-requires : tie.Need-is-end-requires Inv-loop μ-loop
+is-end-requires c κs = search needs
+
+-- src/tracker.rt:55:13
 same-length : tie.Need-same-length Inv-loop μ-loop
-same-length c = c .before .before .loop .inv .kept
+same-length c = c .before .before .before .loop .inv .kept
 
--- src/tracker.rt:52:13
+-- src/tracker.rt:55:13
 returns : tie.Need-returns Inv-loop μ-loop
-returns c = at-end (c .before .before .loop .inv) (seen _ (c .before .before .loop .inv .ra) (c .before .get .ensures)) (c .if1 .taken)
+returns c = at-end (c .before .before .before .loop .inv) (seen _ (c .before .before .before .loop .inv .ra) (c .before .before .get .ensures)) (is-end-true _ (c .before .is-end .ensures) (c .if1 .taken))
 
--- src/tracker.rt:54:17
+-- src/tracker.rt:57:17
+id-requires : tie.Need-id-requires Inv-loop μ-loop
+id-requires c κs = search needs
+
+-- src/tracker.rt:57:17
 cast-v : tie.Need-cast-v Inv-loop μ-loop
 cast-v c = omega arith
 
--- src/tracker.rt:56:17
+-- src/tracker.rt:58:13
+power-requires : tie.Need-power-requires Inv-loop μ-loop
+power-requires c κs = search needs
+
+-- src/tracker.rt:59:17
 get-requires-2 : tie.Need-get-requires-2 Inv-loop μ-loop
-get-requires-2 c κs = omega (arith, variable (c .before .before .before .loop .inv) (seen _ (c .before .before .before .loop .inv .ra) (c .before .before .get .ensures)) (c .before .if1 .left) .known, c .before .before .before .loop .inv .kept, c .before .before .before .loop .inv .whole)
+get-requires-2 c κs = omega (arith, variable (c .before .before .before .before .before .before .loop .inv) (seen _ (c .before .before .before .before .before .before .loop .inv .ra) (c .before .before .before .before .before .get .ensures)) (is-end-false _ (c .before .before .before .before .is-end .ensures) (c .before .before .before .if1 .left)) .known, c .before .before .id .ensures, c .before .before .before .before .before .before .loop .inv .kept, c .before .before .before .before .before .before .loop .inv .whole)
 
--- src/tracker.rt:57:13
+-- src/tracker.rt:60:13
 same-length-2 : tie.Need-same-length-2 Inv-loop μ-loop
-same-length-2 c = c .before .before .before .before .before .loop .inv .kept
+same-length-2 c = c .before .before .before .before .before .before .before .before .loop .inv .kept
 
--- src/tracker.rt:57:13
+-- src/tracker.rt:60:13
 returns-2 : tie.Need-returns-2 Inv-loop μ-loop
-returns-2 c = not-above (c .before .before .before .before .before .loop .inv) (seen _ (c .before .before .before .before .before .loop .inv .ra) (c .before .before .before .before .get .ensures)) (c .before .before .before .if1 .left) (omega (arith, c .before .get2 .ensures))
+returns-2 c = not-above (c .before .before .before .before .before .before .before .before .loop .inv) (seen _ (c .before .before .before .before .before .before .before .before .loop .inv .ra) (c .before .before .before .before .before .before .before .get .ensures)) (is-end-false _ (c .before .before .before .before .before .before .is-end .ensures) (c .before .before .before .before .before .if1 .left)) (omega (arith, rw (c .before .before .before .before .id .ensures) at (c .before .get2 .ensures), c .before .before .before .power .ensures))
 
--- src/tracker.rt:59:9
+-- src/tracker.rt:62:9
 put-requires : tie.Need-put-requires Inv-loop μ-loop
-put-requires c κs = omega (arith, variable (c .before .before .before .before .before .before .loop .inv) (seen _ (c .before .before .before .before .before .before .loop .inv .ra) (c .before .before .before .before .before .get .ensures)) (c .before .before .before .before .if1 .left) .known, c .before .before .before .before .before .before .loop .inv .kept, c .before .before .before .before .before .before .loop .inv .whole)
+put-requires c κs = omega (arith, variable (c .before .before .before .before .before .before .before .before .before .loop .inv) (seen _ (c .before .before .before .before .before .before .before .before .before .loop .inv .ra) (c .before .before .before .before .before .before .before .before .get .ensures)) (is-end-false _ (c .before .before .before .before .before .before .before .is-end .ensures) (c .before .before .before .before .before .before .if1 .left)) .known, c .before .before .before .before .before .id .ensures, c .before .before .before .before .before .before .before .before .before .loop .inv .kept, c .before .before .before .before .before .before .before .before .before .loop .inv .whole)
 
--- src/tracker.rt:60:9
+-- src/tracker.rt:63:9
 add-i : tie.Need-add-i Inv-loop μ-loop
-add-i c = omega (arith, first-bytes 1 (c .before .before .before .before .before .before .before .before .before .before .before .before .args .monomial .now), within (c .before .before .before .before .before .before .before .before .before .loop .inv .ra))
+add-i c = omega (arith, first-bytes 1 (c .before .before .before .before .before .before .before .before .before .before .before .before .before .before .before .args .monomial .now), within (c .before .before .before .before .before .before .before .before .before .before .before .before .loop .inv .ra))
 
--- src/tracker.rt:49:5
+-- src/tracker.rt:52:5
 loop-less : tie.Need-loop-less Inv-loop μ-loop
-loop-less c = omega (arith, within (c .before .before .before .before .before .before .before .before .before .loop .inv .ra))
+loop-less c = omega (arith, within (c .before .before .before .before .before .before .before .before .before .before .before .before .loop .inv .ra))
 
--- src/tracker.rt:49:5
+-- src/tracker.rt:52:5
 loop-again : tie.Need-loop-again Inv-loop μ-loop
-loop-again c = raises (c .before .before .before .before .before .before .before .before .before .loop .inv) (seen _ (c .before .before .before .before .before .before .before .before .before .loop .inv .ra) (c .before .before .before .before .before .before .before .before .get .ensures)) (c .before .before .before .before .before .before .before .if1 .left) (omega (arith, c .before .before .before .before .before .get2 .ensures)) (c .before .before .put .ensures) (λ k. omega (arith, (c .slice-known2 .given) k))
+loop-again c = raises (c .before .before .before .before .before .before .before .before .before .before .before .before .loop .inv) (seen _ (c .before .before .before .before .before .before .before .before .before .before .before .before .loop .inv .ra) (c .before .before .before .before .before .before .before .before .before .before .before .get .ensures)) (is-end-false _ (c .before .before .before .before .before .before .before .before .before .before .is-end .ensures) (c .before .before .before .before .before .before .before .before .before .if1 .left)) (omega (arith, rw (c .before .before .before .before .before .before .before .before .id .ensures) at (c .before .before .before .before .before .get2 .ensures), c .before .before .before .before .before .before .before .power .ensures)) (rw (c .before .before .before .before .before .before .before .before .id .ensures, c .before .before .before .before .before .before .before .power .ensures) at (c .before .before .put .ensures)) (λ k. omega (arith, (c .slice-known2 .given) k))
 
 pub update-spec : {M : Type 1} → statement M
 update-spec =
@@ -76,9 +93,12 @@ update-spec =
     μ-loop
     loop-holds
     get-requires
+    is-end-requires
     same-length
     returns
+    id-requires
     cast-v
+    power-requires
     get-requires-2
     same-length-2
     returns-2

@@ -1,8 +1,9 @@
 use native.Mathlib.Omega.{arith}
 use mathlib.Core.Path.{sym, ap, _∙_}
-use Prim.Native.Nat.{ℕ, _+_, _/_}
+use Prim.Native.Nat.{_+_}
 use Rattle.words.proofs.Answers.{refuse}
 use Rattle.words.specs.Words.{words}
+use Rattle.words.specs.Kinds.{kind}
 use Rattle.fast_compare.proofs.Images.{ratio-within}
 use borrow.Author.Needs.{needs}
 use Rattle.fast_compare.proofs.soundness.row_ok.Statement.{statement}
@@ -11,15 +12,20 @@ use Rattle.fast_compare.proofs.soundness.row_ok.Reads as reads
 use Rattle.fast_compare.proofs.soundness.row_ok.Lts as lts
 use Rattle.monomial.proofs.canonical_words.Reads as canonical-words-reads
 use Rattle.words.proofs.get.Reads as get-reads
+use Rattle.words.proofs.kind.Reads as kind-reads
 use Rattle.words.proofs.runs.is_blank.Reads as is-blank-reads
 
 -- src/soundness.rt:17:9
 get-requires : tie.Need-get-requires
 get-requires c κs = search needs
 
+-- src/soundness.rt:18:8
+kind-requires : tie.Need-kind-requires
+kind-requires c κs = search needs
+
 -- src/soundness.rt:19:9
 returns : tie.Need-returns
-returns c = refuse (λ h. (c .if1 .taken) (ap (λ (x : ℕ). x / 268435456) (c .before .get .ensures) ∙ h .kinded))
+returns c = refuse (λ h. (c .if1 .taken) (c .before .kind .ensures ∙ ap kind (c .before .before .get .ensures) ∙ h .kinded))
 
 -- src/soundness.rt:21:44
 add-canonical-words : tie.Need-add-canonical-words
@@ -39,33 +45,34 @@ returns-2 c = refuse (λ h. h .some (sym (c .before .canonical-words .ensures) �
 
 -- src/soundness.rt:25:32
 add-is-blank : tie.Need-add-is-blank
-add-is-blank c = omega (arith, ratio-within (words (c .before .before .before .before .before .args .map .now)) (c .before .before .before .before .before .args .variables) ((c .before .before .before .before .before .args .at) + 1) (omega arith) (λ z. (c .if2 .left) (c .before .canonical-words .ensures ∙ z)) .0, c .before .canonical-words .ensures)
+add-is-blank c = omega (arith, ratio-within (words (c .before .before .before .before .before .before .args .map .now)) (c .before .before .before .before .before .before .args .variables) ((c .before .before .before .before .before .before .args .at) + 1) (omega arith) (λ z. (c .if2 .left) (c .before .canonical-words .ensures ∙ z)) .0, c .before .canonical-words .ensures)
 
 -- src/soundness.rt:25:32
 add-is-blank-2 : tie.Need-add-is-blank-2
-add-is-blank-2 c = omega (arith, ratio-within (words (c .before .before .before .before .before .args .map .now)) (c .before .before .before .before .before .args .variables) ((c .before .before .before .before .before .args .at) + 1) (omega arith) (λ z. (c .if2 .left) (c .before .canonical-words .ensures ∙ z)) .0, c .before .canonical-words .ensures)
+add-is-blank-2 c = omega (arith, ratio-within (words (c .before .before .before .before .before .before .args .map .now)) (c .before .before .before .before .before .before .args .variables) ((c .before .before .before .before .before .before .args .at) + 1) (omega arith) (λ z. (c .if2 .left) (c .before .canonical-words .ensures ∙ z)) .0, c .before .canonical-words .ensures)
 
 -- src/soundness.rt:25:44
 add-is-blank-3 : tie.Need-add-is-blank-3
-add-is-blank-3 c = omega (arith, ratio-within (words (c .before .before .before .before .before .args .map .now)) (c .before .before .before .before .before .args .variables) ((c .before .before .before .before .before .args .at) + 1) (omega arith) (λ z. (c .if2 .left) (c .before .canonical-words .ensures ∙ z)) .0, c .before .canonical-words .ensures)
+add-is-blank-3 c = omega (arith, ratio-within (words (c .before .before .before .before .before .before .args .map .now)) (c .before .before .before .before .before .before .args .variables) ((c .before .before .before .before .before .before .args .at) + 1) (omega arith) (λ z. (c .if2 .left) (c .before .canonical-words .ensures ∙ z)) .0, c .before .canonical-words .ensures)
 
 -- src/soundness.rt:25:44
 sub-is-blank : tie.Need-sub-is-blank
-sub-is-blank c = omega (arith, ratio-within (words (c .before .before .before .before .before .args .map .now)) (c .before .before .before .before .before .args .variables) ((c .before .before .before .before .before .args .at) + 1) (omega arith) (λ z. (c .if2 .left) (c .before .canonical-words .ensures ∙ z)) .0, c .before .canonical-words .ensures)
+sub-is-blank c = omega (arith, ratio-within (words (c .before .before .before .before .before .before .args .map .now)) (c .before .before .before .before .before .before .args .variables) ((c .before .before .before .before .before .before .args .at) + 1) (omega arith) (λ z. (c .if2 .left) (c .before .canonical-words .ensures ∙ z)) .0, c .before .canonical-words .ensures)
 
 -- src/soundness.rt:25:5
 is-blank-requires : tie.Need-is-blank-requires
-is-blank-requires c κs = omega (arith, ratio-within (words (c .before .before .before .before .before .args .map .now)) (c .before .before .before .before .before .args .variables) ((c .before .before .before .before .before .args .at) + 1) (omega arith) (λ z. (c .if2 .left) (c .before .canonical-words .ensures ∙ z)) .0, c .before .canonical-words .ensures)
+is-blank-requires c κs = omega (arith, ratio-within (words (c .before .before .before .before .before .before .args .map .now)) (c .before .before .before .before .before .before .args .variables) ((c .before .before .before .before .before .before .args .at) + 1) (omega arith) (λ z. (c .if2 .left) (c .before .canonical-words .ensures ∙ z)) .0, c .before .canonical-words .ensures)
 
 -- src/soundness.rt:12:1
 returns-3 : tie.Need-returns-3
-returns-3 c = (λ z. record { kinded = ap (λ (x : ℕ). x / 268435456) (sym (c .before .before .before .before .get .ensures)) ∙ c .before .before .before .if1 .left; some = λ y. (c .before .if2 .left) (c .before .before .canonical-words .ensures ∙ y); rest = rw (c .before .before .canonical-words .ensures) at ((c .is-blank .ensures .0) z) }, λ h. (c .is-blank .ensures .1) (rw (c .before .before .canonical-words .ensures) (h .rest)))
+returns-3 c = (λ z. record { kinded = sym (c .before .before .before .before .kind .ensures ∙ ap kind (c .before .before .before .before .before .get .ensures)) ∙ c .before .before .before .if1 .left; some = λ y. (c .before .if2 .left) (c .before .before .canonical-words .ensures ∙ y); rest = rw (c .before .before .canonical-words .ensures) at ((c .is-blank .ensures .0) z) }, λ h. (c .is-blank .ensures .1) (rw (c .before .before .canonical-words .ensures) (h .rest)))
 
 pub row-ok-spec : {M : Type 1} → statement M
 row-ok-spec =
     tie.close
     (tie.spec
     get-requires
+    kind-requires
     returns
     add-canonical-words
     cast-canonical-words

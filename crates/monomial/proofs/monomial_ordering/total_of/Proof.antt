@@ -2,6 +2,7 @@ use native.Mathlib.Omega.{arith}
 use Prim.Native.Nat.{_-_}
 use lib.ListN.{length}
 use Rattle.words.specs.Words.{words}
+use Rattle.words.proofs.Fields.{is-end-true, is-end-false}
 use Rattle.monomial.specs.Monomial.{first}
 use Rattle.monomial.proofs.Walks.{within}
 use Rattle.monomial.proofs.Firsts.{begins, seen, first-bytes, first-canonical}
@@ -12,7 +13,7 @@ use Rattle.monomial.proofs.monomial_ordering.total_of.Tie as tie
 use Rattle.monomial.proofs.monomial_ordering.total_of.Reads as reads
 use Rattle.monomial.proofs.monomial_ordering.total_of.Lts as lts
 use Rattle.words.proofs.get.Reads as get-reads
-use Rattle.words.proofs.kind.Reads as kind-reads
+use Rattle.words.proofs.is_end.Reads as is-end-reads
 use Rattle.words.proofs.power.Reads as power-reads
 
 abbrev Inv-loop : tie.InvT-loop
@@ -38,38 +39,38 @@ get-requires : tie.Need-get-requires Inv-loop μ-loop
 get-requires c κs = omega (arith, within (c .loop .inv .ra), first-bytes (c .before .before .args .kind) (c .before .before .args .s .now))
 
 -- src/monomial_ordering.rt:45:12
-kind-requires : tie.Need-kind-requires Inv-loop μ-loop
-kind-requires c κs = search needs
+is-end-requires : tie.Need-is-end-requires Inv-loop μ-loop
+is-end-requires c κs = search needs
 
--- src/monomial_ordering.rt:46:47
-cast-t10 : tie.Need-cast-t10 Inv-loop μ-loop
-cast-t10 c = omega (arith, totalled (c .before .before .before .before .before .pre .0 .0) (c .before .before .before .before .before .pre .0 .1) (c .before .before .before .loop .inv) (seen _ (c .before .before .before .loop .inv .ra) (c .before .before .get .ensures)) (first-canonical (c .before .before .before .before .before .pre .0 .0) (c .before .before .before .before .before .pre .1)) (omega (arith, c .before .kind .ensures)) .few)
+-- src/monomial_ordering.rt:47:36
+cast-t9 : tie.Need-cast-t9 Inv-loop μ-loop
+cast-t9 c = omega (arith, totalled (c .before .before .before .before .before .pre .0 .0) (c .before .before .before .before .before .pre .0 .1) (c .before .before .before .loop .inv) (seen _ (c .before .before .before .loop .inv .ra) (c .before .before .get .ensures)) (first-canonical (c .before .before .before .before .before .pre .0 .0) (c .before .before .before .before .before .pre .1)) (is-end-true _ (c .before .is-end .ensures) (c .if1 .taken)) .few)
 
--- src/monomial_ordering.rt:46:40
-sub-t11 : tie.Need-sub-t11 Inv-loop μ-loop
-sub-t11 c = omega (arith, totalled (c .before .before .before .before .before .pre .0 .0) (c .before .before .before .before .before .pre .0 .1) (c .before .before .before .loop .inv) (seen _ (c .before .before .before .loop .inv .ra) (c .before .before .get .ensures)) (first-canonical (c .before .before .before .before .before .pre .0 .0) (c .before .before .before .before .before .pre .1)) (omega (arith, c .before .kind .ensures)) .few)
+-- src/monomial_ordering.rt:47:29
+sub-t10 : tie.Need-sub-t10 Inv-loop μ-loop
+sub-t10 c = omega (arith, totalled (c .before .before .before .before .before .pre .0 .0) (c .before .before .before .before .before .pre .0 .1) (c .before .before .before .loop .inv) (seen _ (c .before .before .before .loop .inv .ra) (c .before .before .get .ensures)) (first-canonical (c .before .before .before .before .before .pre .0 .0) (c .before .before .before .before .before .pre .1)) (is-end-true _ (c .before .is-end .ensures) (c .if1 .taken)) .few)
 
--- src/monomial_ordering.rt:46:39
-mul-t12 : tie.Need-mul-t12 Inv-loop μ-loop
-mul-t12 c = omega (arith, totalled (c .before .before .before .before .before .pre .0 .0) (c .before .before .before .before .before .pre .0 .1) (c .before .before .before .loop .inv) (seen _ (c .before .before .before .loop .inv .ra) (c .before .before .get .ensures)) (first-canonical (c .before .before .before .before .before .pre .0 .0) (c .before .before .before .before .before .pre .1)) (omega (arith, c .before .kind .ensures)) .fits)
+-- src/monomial_ordering.rt:47:28
+mul-t11 : tie.Need-mul-t11 Inv-loop μ-loop
+mul-t11 c = omega (arith, totalled (c .before .before .before .before .before .pre .0 .0) (c .before .before .before .before .before .pre .0 .1) (c .before .before .before .loop .inv) (seen _ (c .before .before .before .loop .inv .ra) (c .before .before .get .ensures)) (first-canonical (c .before .before .before .before .before .pre .0 .0) (c .before .before .before .before .before .pre .1)) (is-end-true _ (c .before .is-end .ensures) (c .if1 .taken)) .fits)
 
--- src/monomial_ordering.rt:46:33
-add-t13 : tie.Need-add-t13 Inv-loop μ-loop
-add-t13 c = omega (arith, totalled (c .before .before .before .before .before .pre .0 .0) (c .before .before .before .before .before .pre .0 .1) (c .before .before .before .loop .inv) (seen _ (c .before .before .before .loop .inv .ra) (c .before .before .get .ensures)) (first-canonical (c .before .before .before .before .before .pre .0 .0) (c .before .before .before .before .before .pre .1)) (omega (arith, c .before .kind .ensures)) .fits)
+-- src/monomial_ordering.rt:47:22
+add-t12 : tie.Need-add-t12 Inv-loop μ-loop
+add-t12 c = omega (arith, totalled (c .before .before .before .before .before .pre .0 .0) (c .before .before .before .before .before .pre .0 .1) (c .before .before .before .loop .inv) (seen _ (c .before .before .before .loop .inv .ra) (c .before .before .get .ensures)) (first-canonical (c .before .before .before .before .before .pre .0 .0) (c .before .before .before .before .before .pre .1)) (is-end-true _ (c .before .is-end .ensures) (c .if1 .taken)) .fits)
 
 -- src/monomial_ordering.rt:46:13
 returns : tie.Need-returns Inv-loop μ-loop
-returns c = let t = totalled (c .before .before .before .before .before .pre .0 .0) (c .before .before .before .before .before .pre .0 .1) (c .before .before .before .loop .inv) (seen _ (c .before .before .before .loop .inv .ra) (c .before .before .get .ensures)) (first-canonical (c .before .before .before .before .before .pre .0 .0) (c .before .before .before .before .before .pre .1)) (omega (arith, c .before .kind .ensures)) in (t .is, t .last)
+returns c = let t = totalled (c .before .before .before .before .before .pre .0 .0) (c .before .before .before .before .before .pre .0 .1) (c .before .before .before .loop .inv) (seen _ (c .before .before .before .loop .inv .ra) (c .before .before .get .ensures)) (first-canonical (c .before .before .before .before .before .pre .0 .0) (c .before .before .before .before .before .pre .1)) (is-end-true _ (c .before .is-end .ensures) (c .if1 .taken)) in (t .is, t .last)
 
--- src/monomial_ordering.rt:48:16
+-- src/monomial_ordering.rt:51:16
 power-requires : tie.Need-power-requires Inv-loop μ-loop
 power-requires c κs = search needs
 
--- src/monomial_ordering.rt:48:9
+-- src/monomial_ordering.rt:51:9
 add-sum : tie.Need-add-sum Inv-loop μ-loop
-add-sum c = omega (arith, c .power .ensures, counted (c .before .before .before .before .before .before .pre .0 .0) (c .before .before .before .before .before .before .pre .0 .1) (c .before .before .before .before .loop .inv) (seen _ (c .before .before .before .before .loop .inv .ra) (c .before .before .before .get .ensures)) (λ z. omega (arith, c .before .before .kind .ensures)) .small)
+add-sum c = omega (arith, c .power .ensures, counted (c .before .before .before .before .before .before .pre .0 .0) (c .before .before .before .before .before .before .pre .0 .1) (c .before .before .before .before .loop .inv) (seen _ (c .before .before .before .before .loop .inv .ra) (c .before .before .before .get .ensures)) (is-end-false _ (c .before .before .is-end .ensures) (c .before .if1 .left)) .small)
 
--- src/monomial_ordering.rt:49:9
+-- src/monomial_ordering.rt:52:9
 add-i : tie.Need-add-i Inv-loop μ-loop
 add-i c = omega (arith, within (c .before .before .before .before .loop .inv .ra), first-bytes (c .before .before .before .before .before .before .args .kind) (c .before .before .before .before .before .before .args .s .now))
 
@@ -79,7 +80,7 @@ loop-less c = omega (arith, within (c .before .before .before .before .loop .inv
 
 -- src/monomial_ordering.rt:43:5
 loop-again : tie.Need-loop-again Inv-loop μ-loop
-loop-again c = rw (c .power .ensures) (counted (c .before .before .before .before .before .before .pre .0 .0) (c .before .before .before .before .before .before .pre .0 .1) (c .before .before .before .before .loop .inv) (seen _ (c .before .before .before .before .loop .inv .ra) (c .before .before .before .get .ensures)) (λ z. omega (arith, c .before .before .kind .ensures)) .more)
+loop-again c = rw (c .power .ensures) (counted (c .before .before .before .before .before .before .pre .0 .0) (c .before .before .before .before .before .before .pre .0 .1) (c .before .before .before .before .loop .inv) (seen _ (c .before .before .before .before .loop .inv .ra) (c .before .before .before .get .ensures)) (is-end-false _ (c .before .before .is-end .ensures) (c .before .if1 .left)) .more)
 
 pub total-of-spec : {M : Type 1} → statement M
 total-of-spec =
@@ -91,11 +92,11 @@ total-of-spec =
     mul-absent
     loop-holds
     get-requires
-    kind-requires
-    cast-t10
-    sub-t11
-    mul-t12
-    add-t13
+    is-end-requires
+    cast-t9
+    sub-t10
+    mul-t11
+    add-t12
     returns
     power-requires
     add-sum

@@ -1,28 +1,17 @@
 use Prim.Native.Nat.{_*_, _-_}
 use borrow.Author.Tests.{eq-eqb, ne-eqb}
-use mathlib.Core.Path.{refl}
+use mathlib.Core.Path.{refl, _∙_}
 use borrow.Author.Needs.{needs}
 use Rattle.monomial.proofs.ordered_ops.push.Statement.{statement}
 use Rattle.monomial.proofs.ordered_ops.push.Tie as tie
 use Rattle.monomial.proofs.ordered_ops.push.Reads as reads
 use Rattle.monomial.proofs.ordered_ops.push.Lts as lts
 use Rattle.words.proofs.put.Reads as put-reads
+use Rattle.words.proofs.var_word.Reads as var-word-reads
 
 -- src/ordered_ops.rt:76:24
-mul-put : tie.Need-mul-put
-mul-put c = search needs
-
--- src/ordered_ops.rt:76:44
-mul-put-2 : tie.Need-mul-put-2
-mul-put-2 c = search needs
-
--- src/ordered_ops.rt:76:44
-add-put : tie.Need-add-put
-add-put c = search needs
-
--- src/ordered_ops.rt:76:24
-add-put-2 : tie.Need-add-put-2
-add-put-2 c = search needs
+var-word-requires : tie.Need-var-word-requires
+var-word-requires c κs = search needs
 
 -- src/ordered_ops.rt:76:5
 put-requires : tie.Need-put-requires
@@ -46,7 +35,7 @@ same-length c = search needs
 
 -- src/ordered_ops.rt:71:1
 returns : tie.Need-returns
-returns c = (rw (eq-eqb (c .before .before .before .before .before .before .args .p) (32768 * ((c .before .before .before .before .before .before .args .kind) - 1)) (c .if1 .taken)), c .before .before .before .put .ensures)
+returns c = (rw (eq-eqb (c .before .before .before .before .before .before .before .args .p) (32768 * ((c .before .before .before .before .before .before .before .args .kind) - 1)) (c .if1 .taken)), c .before .before .before .put .ensures ∙ rw (c .before .before .before .before .var-word .ensures))
 
 -- src/ordered_ops.rt:71:1
 same-length-2 : tie.Need-same-length-2
@@ -54,16 +43,13 @@ same-length-2 c = search needs
 
 -- src/ordered_ops.rt:71:1
 returns-2 : tie.Need-returns-2
-returns-2 c = (rw (ne-eqb (c .before .before .before .before .before .before .args .p) (32768 * ((c .before .before .before .before .before .before .args .kind) - 1)) (c .if1 .left)), c .before .before .before .put .ensures)
+returns-2 c = (rw (ne-eqb (c .before .before .before .before .before .before .before .args .p) (32768 * ((c .before .before .before .before .before .before .before .args .kind) - 1)) (c .if1 .left)), c .before .before .before .put .ensures ∙ rw (c .before .before .before .before .var-word .ensures))
 
 pub push-spec : {M : Type 1} → statement M
 push-spec =
     tie.close
     (tie.spec
-    mul-put
-    mul-put-2
-    add-put
-    add-put-2
+    var-word-requires
     put-requires
     sub-if1
     mul-if1
