@@ -14,7 +14,9 @@ use Rattle.words.specs.Kinds.{kind, ident, power}
 use Rattle.words.specs.Words.{words, bytes, putW, pasteW}
 use Rattle.words.proofs.Laws.{Bytes, Words, length-words, bytes-words, words-putW, length-putW, words-pasteW, length-pasteW, word-and-rest}
 use Rattle.monomial.specs.Monomial.{Canonical}
+use Rattle.monomial.specs.Sizes.{variablesFit}
 use Rattle.monomial.proofs.Canon.{Canon, canon-of, both-true}
+use Rattle.monomial.proofs.Sizing.{variables-fit}
 use Rattle.monomial.proofs.Walks.{Rest, within, Last, Next, word-at}
 use Rattle.divmask.specs.Tracker.{Maxima, allInRange, maximaLent, updated, total}
 
@@ -54,26 +56,26 @@ pub lent-maxima : (m : ℕ) (s : List ℕ) → (maximaLent m s ≡ true) ↔ ((l
 unfolding maximaLent
 lent-maxima m s = (to, from)
   where
-    to : (leb 1 m && (leb m 64 && (eqb (length s) (4 * m) && allInRange (words s)))) ≡ true → (length s ≡ 4 * m) × Maxima m (words s)
+    to : (variablesFit m && (eqb (length s) (4 * m) && allInRange (words s))) ≡ true → (length s ≡ 4 * m) × Maxima m (words s)
     to e =
-        let e0 = both-true (leb 1 m) _ e in
-        let e1 = both-true (leb m 64) _ (e0 .1) in
+        let e1 = both-true (variablesFit m) _ e in
+        let v = variables-fit m .0 (e1 .0) in
         let e2 = both-true (eqb (length s) (4 * m)) (allInRange (words s)) (e1 .1) in
         let l : length s ≡ 4 * m = eqb-true (length s) (4 * m) (e2 .0) in
         let n : length (words s) ≡ m = length-words s ∙ omega arith in (
           l,
           record {
-            some = leb-true 1 m (e0 .0);
-            few = leb-true m 64 (e1 .0);
+            some = v .0;
+            few = v .1;
             one-each = n;
             low = λ v h. range-each (words s) (e2 .1) v (omega arith) .0;
             high = λ v h. range-each (words s) (e2 .1) v (omega arith) .1;
           },
         )
 
-    from : (length s ≡ 4 * m) × Maxima m (words s) → (leb 1 m && (leb m 64 && (eqb (length s) (4 * m) && allInRange (words s)))) ≡ true
+    from : (length s ≡ 4 * m) × Maxima m (words s) → (variablesFit m && (eqb (length s) (4 * m) && allInRange (words s))) ≡ true
     from (l, x) =
-        simp (le-leb 1 m (x .some), le-leb m 64 (x .few), eq-eqb (length s) (4 * m) l)
+        simp (variables-fit m .1 (x .some, x .few), eq-eqb (length s) (4 * m) l)
         (each-range (words s) (λ v h. x .low v (omega (arith, x .one-each))) (λ v h. x .high v (omega (arith, x .one-each))))
 
 -- ---- `update`

@@ -7,6 +7,7 @@ use lib.Dec.{eqb, leb, ltb}
 use lib.ListN.{length, getD, set}
 use Rattle.words.specs.Kinds.{kind, ident, power}
 use Rattle.words.specs.Words.{words}
+use Rattle.monomial.specs.Sizes.{variablesFit}
 
 -- question 1: 1 to 64 variables, one maximum a variable, each 1 to 32,767
 pub record Maxima (m : ℕ) (xs : List ℕ) : Type 0 where
@@ -22,7 +23,7 @@ allInRange [] = true
 allInRange (x ∷ xs) = leb 1 x && (leb x 32767 && allInRange xs)
 
 unfoldable pub maximaLent : ℕ → List ℕ → Bool
-maximaLent m s = leb 1 m && (leb m 64 && (eqb (length s) (4 * m) && allInRange (words s)))
+maximaLent m s = variablesFit m && (eqb (length s) (4 * m) && allInRange (words s))
 
 -- the maxima after `update`, which walks the product and stops at the first variable not above its maximum.
 -- The end word is not a variable.

@@ -25,14 +25,11 @@ fn in_range(s: &[u8]) -> bool
     true
 }
 
-// Question 1: whether the bytes are one maximum a variable, each 1 to 32,767.
+// Question 1: whether there are 1 to 64 variables and the bytes are one maximum a variable, each 1 to 32,767.
 pub fn maxima_good(maxima: &[u8], variables: u32) -> bool
     ensures { λ r. ⌜ r ≡ spec.maximaLent variables (now (maxima .entry)) ⌝ }
 {
-    if variables < 1 {
-        return false;
-    }
-    if 64 < variables {
+    if !monomial::sizes::variables_fit(variables as usize) {
         return false;
     }
     if maxima.len() != 4 * variables as usize {

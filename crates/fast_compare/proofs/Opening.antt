@@ -9,7 +9,8 @@ use Rattle.words.specs.Tables.{zeros, table}
 use Rattle.words.proofs.Laws.{pasteW-snoc, putW-paste}
 use Rattle.words.proofs.Tables.{zeros-nil, zeros-suc, zeros-add, pasteW-append}
 use Rattle.fast_compare.specs.Labels.{sorted}
-use Rattle.fast_compare.specs.Map.{Asked, Valid, empty}
+use Rattle.monomial.specs.Sizes.{Sizes}
+use Rattle.fast_compare.specs.Map.{Valid, empty}
 use Rattle.fast_compare.specs.Layout.{encode, size, Is}
 use Rattle.fast_compare.proofs.Exact.{pasted}
 
@@ -28,7 +29,7 @@ opened bs b1 b2 b3 b4 m c h e1 e2 e3 e4 =
     e4 ∙ rw (q3, pasteW-append bs 0 (1 ∷ m ∷ c ∷ []) 3 (zeros (1 + c * (m + 3) + c)) (omega arith) (omega arith)) (ap (pasteW bs 0) (sym (empty-words m c)))
 
 -- an empty map is valid
-pub empty-valid : (m c : ℕ) → Asked m c → Valid (empty m c)
+pub empty-valid : (m c : ℕ) → Sizes m c → Valid (empty m c)
 empty-valid m c a = record {
   vars-from = a .vars-from;
   vars-to = a .vars-to;
@@ -40,5 +41,5 @@ empty-valid m c a = record {
 }
 
 -- so an opening gives a sound map
-pub opened-sound : (bs : List ℕ) (m c : ℕ) → Asked m c → 4 * size m c ≤ length bs → Is (empty m c) (pasteW bs 0 (encode (empty m c)))
+pub opened-sound : (bs : List ℕ) (m c : ℕ) → Sizes m c → 4 * size m c ≤ length bs → Is (empty m c) (pasteW bs 0 (encode (empty m c)))
 opened-sound bs m c a h = pasted (empty m c) (empty-valid m c a) bs h

@@ -12,11 +12,13 @@ use borrow.Author.Tests.{leb-true, le-leb, lt-leb, ltb-true, lt-ltb, le-ltb}
 use Rattle.words.specs.Words.{words, pasteW}
 use Rattle.words.proofs.Laws.{Bytes}
 use Rattle.monomial.specs.Monomial.{lent}
+use Rattle.monomial.specs.Sizes.{sizesFit, Sizes}
 use Rattle.monomial.proofs.Canon.{both-true}
+use Rattle.monomial.proofs.Sizing.{sizes-fit}
 use Rattle.monomial.proofs.Laws.{lent-canonical}
-use Rattle.fast_compare.specs.Map.{Value, valueOf, Good, Asked, State, empty, rebuild}
+use Rattle.fast_compare.specs.Map.{Value, valueOf, Good, State, empty, rebuild}
 use Rattle.fast_compare.specs.Layout.{encode, size, Is, Sound, Gave}
-use Rattle.fast_compare.specs.Door.{askedFor, lengthFor, openingFor, openedBytes, number, told, valueLent, asked, left, Asking, Replied, Rebuilt}
+use Rattle.fast_compare.specs.Door.{lengthFor, openingFor, openedBytes, number, told, valueLent, asked, left, Asking, Replied, Rebuilt}
 use Rattle.fast_compare.specs.declared.Comparer.{Comparer}
 use Rattle.fast_compare.specs.declared.Comparer.the-variants.{New}
 use Rattle.fast_compare.specs.declared.doors.Answer.{Answer}
@@ -25,53 +27,39 @@ use Rattle.fast_compare.proofs.Maps.{after-as, stored-same}
 use Rattle.fast_compare.proofs.Storing.{holds}
 
 -- ---- question 1
-pub asked-iff : (m c : ℕ) → (askedFor m c ≡ true) ↔ Asked m c
-unfolding askedFor
-asked-iff m c = (to, from)
-  where
-    to : (leb 1 m && (leb m 64 && (leb 1 c && leb c 4096))) ≡ true → Asked m c
-    to e =
-        let a = both-true _ _ e in
-        let b = both-true _ _ (a .1) in
-        let d = both-true _ _ (b .1) in
-        record { vars-from = leb-true 1 m (a .0); vars-to = leb-true m 64 (b .0); cap-from = leb-true 1 c (d .0); cap-to = leb-true c 4096 (d .1) }
-
-    from : Asked m c → (leb 1 m && (leb m 64 && (leb 1 c && leb c 4096))) ≡ true
-    from a = simp (le-leb 1 m (a .vars-from), le-leb m 64 (a .vars-to), le-leb 1 c (a .cap-from), le-leb c 4096 (a .cap-to))
-
 not-true : (b : Bool) → (b ≡ true → ⊥) → b ≡ false
 not-true true h = absurd (h refl)
 not-true false h = refl
 
-not-asked : (m c : ℕ) → (Asked m c → ⊥) → askedFor m c ≡ false
-not-asked m c h = not-true (askedFor m c) (λ e. h (asked-iff m c .0 e))
+not-fit : (m c : ℕ) → (Sizes m c → ⊥) → sizesFit m c ≡ false
+not-fit m c h = not-true (sizesFit m c) (λ e. h (sizes-fit m c .0 e))
 
 module _ (m c : ℕ) where
-  pub length-refused : (Asked m c → ⊥) → 1 ≡ lengthFor m c
+  pub length-refused : (Sizes m c → ⊥) → 1 ≡ lengthFor m c
   unfolding lengthFor
-  length-refused h = rw (not-asked m c h)
+  length-refused h = rw (not-fit m c h)
 
-  pub length-served : Asked m c → 4 * size m c ≡ lengthFor m c
+  pub length-served : Sizes m c → 4 * size m c ≡ lengthFor m c
   unfolding lengthFor
-  length-served a = rw (asked-iff m c .1 a)
+  length-served a = rw (sizes-fit m c .1 a)
 
-  pub length-small : Asked m c → 4 * size m c ≤ 1114128
+  pub length-small : Sizes m c → 4 * size m c ≤ 1114128
   length-small a =
       let wide : m + 3 ≤ 67 = omega (arith, a .vars-to) in
       let most : c * (m + 3) ≤ 4096 * 67 = mul-le-mul (a .cap-to) wide in
       omega (arith, a .cap-to)
 
-  pub open-unasked : (bs : List ℕ) → (Asked m c → ⊥) → (1 ≡ openingFor m c (length bs)) × (bs ≡ openedBytes m c bs)
+  pub open-unasked : (bs : List ℕ) → (Sizes m c → ⊥) → (1 ≡ openingFor m c (length bs)) × (bs ≡ openedBytes m c bs)
   unfolding openingFor openedBytes
-  open-unasked bs h = rw (not-asked m c h) (refl, refl)
+  open-unasked bs h = rw (not-fit m c h) (refl, refl)
 
-  pub open-short : (bs : List ℕ) → Asked m c → length bs < 4 * size m c → (2 ≡ openingFor m c (length bs)) × (bs ≡ openedBytes m c bs)
+  pub open-short : (bs : List ℕ) → Sizes m c → length bs < 4 * size m c → (2 ≡ openingFor m c (length bs)) × (bs ≡ openedBytes m c bs)
   unfolding openingFor openedBytes
-  open-short bs a h = rw (asked-iff m c .1 a, lt-leb (4 * size m c) (length bs) h) (refl, refl)
+  open-short bs a h = rw (sizes-fit m c .1 a, lt-leb (4 * size m c) (length bs) h) (refl, refl)
 
-  pub open-served : (bs b : List ℕ) → Asked m c → 4 * size m c ≤ length bs → b ≡ pasteW bs 0 (encode (empty m c)) → (0 ≡ openingFor m c (length bs)) × (b ≡ openedBytes m c bs)
+  pub open-served : (bs b : List ℕ) → Sizes m c → 4 * size m c ≤ length bs → b ≡ pasteW bs 0 (encode (empty m c)) → (0 ≡ openingFor m c (length bs)) × (b ≡ openedBytes m c bs)
   unfolding openingFor openedBytes
-  open-served bs b a h e = rw (asked-iff m c .1 a, le-leb (4 * size m c) (length bs) h) (refl, e)
+  open-served bs b a h e = rw (sizes-fit m c .1 a, le-leb (4 * size m c) (length bs) h) (refl, e)
 
 -- ---- question 7
 pub lent-good : (m i : ℕ) (ratio : List ℕ) → i < 268435456 → lent 2 m ratio ≡ true → (valueLent m i ratio ≡ true) × Good m (valueOf i (words ratio))

@@ -7,6 +7,7 @@ use lib.Dec.{leb, ltb, eqb}
 use lib.ListN.{length}
 use Rattle.words.specs.Words.{words, pasteW}
 use Rattle.monomial.specs.Monomial.{lent}
+use Rattle.monomial.specs.Sizes.{sizesFit}
 use Rattle.fast_compare.specs.Map.{valueOf, State, answer, after, rebuild, empty}
 use Rattle.fast_compare.specs.Layout.{encode, size, Is, Sound}
 use Rattle.fast_compare.specs.declared.Comparer.{Comparer}
@@ -19,17 +20,13 @@ abbrev pub refusal : ℕ → ℕ
 refusal n = n * 4294967296
 
 -- ---- opening and length
--- question 1
-unfoldable pub askedFor : ℕ → ℕ → Bool
-askedFor m c = leb 1 m && (leb m 64 && (leb 1 c && leb c 4096))
-
--- the length in bytes, or 1
+-- the length in bytes, or 1, for question 1
 unfoldable pub lengthFor : ℕ → ℕ → ℕ
-lengthFor m c = cond (askedFor m c) (4 * size m c) 1
+lengthFor m c = cond (sizesFit m c) (4 * size m c) 1
 
 -- questions 1 and 2 of a buffer of len bytes; 0 is served
 unfoldable pub openingFor : ℕ → ℕ → ℕ → ℕ
-openingFor m c len = cond (askedFor m c) (cond (leb (4 * size m c) len) 0 2) 1
+openingFor m c len = cond (sizesFit m c) (cond (leb (4 * size m c) len) 0 2) 1
 
 -- the bytes after
 unfoldable pub openedBytes : ℕ → ℕ → List ℕ → List ℕ

@@ -50,13 +50,6 @@ value rs i = row rs i .value
 abbrev pub label : List Row → ℕ → ℕ
 label rs i = row rs i .label
 
--- question 1
-pub record Asked (m c : ℕ) : Type 0 where
-  pub vars-from : 1 ≤ m
-  pub vars-to : m ≤ 64
-  pub cap-from : 1 ≤ c
-  pub cap-to : c ≤ 4096
-
 -- what a map has to be: question 1's numbers, canonical values, each once, and labels that rise with them
 pub record Valid (st : State) : Type 0 where
   pub vars-from : 1 ≤ st .variables

@@ -62,7 +62,7 @@ fn number(a: Answer) -> u64
 pub extern "C" fn divisor_index_fast_compare_length(variables: u32, capacity: u32) -> u32
     ensures { λ r. ⌜ r ≡ Door.lengthFor variables capacity ⌝ }
 {
-    if !crate::asked(variables as usize, capacity as usize) {
+    if !monomial::sizes::sizes_fit(variables as usize, capacity as usize) {
         return 1;
     }
     crate::length(variables as usize, capacity as usize) as u32
@@ -79,7 +79,7 @@ pub extern "C" fn divisor_index_fast_compare_open(
 {
     let v = variables as usize;
     let c = capacity as usize;
-    if !crate::asked(v, c) {
+    if !monomial::sizes::sizes_fit(v, c) {
         return 1;
     }
     if image.len() < crate::length(v, c) {

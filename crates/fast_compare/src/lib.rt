@@ -5,17 +5,16 @@ pub mod soundness;
 
 use monomial::monomial_ordering::CmpOrd;
 ghost use mathlib.Core.Path.{_≡_};
-ghost use mathlib.Core.Bool.{true};
-ghost use mathlib.Core.Logic.{_↔_};
 ghost use Prim.Native.Nat.{ℕ, _+_, _*_, _<_, _≤_};
 ghost use lib.ListN.{length, getD};
 ghost use Rattle.words.specs.Words.{words, pasteW};
 ghost use Rattle.monomial.specs.Monomial.{Canonical};
+ghost use Rattle.monomial.specs.Sizes.{Sizes};
 ghost use mathlib.Core.Option.{none};
 ghost use Rattle.fast_compare.specs.Labels as Labels;
 ghost use Rattle.fast_compare.specs.Labels.{below, known, sorted};
 ghost use Rattle.fast_compare.specs.Map as Map;
-ghost use Rattle.fast_compare.specs.Map.{State, Value, valueOf, value, cmp, Good, Asked, place, stored};
+ghost use Rattle.fast_compare.specs.Map.{State, Value, valueOf, value, cmp, Good, place, stored};
 ghost use Rattle.fast_compare.specs.Layout.{size, encode, Is, Sound, Gave};
 
 // What a value gets: its label, or why it gets none.
@@ -30,22 +29,6 @@ pub enum Comparer {
 pub enum Place {
     At(usize),
     Before(usize),
-}
-
-// Question 1: variables 1 to 64, capacity 1 to 4,096.
-pub fn asked(variables: usize, capacity: usize) -> bool
-    ensures { λ r. ⌜ (r ≡ true) ↔ Asked variables capacity ⌝ }
-{
-    if variables < 1 {
-        return false;
-    }
-    if 64 < variables {
-        return false;
-    }
-    if capacity < 1 {
-        return false;
-    }
-    capacity <= 4096
 }
 
 // The length of a map in bytes.
@@ -235,7 +218,7 @@ pub fn rebuild(map: &mut [u8])
 
 // Writes an empty map: every byte of its length.
 pub fn open(map: &mut [u8], variables: usize, capacity: usize)
-    requires { ⌜ Asked variables capacity ⌝ }
+    requires { ⌜ Sizes variables capacity ⌝ }
     requires { ⌜ 4 * size variables capacity ≤ length (now map) ⌝ }
     ensures { λ _. ⌜ now (map .exit) ≡ pasteW (now (map .entry)) 0 (encode (Map.empty variables capacity)) ⌝ }
 {

@@ -108,7 +108,7 @@ fn tables_ok(map: &[u8], variables: usize, capacity: usize, n: usize) -> bool
 fn head_ok(map: &[u8], variables: usize, capacity: usize) -> bool
     ensures { λ r. ⌜ (r ≡ true) ↔ HeadOk (words (now (map .entry))) variables capacity (length (now (map .entry))) ⌝ }
 {
-    if !crate::asked(variables, capacity) {
+    if !monomial::sizes::sizes_fit(variables, capacity) {
         return false;
     }
     if map.len() < crate::length(variables, capacity) {

@@ -5,7 +5,8 @@ use native.Mathlib.Omega.{arith}
 use Rattle.index_theory.specs.State.{Kind, monomials, ratioed}
 use Rattle.index_image.specs.Layout.{code}
 use Rattle.index_image.specs.Shape as at
-use Rattle.index_image.specs.Size.{emptyShape, Asked, IsLength}
+use Rattle.monomial.specs.Sizes.{Sizes}
+use Rattle.index_image.specs.Size.{emptyShape, IsLength}
 use Rattle.index_image.proofs.Sizes.{length-ok}
 
 pub code-small : (k : Kind) → code k ≤ 1
@@ -30,9 +31,9 @@ code-ratio monomials e = absurd (omega (arith, e))
 code-ratio ratioed e = refl
 
 -- the empty index
-pub empty-range : (kind m c : ℕ) → Asked kind m c → at.InRange (emptyShape kind m c)
-empty-range kind m c a = record {
-  kind-to = a .kind-to;
+pub empty-range : (kind m c : ℕ) → kind ≤ 1 → Sizes m c → at.InRange (emptyShape kind m c)
+empty-range kind m c k a = record {
+  kind-to = k;
   vars-from = a .vars-from;
   vars-to = a .vars-to;
   cap-from = a .cap-from;
@@ -42,5 +43,5 @@ empty-range kind m c a = record {
   nodes-to = omega (arith, a .cap-from);
 }
 
-pub is-length : (kind m c x : ℕ) → Asked kind m c → x ≡ at.size (emptyShape kind m c) → IsLength kind m c (4 * x)
-is-length kind m c x a e = (ap (λ (n : ℕ). 4 * n) e, length-ok kind m c (a .kind-to) (a .vars-from) (a .cap-from))
+pub is-length : (kind m c x : ℕ) → kind ≤ 1 → Sizes m c → x ≡ at.size (emptyShape kind m c) → IsLength kind m c (4 * x)
+is-length kind m c x k a e = (ap (λ (n : ℕ). 4 * n) e, length-ok kind m c k (a .vars-from) (a .cap-from))

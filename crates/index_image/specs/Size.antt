@@ -12,14 +12,6 @@ emptyShape kind m c = record { kind = kind; variables = m; capacity = c; entries
 abbrev pub bytes : ℕ → ℕ → ℕ → ℕ
 bytes kind m c = 4 * size (emptyShape kind m c)
 
--- what the length function is asked: question 1's numbers
-pub record Asked (kind m c : ℕ) : Type 0 where
-  pub kind-to : kind ≤ 1
-  pub vars-from : 1 ≤ m
-  pub vars-to : m ≤ 64
-  pub cap-from : 1 ≤ c
-  pub cap-to : c ≤ 4096
-
 -- above 16, and at most 256 × (variables + 2) × (capacity + 1)
 pub record LengthOk (kind m c : ℕ) : Type 0 where
   pub above : 16 < bytes kind m c

@@ -21,16 +21,7 @@ fn in_range(s: Shape) -> bool
     if 1 < s.kind {
         return false;
     }
-    if s.variables < 1 {
-        return false;
-    }
-    if 64 < s.variables {
-        return false;
-    }
-    if s.capacity < 1 {
-        return false;
-    }
-    if 4096 < s.capacity {
+    if !monomial::sizes::sizes_fit(s.variables, s.capacity) {
         return false;
     }
     if s.capacity < s.entries {

@@ -7,8 +7,9 @@ pub mod walk;
 
 ghost use mathlib.Core.Path.{_≡_};
 ghost use Prim.Native.Nat.{_≤_};
+ghost use Rattle.monomial.specs.Sizes.{Sizes};
 ghost use Rattle.index_image.specs.Shape as at;
-ghost use Rattle.index_image.specs.Size.{Asked, IsLength};
+ghost use Rattle.index_image.specs.Size.{IsLength};
 
 // The numbers of an image's header. They say where its tables begin, in words.
 pub struct Shape {
@@ -81,7 +82,7 @@ impl Shape {
 
 // The length in bytes of the image of an index.
 pub fn length(kind: usize, variables: usize, capacity: usize) -> usize
-    requires { ⌜ Asked kind variables capacity ⌝ }
+    requires { ⌜ (kind ≤ 1) × Sizes variables capacity ⌝ }
     ensures { λ r. ⌜ IsLength kind variables capacity r ⌝ }
 {
     let s = Shape {

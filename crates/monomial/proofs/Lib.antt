@@ -1,4 +1,4 @@
--- `Canon`: canonical words, piece by piece. `Ends`: where they end. `Powers`: the powers of a word list, and the list of given powers. `Walks`: what a walk knows of the rest.
+-- `Canon`: canonical words, piece by piece. `Ends`: where they end. `Powers`: the powers of a word list, and the list of given powers. `Walks`: what a walk knows of the rest. `Sizing`: question 1 of the numbers.
 pub mod Canon
 pub mod Ends
 pub mod Powers
@@ -9,3 +9,4 @@ pub mod Divisions
 pub mod Lawful
 pub mod Laws
 pub mod Firsts
+pub mod Sizing

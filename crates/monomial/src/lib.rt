@@ -2,6 +2,7 @@
 // Kind 1 is a monomial, kind 2 a ratio, whose powers are held with 32,768 added.
 pub mod monomial_ordering;
 pub mod ordered_ops;
+pub mod sizes;
 
 use ordered_ops::Op;
 ghost use mathlib.Core.Path.{_≡_};

@@ -9,7 +9,6 @@ use lib.Dec.{eqb, leb}
 use lib.ListN.{length, take, drop}
 use lib.Seq.{take-at, take-all, length-take-le}
 use borrow.Author.Tests.{ne-eqb, le-leb, lt-leb, leb-true}
-use Rattle.monomial.proofs.Canon.{both-true}
 use Rattle.words.specs.Words.{words, bytes, pasteW}
 use Rattle.words.proofs.Laws.{pasteW-front, length-pasteW, length-bytes, words-bytes}
 use Rattle.monomial.specs.Monomial.{Canonical, lent, pow}
@@ -18,7 +17,9 @@ use Rattle.monomial.specs.declared.ordered_ops.Op.{Op}
 use Rattle.monomial.proofs.Divisions.{all-true, all-each}
 use Rattle.monomial.proofs.Laws.{canonical-more, lent-canonical, product-canonical, result-small}
 use Rattle.monomial.proofs.Powers.{pow-ids}
-use Rattle.monomial_work.specs.Served.{lentKind, one, answer, small, powersFit, variablesFit, verdict, Served}
+use Rattle.monomial.specs.Sizes.{variablesFit}
+use Rattle.monomial.proofs.Sizing.{variables-fit}
+use Rattle.monomial_work.specs.Served.{lentKind, one, answer, small, powersFit, verdict, Served}
 use Rattle.monomial_work.specs.Steps.{refusal, workOf, tooLarge, Told}
 use Rattle.monomial_work.specs.declared.Work.{Work}
 
@@ -26,10 +27,6 @@ same-truth : (x y : Bool) → (x ≡ true → y ≡ true) → (y ≡ true → x 
 same-truth true y f g = sym (f refl)
 same-truth false true f g = g refl
 same-truth false false f g = refl
-
-pub fits : (m : ℕ) → 1 ≤ m → m ≤ 64 → variablesFit m ≡ true
-unfolding variablesFit
-fits m h l = simp (le-leb 1 m h, le-leb m 64 l)
 
 -- the words made are a product in range exactly where they are canonical
 product-asked : (m : ℕ) (a b : List ℕ) → m ≤ 64 → Canonical 1 m a → Canonical 1 m b → lent 1 m (bytes (result Op.Product a b)) ≡ powersFit a b
@@ -69,26 +66,22 @@ kinds Op.Quotient = refl
 kinds Op.Ratio = refl
 
 -- ---- questions 1 and 7
-pub few-variables : (k m : ℕ) (a b : List ℕ) → m ≡ 0 → 1 ≡ refusal k m a b
-unfolding refusal variablesFit
-few-variables k m a b h = rw h
+pub no-variables : (k m : ℕ) (a b : List ℕ) → variablesFit m ≡ false → 1 ≡ refusal k m a b
+unfolding refusal
+no-variables k m a b h = rw h
 
-pub many-variables : (k m : ℕ) (a b : List ℕ) → 64 < m → 1 ≡ refusal k m a b
-unfolding refusal variablesFit
-many-variables k m a b h = simp (le-leb 1 m (omega arith), lt-leb m 64 h)
-
-module _ (k m : ℕ) (a b : List ℕ) (one : 1 ≤ m) (few : m ≤ 64) where
+module _ (k m : ℕ) (a b : List ℕ) (fit : variablesFit m ≡ true) where
   pub first-not : lent k m a ≡ false → 7 ≡ refusal k m a b
   unfolding refusal
-  first-not h = rw (fits m one few, h)
+  first-not h = rw (fit, h)
 
   pub second-not : lent k m a ≡ true → lent k m b ≡ false → 7 ≡ refusal k m a b
   unfolding refusal
-  second-not h l = rw (fits m one few, h, l)
+  second-not h l = rw (fit, h, l)
 
   pub both-canonical : lent k m a ≡ true → lent k m b ≡ true → 0 ≡ refusal k m a b
   unfolding refusal
-  both-canonical h l = rw (fits m one few, h, l)
+  both-canonical h l = rw (fit, h, l)
 
 -- what they tell where no reply is no
 pub record Fine (k m : ℕ) (a b : List ℕ) : Type 0 where
@@ -98,11 +91,11 @@ pub record Fine (k m : ℕ) (a b : List ℕ) : Type 0 where
   pub lb : lent k m b ≡ true
 
 pub fine : (k m : ℕ) (a b : List ℕ) → 0 ≡ refusal k m a b → Fine k m a b
-unfolding refusal variablesFit
-fine k m a b e = go (leb 1 m && leb m 64) (lent k m a) (lent k m b) refl refl refl e
+unfolding refusal
+fine k m a b e = go (variablesFit m) (lent k m a) (lent k m b) refl refl refl e
   where
-    go : (x y z : Bool) → (leb 1 m && leb m 64) ≡ x → lent k m a ≡ y → lent k m b ≡ z → _≡_ {A = ℕ} 0 (cond x (cond (y && z) 0 7) 1) → Fine k m a b
-    go true true true p q r t = record { fit = p; few = leb-true m 64 (both-true (leb 1 m) (leb m 64) p .1); la = q; lb = r }
+    go : (x y z : Bool) → variablesFit m ≡ x → lent k m a ≡ y → lent k m b ≡ z → _≡_ {A = ℕ} 0 (cond x (cond (y && z) 0 7) 1) → Fine k m a b
+    go true true true p q r t = record { fit = p; few = variables-fit m .0 p .1; la = q; lb = r }
     go true true false p q r t = absurd (omega arith)
     go true false z p q r t = absurd (omega arith)
     go false y z p q r t = absurd (omega arith)

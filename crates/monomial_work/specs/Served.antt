@@ -10,6 +10,7 @@ use Rattle.words.specs.Words.{words, pasteW}
 use Rattle.monomial.specs.Monomial.{pow, lent}
 use Rattle.monomial.specs.Operations.{result, allBelow, divides, divided, equal}
 use Rattle.monomial.specs.Order.{order}
+use Rattle.monomial.specs.Sizes.{variablesFit}
 use Rattle.monomial.specs.declared.Division.{Division}
 use Rattle.monomial.specs.declared.Division.the-variants.{Whole, NotDivisible}
 use Rattle.monomial.specs.declared.monomial_ordering.CmpOrd.{CmpOrd}
@@ -75,10 +76,6 @@ small Eq a b = true
 small Cmp a b = true
 small RatioEq a b = true
 small RatioCmp a b = true
-
--- question 1, of the variables
-unfoldable pub variablesFit : ℕ → Bool
-variablesFit m = leb 1 m && leb m 64
 
 -- the questions in order: 1, 7, 9, 5; 0 is served
 unfoldable pub verdict : Work → ℕ → List ℕ → List ℕ → List ℕ → ℕ

@@ -7,9 +7,10 @@ use lib.Dec.{leb}
 use lib.ListN.{length}
 use Rattle.words.specs.Words.{pasteW}
 use Rattle.monomial.specs.Monomial.{lent}
+use Rattle.monomial.specs.Sizes.{variablesFit}
 use Rattle.monomial.specs.declared.ordered_ops.Op.{Op}
 use Rattle.monomial.specs.declared.ordered_ops.Op.the-variants as op
-use Rattle.monomial_work.specs.Served.{variablesFit, one}
+use Rattle.monomial_work.specs.Served.{one}
 use Rattle.monomial_work.specs.declared.Work.{Work}
 use Rattle.monomial_work.specs.declared.Work.the-variants.{Gcd, Mul, WholeDivision, FractionDivision}
 

@@ -94,10 +94,7 @@ fn refusal(variables: u32, a: &[u8], b: &[u8], kind: u32) -> u32
     requires { ⌜ (1 ≤ kind) × (kind ≤ 2) ⌝ }
     ensures { λ r. ⌜ r ≡ steps.refusal kind variables (now (a .entry)) (now (b .entry)) ⌝ }
 {
-    if variables == 0 {
-        return 1;
-    }
-    if 64 < variables {
+    if !monomial::sizes::variables_fit(variables as usize) {
         return 1;
     }
     if !monomial::is_canonical(a, kind, variables) {

@@ -1,7 +1,9 @@
+use borrow.Author.Tests.{eq-eqb, ne-eqb, not-true, not-false}
 use native.Mathlib.Omega.{arith}
-use borrow.Author.Tests.{le-leb, lt-leb, eq-eqb, ne-eqb}
+use mathlib.Core.Path.{sym, _∙_}
 use lib.ListN.{length}
 use Prim.Native.Nat.{_*_}
+use Rattle.monomial.proofs.Sizing.{variables-fit}
 use Rattle.divmask.specs.Tracker.{maximaLent}
 use borrow.Author.Needs.{needs}
 use Rattle.divmask.proofs.tracker.maxima_good.Statement.{statement}
@@ -9,35 +11,36 @@ use Rattle.divmask.proofs.tracker.maxima_good.Tie as tie
 use Rattle.divmask.proofs.tracker.maxima_good.Reads as reads
 use Rattle.divmask.proofs.tracker.maxima_good.Lts as lts
 use Rattle.divmask.proofs.tracker.in_range.Reads as in-range-reads
+use Rattle.monomial.proofs.sizes.variables_fit.Reads as variables-fit-reads
 
--- src/tracker.rt:31:9
+-- src/tracker.rt:32:9
+variables-fit-requires : tie.Need-variables-fit-requires
+variables-fit-requires c κs = search needs
+
+-- src/tracker.rt:33:9
 returns : tie.Need-returns
 unfolding maximaLent
-returns c = simp (lt-leb 1 (c .before .before .args .variables) (omega arith))
+returns c = simp (sym (c .before .variables-fit .ensures) ∙ not-true _ (c .if1 .taken))
 
--- src/tracker.rt:34:9
+-- src/tracker.rt:35:24
+mul-if2 : tie.Need-mul-if2
+mul-if2 c = omega (arith, variables-fit (c .before .before .before .args .variables) .0 (sym (c .before .variables-fit .ensures) ∙ not-false _ (c .if1 .left)) .1)
+
+-- src/tracker.rt:36:9
 returns-2 : tie.Need-returns-2
 unfolding maximaLent
-returns-2 c = simp (le-leb 1 (c .before .before .before .args .variables) (omega arith), lt-leb (c .before .before .before .args .variables) 64 (omega arith))
+returns-2 c = simp (sym (c .before .before .variables-fit .ensures) ∙ not-false _ (c .before .if1 .left), ne-eqb (length (c .before .before .before .before .args .maxima .now)) (4 * (c .before .before .before .before .args .variables)) (c .if2 .taken))
 
--- src/tracker.rt:36:24
-mul-if3 : tie.Need-mul-if3
-mul-if3 c = search needs
-
--- src/tracker.rt:37:9
-returns-3 : tie.Need-returns-3
-unfolding maximaLent
-returns-3 c = simp (le-leb 1 (c .before .before .before .before .args .variables) (omega arith), le-leb (c .before .before .before .before .args .variables) 64 (omega arith), ne-eqb (length (c .before .before .before .before .args .maxima .now)) (4 * (c .before .before .before .before .args .variables)) (c .if3 .taken))
-
--- src/tracker.rt:39:5
+-- src/tracker.rt:38:5
 in-range-requires : tie.Need-in-range-requires
 in-range-requires c κs = search needs
 
--- src/tracker.rt:27:1
-returns-4 : tie.Need-returns-4
+-- src/tracker.rt:29:1
+returns-3 : tie.Need-returns-3
 unfolding maximaLent
-returns-4 c = simp (le-leb 1 (c .before .before .before .before .before .args .variables) (omega arith), le-leb (c .before .before .before .before .before .args .variables) 64 (omega arith), eq-eqb (length (c .before .before .before .before .before .args .maxima .now)) (4 * (c .before .before .before .before .before .args .variables)) (c .before .if3 .left), c .in-range .ensures)
+returns-3 c = simp (sym (c .before .before .before .variables-fit .ensures) ∙ not-false _ (c .before .before .if1 .left), eq-eqb (length (c .before .before .before .before .before .args .maxima .now)) (4 * (c .before .before .before .before .before .args .variables)) (c .before .if2 .left), c .in-range .ensures)
 
 pub maxima-good-spec : {M : Type 1} → statement M
 maxima-good-spec =
-    tie.close (tie.spec returns returns-2 mul-if3 returns-3 in-range-requires returns-4)
+    tie.close
+    (tie.spec variables-fit-requires returns mul-if2 returns-2 in-range-requires returns-3)

@@ -3,34 +3,35 @@ use Rattle.words.proofs.Answers.{failed, passed}
 use Rattle.fast_compare.proofs.Replies.{length-refused, length-served, length-small}
 use native.Mathlib.Omega.{arith}
 use borrow.Author.Needs.{needs}
+use Rattle.monomial.proofs.Sizing.{sizes-asked}
 use Rattle.fast_compare.proofs.doors.divisor_index_fast_compare_length.Statement.{statement}
 use Rattle.fast_compare.proofs.doors.divisor_index_fast_compare_length.Tie as tie
 use Rattle.fast_compare.proofs.doors.divisor_index_fast_compare_length.Reads as reads
 use Rattle.fast_compare.proofs.doors.divisor_index_fast_compare_length.Lts as lts
-use Rattle.fast_compare.proofs.asked.Reads as asked-reads
+use Rattle.monomial.proofs.sizes.sizes_fit.Reads as sizes-fit-reads
 use Rattle.fast_compare.proofs.length.Reads as length-reads
 
 -- src/doors.rt:65:9
-asked-requires : tie.Need-asked-requires
-asked-requires c κs = search needs
+sizes-fit-requires : tie.Need-sizes-fit-requires
+sizes-fit-requires c κs = search needs
 
 -- src/doors.rt:66:9
 returns : tie.Need-returns
-returns c = length-refused (c .before .before .args .variables) (c .before .before .args .capacity) (failed _ (c .before .asked .ensures) (c .if1 .taken))
+returns c = length-refused (c .before .before .args .variables) (c .before .before .args .capacity) (failed _ (sizes-asked _ _ (c .before .sizes-fit .ensures)) (c .if1 .taken))
 
 -- src/doors.rt:68:5
 length-requires : tie.Need-length-requires
-length-requires c κs = let a = passed _ (c .before .asked .ensures) (c .if1 .left) in (a .vars-to, a .cap-to)
+length-requires c κs = let a = passed _ (sizes-asked _ _ (c .before .sizes-fit .ensures)) (c .if1 .left) in (a .vars-to, a .cap-to)
 
 -- src/doors.rt:68:5
 cast-result : tie.Need-cast-result
 cast-result c =
-    let a = passed _ (c .before .before .asked .ensures) (c .before .if1 .left) in
+    let a = passed _ (sizes-asked _ _ (c .before .before .sizes-fit .ensures)) (c .before .if1 .left) in
     omega (arith, c .length .ensures, length-small (c .before .before .before .args .variables) (c .before .before .before .args .capacity) a)
 
 -- src/doors.rt:61:1
 returns-2 : tie.Need-returns-2
-returns-2 c = c .length .ensures ∙ length-served (c .before .before .before .args .variables) (c .before .before .before .args .capacity) (passed _ (c .before .before .asked .ensures) (c .before .if1 .left))
+returns-2 c = c .length .ensures ∙ length-served (c .before .before .before .args .variables) (c .before .before .before .args .capacity) (passed _ (sizes-asked _ _ (c .before .before .sizes-fit .ensures)) (c .before .if1 .left))
 
 pub divisor-index-fast-compare-length-spec : {M : Type 1} → statement M
-divisor-index-fast-compare-length-spec = tie.close (tie.spec asked-requires returns length-requires cast-result returns-2)
+divisor-index-fast-compare-length-spec = tie.close (tie.spec sizes-fit-requires returns length-requires cast-result returns-2)

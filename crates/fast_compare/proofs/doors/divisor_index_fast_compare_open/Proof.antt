@@ -2,33 +2,34 @@ use native.Mathlib.Omega.{arith}
 use Rattle.words.proofs.Answers.{failed, passed}
 use Rattle.fast_compare.proofs.Replies.{open-unasked, open-short, open-served}
 use borrow.Author.Needs.{needs}
+use Rattle.monomial.proofs.Sizing.{sizes-asked}
 use Rattle.fast_compare.proofs.doors.divisor_index_fast_compare_open.Statement.{statement}
 use Rattle.fast_compare.proofs.doors.divisor_index_fast_compare_open.Tie as tie
 use Rattle.fast_compare.proofs.doors.divisor_index_fast_compare_open.Reads as reads
 use Rattle.fast_compare.proofs.doors.divisor_index_fast_compare_open.Lts as lts
-use Rattle.fast_compare.proofs.asked.Reads as asked-reads
+use Rattle.monomial.proofs.sizes.sizes_fit.Reads as sizes-fit-reads
 use Rattle.fast_compare.proofs.length.Reads as length-reads
 use Rattle.fast_compare.proofs.open.Reads as open-reads
 
 -- src/doors.rt:78:9
-asked-requires : tie.Need-asked-requires
-asked-requires c κs = search needs
+sizes-fit-requires : tie.Need-sizes-fit-requires
+sizes-fit-requires c κs = search needs
 
 -- src/doors.rt:79:9
 returns : tie.Need-returns
-returns c = open-unasked (c .before .before .before .args .variables) (c .before .before .before .args .capacity) (c .before .before .before .args .image .now) (failed _ (c .before .asked .ensures) (c .if1 .taken))
+returns c = open-unasked (c .before .before .before .args .variables) (c .before .before .before .args .capacity) (c .before .before .before .args .image .now) (failed _ (sizes-asked _ _ (c .before .sizes-fit .ensures)) (c .if1 .taken))
 
 -- src/doors.rt:81:22
 length-requires : tie.Need-length-requires
-length-requires c κs = let a = passed _ (c .before .asked .ensures) (c .if1 .left) in (a .vars-to, a .cap-to)
+length-requires c κs = let a = passed _ (sizes-asked _ _ (c .before .sizes-fit .ensures)) (c .if1 .left) in (a .vars-to, a .cap-to)
 
 -- src/doors.rt:82:9
 returns-2 : tie.Need-returns-2
-returns-2 c = open-short (c .before .before .before .before .before .args .variables) (c .before .before .before .before .before .args .capacity) (c .before .before .before .before .before .args .image .now) (passed _ (c .before .before .before .asked .ensures) (c .before .before .if1 .left)) (omega (arith, c .before .length .ensures))
+returns-2 c = open-short (c .before .before .before .before .before .args .variables) (c .before .before .before .before .before .args .capacity) (c .before .before .before .before .before .args .image .now) (passed _ (sizes-asked _ _ (c .before .before .before .sizes-fit .ensures)) (c .before .before .if1 .left)) (omega (arith, c .before .length .ensures))
 
 -- src/doors.rt:84:5
 open-requires : tie.Need-open-requires
-open-requires c κs = (passed _ (c .before .before .before .before .asked .ensures) (c .before .before .before .if1 .left), omega (arith, c .before .before .length .ensures))
+open-requires c κs = (passed _ (sizes-asked _ _ (c .before .before .before .before .sizes-fit .ensures)) (c .before .before .before .if1 .left), omega (arith, c .before .before .length .ensures))
 
 -- src/doors.rt:72:1
 same-length : tie.Need-same-length
@@ -36,9 +37,9 @@ same-length c = search needs
 
 -- src/doors.rt:72:1
 returns-3 : tie.Need-returns-3
-returns-3 c = open-served (c .before .before .before .before .before .before .before .before .before .args .variables) (c .before .before .before .before .before .before .before .before .before .args .capacity) (c .before .before .before .before .before .before .before .before .before .args .image .now) _ (passed _ (c .before .before .before .before .before .before .before .asked .ensures) (c .before .before .before .before .before .before .if1 .left)) (omega (arith, c .before .before .before .before .before .length .ensures)) (c .before .before .«open» .ensures)
+returns-3 c = open-served (c .before .before .before .before .before .before .before .before .before .args .variables) (c .before .before .before .before .before .before .before .before .before .args .capacity) (c .before .before .before .before .before .before .before .before .before .args .image .now) _ (passed _ (sizes-asked _ _ (c .before .before .before .before .before .before .before .sizes-fit .ensures)) (c .before .before .before .before .before .before .if1 .left)) (omega (arith, c .before .before .before .before .before .length .ensures)) (c .before .before .«open» .ensures)
 
 pub divisor-index-fast-compare-open-spec : {M : Type 1} → statement M
 divisor-index-fast-compare-open-spec =
     tie.close
-    (tie.spec asked-requires returns length-requires returns-2 open-requires same-length returns-3)
+    (tie.spec sizes-fit-requires returns length-requires returns-2 open-requires same-length returns-3)

@@ -2,26 +2,27 @@ use native.Mathlib.Omega.{arith}
 use mathlib.Core.Path.{sym, _∙_}
 use borrow.Author.Tests.{leb-true, le-leb}
 use borrow.Author.Needs.{needs}
+use Rattle.monomial.proofs.Sizing.{sizes-asked}
 use Rattle.words.proofs.Answers.{refuse, failed, passed}
 use Rattle.fast_compare.proofs.soundness.head_ok.Statement.{statement}
 use Rattle.fast_compare.proofs.soundness.head_ok.Tie as tie
 use Rattle.fast_compare.proofs.soundness.head_ok.Reads as reads
 use Rattle.fast_compare.proofs.soundness.head_ok.Lts as lts
-use Rattle.fast_compare.proofs.asked.Reads as asked-reads
+use Rattle.monomial.proofs.sizes.sizes_fit.Reads as sizes-fit-reads
 use Rattle.fast_compare.proofs.length.Reads as length-reads
 use Rattle.words.proofs.get.Reads as get-reads
 
 -- src/soundness.rt:106:9
-asked-requires : tie.Need-asked-requires
-asked-requires c κs = search needs
+sizes-fit-requires : tie.Need-sizes-fit-requires
+sizes-fit-requires c κs = search needs
 
 -- src/soundness.rt:107:9
 returns : tie.Need-returns
-returns c = refuse (λ h. failed _ (c .before .asked .ensures) (c .if1 .taken) (record { vars-from = h .vars-from; vars-to = h .vars-to; cap-from = h .cap-from; cap-to = h .cap-to }))
+returns c = refuse (λ h. failed _ (sizes-asked _ _ (c .before .sizes-fit .ensures)) (c .if1 .taken) (record { vars-from = h .vars-from; vars-to = h .vars-to; cap-from = h .cap-from; cap-to = h .cap-to }))
 
 -- src/soundness.rt:109:20
 length-requires : tie.Need-length-requires
-length-requires c κs = let a = passed _ (c .before .asked .ensures) (c .if1 .left) in (a .vars-to, a .cap-to)
+length-requires c κs = let a = passed _ (sizes-asked _ _ (c .before .sizes-fit .ensures)) (c .if1 .left) in (a .vars-to, a .cap-to)
 
 -- src/soundness.rt:110:9
 returns-2 : tie.Need-returns-2
@@ -69,7 +70,7 @@ cast-result c = search needs
 
 -- src/soundness.rt:103:1
 returns-6 : tie.Need-returns-6
-returns-6 c = let a = passed _ (c .before .before .before .before .before .before .before .before .before .before .asked .ensures) (c .before .before .before .before .before .before .before .before .before .if1 .left) in (
+returns-6 c = let a = passed _ (sizes-asked _ _ (c .before .before .before .before .before .before .before .before .before .before .sizes-fit .ensures)) (c .before .before .before .before .before .before .before .before .before .if1 .left) in (
   λ z. record {
     vars-from = a .vars-from;
     vars-to = a .vars-to;
@@ -88,7 +89,7 @@ pub head-ok-spec : {M : Type 1} → statement M
 head-ok-spec =
     tie.close
     (tie.spec
-    asked-requires
+    sizes-fit-requires
     returns
     length-requires
     returns-2

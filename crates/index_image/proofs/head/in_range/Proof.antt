@@ -1,67 +1,60 @@
 use native.Mathlib.Omega.{arith}
+use Rattle.words.proofs.Answers.{refuse, accept, failed, passed}
+use Rattle.monomial.proofs.Sizing.{sizes-asked}
 use borrow.Author.Needs.{needs}
-use Rattle.words.proofs.Answers.{refuse}
 use Rattle.index_image.proofs.head.in_range.Statement.{statement}
 use Rattle.index_image.proofs.head.in_range.Tie as tie
 use Rattle.index_image.proofs.head.in_range.Reads as reads
 use Rattle.index_image.proofs.head.in_range.Lts as lts
+use Rattle.monomial.proofs.sizes.sizes_fit.Reads as sizes-fit-reads
 
--- src/head.rt:21:9
+-- src/head.rt:22:9
 returns : tie.Need-returns
 returns c = refuse (λ q. omega (arith, q .kind-to, c .if1 .taken))
 
 -- src/head.rt:24:9
+sizes-fit-requires : tie.Need-sizes-fit-requires
+sizes-fit-requires c κs = search needs
+
+-- src/head.rt:25:9
 returns-2 : tie.Need-returns-2
-returns-2 c = refuse (λ q. omega (arith, q .vars-from, c .if2 .taken))
+returns-2 c = refuse (λ q. failed _ (sizes-asked _ _ (c .before .sizes-fit .ensures)) (c .if2 .taken) (record { vars-from = q .vars-from; vars-to = q .vars-to; cap-from = q .cap-from; cap-to = q .cap-to }))
 
--- src/head.rt:27:9
+-- src/head.rt:28:9
 returns-3 : tie.Need-returns-3
-returns-3 c = refuse (λ q. omega (arith, q .vars-to, c .if3 .taken))
+returns-3 c = refuse (λ q. omega (arith, q .few, c .if3 .taken))
 
--- src/head.rt:30:9
+-- src/head.rt:31:9
 returns-4 : tie.Need-returns-4
-returns-4 c = refuse (λ q. omega (arith, q .cap-from, c .if4 .taken))
+returns-4 c = refuse (λ q. omega (arith, q .nodes-from, c .if4 .taken))
 
--- src/head.rt:33:9
+-- src/head.rt:33:8
+mul-if5 : tie.Need-mul-if5
+mul-if5 c = let s = passed _ (sizes-asked _ _ (c .before .before .before .before .before .before .sizes-fit .ensures)) (c .before .before .before .before .before .if2 .left) in omega (arith, s .cap-to)
+
+-- src/head.rt:33:8
+sub-if5 : tie.Need-sub-if5
+sub-if5 c = let s = passed _ (sizes-asked _ _ (c .before .before .before .before .before .before .sizes-fit .ensures)) (c .before .before .before .before .before .if2 .left) in omega (arith, s .cap-from)
+
+-- src/head.rt:34:9
 returns-5 : tie.Need-returns-5
-returns-5 c = refuse (λ q. omega (arith, q .cap-to, c .if5 .taken))
+returns-5 c = refuse (λ q. omega (arith, q .nodes-to, c .if5 .taken))
 
--- src/head.rt:36:9
+-- src/head.rt:18:1
 returns-6 : tie.Need-returns-6
-returns-6 c = refuse (λ q. omega (arith, q .few, c .if6 .taken))
-
--- src/head.rt:39:9
-returns-7 : tie.Need-returns-7
-returns-7 c = refuse (λ q. omega (arith, q .nodes-from, c .if7 .taken))
-
--- src/head.rt:41:8
-mul-if8 : tie.Need-mul-if8
-mul-if8 c = search needs
-
--- src/head.rt:41:8
-sub-if8 : tie.Need-sub-if8
-sub-if8 c = search needs
-
--- src/head.rt:42:9
-returns-8 : tie.Need-returns-8
-returns-8 c = refuse (λ q. omega (arith, q .nodes-to, c .if8 .taken))
-
--- src/head.rt:17:1
-returns-9 : tie.Need-returns-9
-returns-9 c = search needs
+returns-6 c = let s = passed _ (sizes-asked _ _ (c .before .before .before .before .before .before .before .before .sizes-fit .ensures)) (c .before .before .before .before .before .before .before .if2 .left) in
+    accept (record { kind-to = omega arith; vars-from = s .vars-from; vars-to = s .vars-to; cap-from = s .cap-from; cap-to = s .cap-to; few = omega arith; nodes-from = omega arith; nodes-to = omega arith })
 
 pub in-range-spec : {M : Type 1} → statement M
 in-range-spec =
     tie.close
     (tie.spec
     returns
+    sizes-fit-requires
     returns-2
     returns-3
     returns-4
+    mul-if5
+    sub-if5
     returns-5
-    returns-6
-    returns-7
-    mul-if8
-    sub-if8
-    returns-8
-    returns-9)
+    returns-6)
