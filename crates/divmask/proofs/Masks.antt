@@ -89,11 +89,6 @@ module _ (m : ℕ) (xs : List ℕ) where
   unfolding mask
   mask-ext p q = fields-ext m xs p q m
 
-  -- the mask of one
-  pub mask-one : (p : ℕ → ℕ) → ((v : ℕ) → v < m → p v ≡ 0) → mask m xs p ≡ 0
-  unfolding mask
-  mask-one p h = fields-skip m xs p 0 m (omega arith) (λ v i j. h v j) ∙ fields-zero m xs p
-
   -- the mask of one variable's power
   pub mask-single : (p : ℕ → ℕ) (u : ℕ) → u < m → ((v : ℕ) → v < m → (v ≡ u → ⊥) → p v ≡ 0) → mask m xs p ≡ field m xs u (p u) * 2 ^ firstBit m u
   unfolding mask field

@@ -52,10 +52,6 @@ pub vector-small : (m : ℕ) (p : ℕ → ℕ) → vector m p < 2 ^ 32
 unfolding vector
 vector-small m p = mask-small m (bitCounts m) p
 
-pub vector-ext : (m : ℕ) (p q : ℕ → ℕ) → ((v : ℕ) → v < m → p v ≡ q v) → vector m p ≡ vector m q
-unfolding vector
-vector-ext m p q h = mask-ext m (bitCounts m) p q h
-
 pub vector-divides : (m : ℕ) (a b : List ℕ) → Divides a b → Within (vector m (pow 1 a)) (vector m (pow 1 b))
 unfolding vector
 vector-divides m a b d = mask-divides m (bitCounts m) a b d

@@ -117,8 +117,3 @@ pick-only n p j l t h = go (pick n p) refl (picked′ n p)
     go : (o : Option ℕ) → pick n p ≡ o → Picked n p o → o ≡ some j
     go none e z = never (sym (z j l) ∙ t)
     go (some i) e z = ap some (h i (z .0) (z .1))
-
-pub pick-ext : (n : ℕ) (p q : ℕ → Bool) → ((i : ℕ) → i < n → p i ≡ q i) → pick n p ≡ pick n q
-unfolding pick
-pick-ext zero p q h = refl
-pick-ext (suc n) p q h = rw (h n (omega arith), pick-ext n p q (λ i l. h i (omega arith)))

@@ -18,11 +18,6 @@ use Rattle.fast_compare.proofs.Ranks.{less-equal, is-less, is-equal, se
 not-less : (o : CmpOrd) → isLess o ≡ false → o ≡ Less → ⊥
 not-less o e h = never (sym e ∙ ap isLess h)
 
-test-less : (o : CmpOrd) → (o ≡ Less → ⊥) → isLess o ≡ false
-test-less Less h = absurd (h refl)
-test-less Equal h = refl
-test-less Greater h = refl
-
 test-equal : (o : CmpOrd) → (o ≡ Equal → ⊥) → isEqual o ≡ false
 test-equal Less h = refl
 test-equal Equal h = absurd (h refl)

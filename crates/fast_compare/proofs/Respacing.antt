@@ -33,9 +33,6 @@ withLabels st l =
     ++ (zeros ((st .capacity - length (st .rows)) * (st .variables + 3))
     ++ (sorted cmp (value (st .rows)) (length (st .rows)) ++ zeros (st .capacity - length (st .rows)))))
 
-row-eta : (rs : List Row) (i : ℕ) → row rs i ≡ record { value = value rs i; label = label rs i }
-row-eta rs i = refl
-
 pub own-labels : (st : State) → encode st ≡ withLabels st (label (st .rows))
 unfolding encode withLabels
 own-labels st = refl

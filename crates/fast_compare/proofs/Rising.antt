@@ -225,10 +225,6 @@ module _ {A : Type 0} {c : A → A → CmpOrd} (law : Lawful c) (f : ℕ → A) 
     small = λ i hi. omega (arith, rebuilt-small i hi);
   }
 
-  -- and lie at least 1,048,575 apart where one more value has a place
-  pub rebuilt-gap : n ≤ 4095 → (i j : ℕ) → i < n → j < n → c (f i) (f j) ≡ Less → rebuilt c f n i + 1048575 ≤ rebuilt c f n j
-  rebuilt-gap h = rebuilt-apart 4095 1048575 h (omega arith)
-
   -- after a rebuild a label is free for every value
   pub rebuilt-free : n ≤ 4096 → (q : A) → free c f (rebuilt c f n) n q ≡ true
   unfolding free lowest highest floor ceiling Near

@@ -149,9 +149,6 @@ module _ (W : List ℕ) (st : State) (f : Fits st) (room : at.size (shapeOf st) 
   abbrev d : ℕ
   d = nodes (st .tree)
 
-  abbrev ls : ℕ
-  ls = at.labelsSize (shapeOf st)
-
   abbrev tabled : List ℕ
   tabled = table n (λ i. entryWords k m (st .mapMaxima) (st .labels) (entryAt (st .entries) i))
 

@@ -35,10 +35,6 @@ and-true : (b : Bool) → b && true ≡ b
 and-true true = refl
 and-true false = refl
 
-and-false : (b : Bool) → b && false ≡ false
-and-false true = refl
-and-false false = refl
-
 -- ---- values by their index
 above-less : (v w : map.Value) → v .index < w .index → above v w ≡ false
 unfolding above map.cmp

@@ -186,9 +186,6 @@ module _ (bs : List ℕ) (st : State) (I : Is st bs) (e : Entry) (good : GoodEnt
   table-long : (k : ℕ) (f : ℕ → List ℕ) → k ≤ c → ((i : ℕ) → i < k → length (f i) ≡ w) → length (table k f ++ zeros ((c - k) * w)) ≡ c * w
   table-long k f h l = length-append (table k f) _ ∙ omega (arith, length-table k w f l, length-zeros ((c - k) * w), split-rows k c w h)
 
-  new-row : ℕ → List ℕ
-  new-row i = entryWords (st .kind) m xs l′ (entryAt es′ i)
-
   row-long : (i : ℕ) → i < n + 1 → length (entryWords (st .kind) m xs l′ (entryAt es′ i)) ≡ w
   unfolding inserted
   row-long i h = entry-length (st .kind) m xs l′ (entryAt es′ i) (F .vars-to) (val′ .canonical i (omega (arith, length-more es (numbered n e))))
@@ -267,14 +264,8 @@ module _ (bs : List ℕ) (st : State) (I : Is st bs) (e : Entry) (good : GoodEnt
     place-in : p ≤ n
     place-in = omega (arith, place-inside J n t, F .all)
 
-    rows-new : List ℕ
-    rows-new = treeWords m xs pw (insert J n t)
-
     long-new : length (treeWords m xs pw (insert J n t)) ≡ nodes t * (at.nodeWidth m)
     long-new = tree-length m xs pw (F .vars-to) power-absent (insert J n t) ∙ ap (λ (x : ℕ). x * at.nodeWidth m) (insert-nodes J n t)
-
-    im1 : List ℕ
-    im1 = pasteW im (at.nodeAt s 0) (grownRows growth)
 
     perm-tail : part (words im) (at.permutationAt s + p) (n - p) ≡ drop p (inorder t)
     perm-tail = part-from (words im) (at.permutationAt s) n p place-in (omega (arith, length-words im, long2, I .room, of.range bs st I .few)) ∙ ap (drop p) perm2

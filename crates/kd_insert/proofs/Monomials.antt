@@ -124,9 +124,6 @@ module _ (bs : List ℕ) (B : Bytes bs) (st : State) (I : Is st bs) (lm : List �
   e1′ : im1 ≡ pasteW bs at.maximaAt (tracked (st .kind) e (st .maxima))
   e1′ = e1 ∙ rw (of.pieces bs st I .maxima, only-lm (st .kind) e (st .maxima) k)
 
-  row : List ℕ
-  row = entryWords (st .kind) m (st .mapMaxima) l′ e
-
   row-is : masked m (st .mapMaxima) lm [] ≡ entryWords (st .kind) m (st .mapMaxima) l′ e
   row-is = sym (only-slot (st .kind) m (st .mapMaxima) l′ e k)
 

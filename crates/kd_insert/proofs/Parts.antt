@@ -56,9 +56,6 @@ settled-whole l v val good = go (map.answer l v)
 -- ---- the part
 module _ (bs : List ℕ) (s : Shape) (R : at.InRange s) (room : 4 * at.size s ≤ length bs) (one : s .kind ≡ 1) (x y : ℕ) (ex : x ≡ at.labelsAt s) (ey : y ≡ at.labelsSize s)
     (v : map.Value) (good : map.Good (s .variables) v) where
-  abbrev k : ℕ
-  k = 4 * x + 4 * y - 4 * x
-
   part-is : take (4 * x + 4 * y - 4 * x) (drop (4 * x) bs) ≡ labelBytes bs s
   part-is =
       let e : 4 * x + 4 * y - 4 * x ≡ 4 * at.labelsSize s = omega arith in

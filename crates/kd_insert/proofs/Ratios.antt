@@ -187,12 +187,6 @@ module _ (bs : List ℕ) (B : Bytes bs) (st : State) (I : Is st bs) (i : ℕ) (s
   pub b0 : Basics im0 (shapeOf st)
   b0 = basics-labelled bs im0 s (labels.encode l′) b long0 e0
 
-  ba : Basics ima s
-  ba = basics-tracked im0 ima s sign b0 (C .sign-canonical) (C .sign-tracked)
-
-  b1 : Basics im1 s
-  b1 = basics-tracked ima im1 s lm ba (C .lm-canonical) (C .lm-tracked)
-
   -- ---- the maxima
   present0 : part (words im0) at.maximaAt m ≡ st .maxima
   present0 = ap (λ (x : List ℕ). part (words x) at.maximaAt m) e0 ∙ part-before bs (at.labelsAt s) (labels.encode l′) at.maximaAt m (omega (arith, map-fits)) (omega arith) ∙ of.pieces bs st I .maxima

@@ -206,9 +206,6 @@ module _ (bs : List ℕ) (s : Shape) (R : at.InRange s) (room : 4 * at.size s �
     unfolding belowKey
     tested tag key et ek = rw (et ∙ B .tag-is, ek ∙ B .key-is) (test (s .kind) refl (B .dim) (B .key) (B .key-ok))
 
-    abbrev goal : Way → Type 0
-    goal w = w ≡ wayOf (keys g) (g .entry) (g .tree)
-
     pub less-way : belowIn (s .kind) pw (g .label) (B .dim) (B .key) (g .entry) ≡ true → _≡_ {A = Way} (record { stop = false; rows = 1; places = 0 }) (wayOf (keys g) (g .entry) (g .tree))
     unfolding wayOf
     less-way h = rw (B .is, h)

@@ -140,9 +140,6 @@ module _ (bs : List ℕ) (s : Shape) (k lo rows c d x key : ℕ) (u : Splittable
         n-is : (st : State) (es : List ℕ) → Stood st es → n ≡ length (keep (onSide (keyIn (words bs) s) d x true) es)
         n-is st es z = en ∙ rw (z .are) refl
 
-        pub n-few : n ≤ c
-        n-few = let z = stood (u .state) (u .es) (u .held) in omega (arith, n-is (u .state) (u .es) z, sides-length pw₀ d x (u .es), z .count)
-
         four : (st : State) (es : List ℕ) → Stood st es → Wrote bs₃ bs₄ (at.nodeAt s k + (s .variables + 6)) (nodeWords (s .variables) (st .mapMaxima) (powerIn (st .entries)) 0 0 0 (keep (onSide (keyIn (words bs) s) d x true) es))
         four st es z =
             let N = split-numbers in

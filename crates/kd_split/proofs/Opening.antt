@@ -121,11 +121,6 @@ firstLeast-ext f g x (y ∷ ys) h =
     one-of z true i = h z (there z x (y ∷ ys) i)
     one-of z false i = h z (skip-one z x y ys i)
 
-mark-ext : (f g : ℕ → ℕ) (xs : List ℕ) → ((e : ℕ) → e ∈ xs → f e ≡ g e) → leastPlace f xs - 1 ≡ leastPlace g xs - 1
-unfolding leastPlace
-mark-ext f g [] h = refl
-mark-ext f g (x ∷ xs) h = rw (firstLeast-ext f g x xs h) refl
-
 -- a ratio index
 module _ (es : List Entry) (l : map.State) (k : ℕ) (one : k ≡ 1) (pw : ℕ → ℕ → ℕ) (lb : ℕ → ℕ) where
   ratio-key : (d e : ℕ) → lb e ≡ labelOf l (ratioOf (entryAt es e)) → ((v : ℕ) → pw v e ≡ powerIn es v e) → ratioKey (ratiosOf es l) d e ≡ keyBy k pw lb d e

@@ -27,7 +27,7 @@ use Rattle.index_image.proofs.Keys.{tree-words-ext}
 use Rattle.index_image.proofs.Once.{get-in}
 use Rattle.kd_split.specs.Held.{Holds, Stands, Held, Became}
 use Rattle.kd_split.specs.Split.{onSide, leafWords}
-use Rattle.kd_split.proofs.Standing.{Based, based, part-same, part-kept, node-add, node-next, node-le, Row, row-of, row-same, row-inside, length-row, leaf-row, row-leaf, uncut, ordered-small}
+use Rattle.kd_split.proofs.Standing.{Based, based, part-same, part-kept, node-add, node-next, node-le, Row, row-of, row-same, row-inside, length-row, leaf-row, uncut, ordered-small}
 use Rattle.kd_split.proofs.Becoming.{paste-rest}
 use Rattle.kd_split.proofs.Reading.{power-of}
 
@@ -102,12 +102,6 @@ leaf-words st W s lo c es H e small =
 
 -- ---- the two sides
 module _ (pw : ℕ → ℕ → ℕ) (d x : ℕ) (es : List ℕ) where
-  abbrev L : List ℕ
-  L = keep (onSide pw d x true) es
-
-  abbrev O : List ℕ
-  O = keep (onSide pw d x false) es
-
   pub sides-length : length es ≡ length (keep (onSide pw d x true) es) + length (keep (onSide pw d x false) es)
   unfolding onSide
   sides-length = keep-length (onSide pw d x true) es
@@ -122,9 +116,6 @@ module _ (st : State) (s : Shape) (bs : List ℕ) (k lo rows c d x key : ℕ) (e
 
   abbrev w : ℕ
   w = s .variables + 6
-
-  abbrev P : ℕ
-  P = at.permutationAt s
 
   abbrev xs : List ℕ
   xs = st .mapMaxima

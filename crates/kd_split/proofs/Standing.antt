@@ -219,11 +219,6 @@ module _ (st : State) (W : List ℕ) (s : Shape) (H : Based st W s) where
   leaf-row k lo rows es h l t =
       row-of m xs pw W (at.nodeAt s k) 0 0 0 es (omega (arith, node-next s k, row-inside (k + 1) rows h l)) (rw (one-mul w) at (t .rows))
 
-  pub row-leaf : (k lo rows : ℕ) (es : List ℕ) → k + 1 ≤ rows → rows + 1 ≤ 2 * s .capacity → Row W m xs pw (at.nodeAt s k) 0 0 0 es → part W (at.permutationAt s + lo) (length es) ≡ es → Stands st W s k lo (leaf es)
-  unfolding treeWords nodes
-  row-leaf k lo rows es h l r p =
-      record { rows = rw (one-mul w) (of-row m xs pw W (at.nodeAt s k) 0 0 0 es (omega (arith, node-next s k, row-inside (k + 1) rows h l)) r); perm = p }
-
   -- the count that the first row of a tree has
   pub count-at : (k lo rows : ℕ) (t : Tree) → k + nodes t ≤ rows → rows + 1 ≤ 2 * s .capacity → lo + count t ≤ s .entries → Stands st W s k lo t → getD W (at.nodeAt s k + 2) 0 ≡ count t
   count-at k lo rows (leaf es) h l n t = leaf-row k lo rows es (omega (arith, nodes-leaf es)) l t .count-is

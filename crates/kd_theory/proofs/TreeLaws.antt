@@ -73,18 +73,6 @@ module _ (K : Keys) where
       )
       )
 
-  -- the nodes that a search may still make add up over a branch
-  pub room-adds : (d k : ℕ) (l r : Tree) → Ordered K (branch d k l r) → 2 * count (branch d k l r) - 1 - nodes (branch d k l r) ≡ (2 * count l - 1 - nodes l) + (2 * count r - 1 - nodes r)
-  unfolding nodes
-  room-adds d k l r h =
-      simp length-append
-      (omega (
-        arith,
-        few-nodes l (h .1) (some-length (inorder l) (h .0 .some-less)),
-        few-nodes r (h .2) (some-length (inorder r) (h .0 .some-other)),
-      )
-      )
-
   -- each side of a branch has fewer entries than the whole
   pub fewer-less : (d k : ℕ) (l r : Tree) → Ordered K (branch d k l r) → count l < count (branch d k l r)
   fewer-less d k l r h = simp length-append (omega (arith, some-length (inorder r) (h .0 .some-other)))

@@ -18,11 +18,6 @@ pub record Lawful {A : Type 0} (c : A → A → CmpOrd) : Type 0 where
   pub trans : (x y z : A) → c x y ≡ Less → c y z ≡ Less → c x z ≡ Less
   pub alike : (x y z : A) → c x y ≡ Equal → c x z ≡ c y z
 
-flip-flip : (a : CmpOrd) → flip (flip a) ≡ a
-flip-flip Less = refl
-flip-flip Equal = refl
-flip-flip Greater = refl
-
 less-not-equal : {X : Type 0} → Less ≡ Equal → X
 less-not-equal e = absurd (let z : _≡_ {A = ℕ} 0 1 = cc in omega arith)
 

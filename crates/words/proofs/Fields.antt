@@ -12,9 +12,6 @@ kind-word k p h = omega arith
 pub payload-word : (k p : ℕ) → p < 2 ^ 28 → payload (wordOf k p) ≡ p
 payload-word k p h = omega arith
 
-pub word-fits : (k p : ℕ) → k < 16 → p < 2 ^ 28 → wordOf k p < 2 ^ 32
-word-fits k p h l = omega arith
-
 pub kind-var : (k v p : ℕ) → v < 4096 → p < 65536 → kind (varWord k v p) ≡ k
 kind-var k v p h l = omega arith
 

@@ -106,10 +106,3 @@ unfolding part
 part-pasted bs at ws s h =
     rw (words-pasteW bs at ws s (omega arith), drop-at (take at (words bs)) (ws ++ drop (at + length ws) (words bs)) at (length-take-le at (words bs) (omega (arith, length-words bs))))
     (take-at ws _ (length ws) refl)
-
--- the bytes of a slice are bytes, so what was pasted into it are words
-pub pasted-small : (ws rest : List ℕ) → Bytes (bytes ws ++ rest) → Words ws
-unfolding bytes
-pasted-small [] rest h k = omega arith
-pasted-small (w ∷ ws) rest h zero = omega (arith, h 3)
-pasted-small (w ∷ ws) rest h (suc k) = pasted-small ws rest (λ i. h (suc (suc (suc (suc i))))) k
