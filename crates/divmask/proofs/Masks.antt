@@ -202,6 +202,22 @@ pub bits-are : (m v b : ℕ) → b ≡ 32 / m + cond (ltb v (32 % m)) 1 0 → b 
 unfolding bits
 bits-are m v b e = e
 
+-- a variable's word: what the code needs of it, and the walk after its bits are added
+pub record Step (m : ℕ) (xs A : List ℕ) (i sum w : ℕ) : Type 0 where
+  pub known : ident w < m
+  pub low : 1 ≤ power w
+  pub high : power w ≤ 32767
+  pub few : bits m (ident w) ≤ 32
+  pub first : firstBit m (ident w) ≤ 32
+  pub fits : sum + parts (bits m (ident w)) (getD xs (ident w) 0) (power w) (bits m (ident w)) * 2 ^ firstBit m (ident w) < 2 ^ 32
+  pub rest : Mapping m xs A (i + 1) (sum + parts (bits m (ident w)) (getD xs (ident w) 0) (power w) (bits m (ident w)) * 2 ^ firstBit m (ident w))
+
+-- the walk after the field f, from bit t on, is added
+pub record Stepped (m : ℕ) (xs A : List ℕ) (i sum t f : ℕ) : Type 0 where
+  pub shift : t ≤ 32
+  pub fits : sum + f * 2 ^ t % 2 ^ 64 < 2 ^ 32
+  pub rest : Mapping m xs A (i + 1) (sum + f * 2 ^ t % 2 ^ 64)
+
 module _ {m : ℕ} {xs A : List ℕ} {i sum : ℕ} (s : Mapping m xs A i sum) {w : ℕ} (e : w ≡ getD A i 0) where
   pub mapped : kind w ≡ 0 → sum ≡ mask m xs (pow 1 A)
   mapped h = go (word-at (omega arith) w (s .ra) e)
@@ -210,20 +226,10 @@ module _ {m : ℕ} {xs A : List ℕ} {i sum : ℕ} (s : Mapping m xs A i sum) {w
       go (inl z) = omega (arith, s .split, fields-skip m xs (pow 1 A) 0 (s .b) (omega arith) (λ v l h. z .none v h), fields-zero m xs (pow 1 A))
       go (inr z) = absurd (omega (arith, z .upper))
 
-  -- a variable's word: what the code needs of it, and the walk after its bits are added
-  pub record Step : Type 0 where
-    pub known : ident w < m
-    pub low : 1 ≤ power w
-    pub high : power w ≤ 32767
-    pub few : bits m (ident w) ≤ 32
-    pub first : firstBit m (ident w) ≤ 32
-    pub fits : sum + parts (bits m (ident w)) (getD xs (ident w) 0) (power w) (bits m (ident w)) * 2 ^ firstBit m (ident w) < 2 ^ 32
-    pub rest : Mapping m xs A (i + 1) (sum + parts (bits m (ident w)) (getD xs (ident w) 0) (power w) (bits m (ident w)) * 2 ^ firstBit m (ident w))
-
-  pub step : (kind w ≡ 0 → ⊥) → Step
+  pub step : (kind w ≡ 0 → ⊥) → Step m xs A i sum w
   step h = go (word-at (omega arith) w (s .ra) e)
     where
-      go : Last 1 A (s .b) w ⊎ Next 1 A i (s .b) w → Step
+      go : Last 1 A (s .b) w ⊎ Next 1 A i (s .b) w → Step m xs A i sum w
       go (inl z) = absurd (h (omega (arith, z .upper)))
       go (inr z) =
           let u = ident w in
@@ -243,12 +249,7 @@ module _ {m : ℕ} {xs A : List ℕ} {i sum : ℕ} (s : Mapping m xs A i sum) {w
   -- the same with what the code's helpers gave: v the id, p the power, x the maximum, b the bits, f the field, t the first bit
   module _ (h : kind w ≡ 0 → ⊥) {v p x b f t : ℕ} (ev : v ≡ ident w) (ep : p ≡ power w) (ex : x ≡ getD xs v 0)
       (eb : b ≡ 32 / m + cond (ltb v (32 % m)) 1 0) (ef : f ≡ parts b x p b) (et : t ≡ v * (32 / m) + min v (32 % m)) where
-    pub record Stepped : Type 0 where
-      pub shift : t ≤ 32
-      pub fits : sum + f * 2 ^ t % 2 ^ 64 < 2 ^ 32
-      pub rest : Mapping m xs A (i + 1) (sum + f * 2 ^ t % 2 ^ 64)
-
-    pub stepped : Stepped
+    pub stepped : Stepped m xs A i sum t f
     stepped =
         let k = step h in
         let is : t ≡ firstBit m (ident w) = et ∙ sym (first-closed m v) ∙ ap (firstBit m) ev in

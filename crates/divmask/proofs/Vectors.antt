@@ -17,7 +17,7 @@ use Rattle.monomial.specs.Monomial.{pow}
 use Rattle.monomial.specs.Operations.{Divides}
 use Rattle.divmask.specs.Mask.{bits, firstBit, cutoff, parts, mask, bitCounts, vector, bit, Within}
 use Rattle.divmask.proofs.Parts.{parts-zero, parts-suc, ones}
-use Rattle.divmask.proofs.Masks.{mask-bit, mask-small, mask-ext, mask-divides, Mapping, mapped, step, bits-are, stepped}
+use Rattle.divmask.proofs.Masks.{mask-bit, mask-small, mask-divides, Mapping, mapped, step, bits-are, Stepped, stepped}
 
 -- ---- the fixed maxima
 single : (n : ℕ) (f : ℕ → ℕ) (i : ℕ) → i < n → getD (table n (λ v. f v ∷ [])) i 0 ≡ f i
@@ -75,21 +75,15 @@ pub short-is : (b q n : ℕ) → b ≤ 32 → n ≡ min b q → 1 * 2 ^ n % 2 ^ 
 short-is b q n h e = rw (ones n (omega arith), e) (omega (arith, parts-fixed b q b (omega arith)))
 
 -- the walk of `map` for the fixed maxima
-pub record Short (m : ℕ) (A : List ℕ) (i sum t f : ℕ) : Type 0 where
-  pub shift : t ≤ 32
-  pub fits : sum + f * 2 ^ t % 2 ^ 64 < 2 ^ 32
-  pub rest : Mapping m (bitCounts m) A (i + 1) (sum + f * 2 ^ t % 2 ^ 64)
-
 module _ {m : ℕ} {A : List ℕ} {i sum : ℕ} (s : Mapping m (bitCounts m) A i sum) {w : ℕ} (e : w ≡ getD A i 0) where
   pub vector-mapped : kind w ≡ 0 → sum ≡ vector m (pow 1 A)
   unfolding vector
   vector-mapped h = mapped s e h
 
   pub short-stepped : (kind w ≡ 0 → ⊥) → {v p b f t : ℕ} → v ≡ ident w → p ≡ power w → b ≡ 32 / m + cond (ltb v (32 % m)) 1 0
-      → f ≡ parts b (max 1 b) p b → t ≡ v * (32 / m) + min v (32 % m) → Short m A i sum t f
+      → f ≡ parts b (max 1 b) p b → t ≡ v * (32 / m) + min v (32 % m) → Stepped m (bitCounts m) A i sum t f
   short-stepped h {v} {p} {b} {f} {t} ev ep eb ef et =
       let k = step s e h in
       let is = bits-are m v b eb in
       let c : max 1 b ≡ getD (bitCounts m) v 0 = ap (max 1) is ∙ sym (count-at m v (omega (arith, k .known))) in
-      let z = stepped s e h ev ep c eb ef et in
-      record { shift = z .shift; fits = z .fits; rest = z .rest }
+      stepped s e h ev ep c eb ef et

@@ -160,7 +160,13 @@ module _ (W : List ℕ) (m c n : ℕ) (head rows order : List ℕ) (few : n ≤ 
 
   pub together : Pieces W m c n head rows order → part W 0 (size m c) ≡ head ++ (rows ++ (zeros ((c - n) * (m + 3)) ++ (order ++ zeros (c - n))))
   together p =
-      let s : Stand W 0 five = (moved-back W (p .head-is) refl lh, (moved-back W (p .rows-are) at1 lr, (moved-back W (p .rows-rest) at2 (length-zeros ((c - n) * (m + 3))), (moved-back W (p .order-is) at3 lo, moved-back W (p .order-rest) at4 (length-zeros (c - n)))))) in
+      let s : Stand W 0 five = (
+        moved-back W (p .head-is) refl lh,
+        (
+          moved-back W (p .rows-are) at1 lr,
+          (moved-back W (p .rows-rest) at2 (length-zeros ((c - n) * (m + 3))), (moved-back W (p .order-is) at3 lo, moved-back W (p .order-rest) at4 (length-zeros (c - n)))),
+        ),
+      ) in
       rw (five-long, whole) at (pieces-together W 0 five (omega arith) (omega (arith, five-long)) s)
 
 pub four : (W : List ℕ) → 4 ≤ length W → part W 0 4 ≡ getD W 0 0 ∷ getD W 1 0 ∷ getD W 2 0 ∷ getD W 3 0 ∷ []

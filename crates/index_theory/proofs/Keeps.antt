@@ -112,7 +112,8 @@ module _ (st : State) (val : Valid st) (e : Entry) (good : GoodEntry (st .variab
         );
       }
     where
-      row : (i : ℕ) → ((i < length (st .labels .rows)) × (map.value (relabel (map.answer (st .labels) (ratioOf e)) (st .labels) (ratioOf e) .rows) i ≡ map.value (st .labels .rows) i)) ⊎ (map.value (relabel (map.answer (st .labels) (ratioOf e)) (st .labels) (ratioOf e) .rows) i ≡ ratioOf e)
+      row : (i : ℕ)
+          → ((i < length (st .labels .rows)) × (map.value (relabel (map.answer (st .labels) (ratioOf e)) (st .labels) (ratioOf e) .rows) i ≡ map.value (st .labels .rows) i)) ⊎ (map.value (relabel (map.answer (st .labels) (ratioOf e)) (st .labels) (ratioOf e) .rows) i ≡ ratioOf e)
           → (j : ℕ) × (j < length (es ++ (x ∷ []))) × (map.value (relabel (map.answer (st .labels) (ratioOf e)) (st .labels) (ratioOf e) .rows) i ≡ ratioOf (entryAt (es ++ (x ∷ [])) j))
       row i (inl (h, q)) = let o = of .1 i h in (o .0, omega (arith, o .1, length-more es x), q ∙ o .2 ∙ rw (entry-old es x (o .0) (o .1)))
       row i (inr q) = (length es, omega (arith, length-more es x), q ∙ rw (entry-new es x))

@@ -174,10 +174,11 @@ module _ (o : Op) (m : ℕ) (a b out : List ℕ) (f : Fine 1 m a b) (space made 
 
 -- the answer that was made aside has its room
 pub record Made (made : List ℕ) (n : ℕ) : Type 0 where
+  pub few : n ≤ 65
   pub room : 4 * n ≤ length made
   pub size : length (take (4 * n) made) ≡ 4 * n
 
 pub made-fits : (space made ans : List ℕ) (n : ℕ) → made ≡ pasteW space 0 ans → length space ≡ 260 → n ≡ length ans → length ans ≤ 65 → Made made n
 made-fits space made ans n e h en l =
     let k : length made ≡ 260 = ap length e ∙ length-pasteW space 0 ans (omega arith) ∙ h in
-    record { room = omega arith; size = length-take-le (4 * n) made (omega arith) }
+    record { few = omega arith; room = omega arith; size = length-take-le (4 * n) made (omega arith) }

@@ -13,12 +13,18 @@ use Rattle.divmask.proofs.field.Lts as lts
 
 -- helpers
 -- the lesser number, and as a count
-lesser : (c : lts.After-row-known reads.Pre reads.Post) → c .before .if1 .least ≡ min ((c .before .before .args .power) * ((c .before .before .args .bits) + 1) - 1) ((c .before .before .args .bits) * (c .before .before .args .maximum))
+lesser : (c : lts.After-row-known reads.Pre reads.Post)
+    → let a = c .before .before .args in
+    c .before .if1 .least ≡ min ((a .power) * ((a .bits) + 1) - 1) ((a .bits) * (a .maximum))
 lesser c = ⊎-elim (λ w. omega arith) (λ w. omega arith) (c .before .if1 .came)
 
-counted : (c : lts.After-row-known reads.Pre reads.Post) → c .before .if1 .least / (c .before .before .args .maximum) ≡ min (c .before .before .args .bits) (most (c .before .before .args .bits) (c .before .before .args .maximum) (c .before .before .args .power))
+counted : (c : lts.After-row-known reads.Pre reads.Post)
+    → let a = c .before .before .args in
+    c .before .if1 .least / (a .maximum) ≡ min (a .bits) (most (a .bits) (a .maximum) (a .power))
 unfolding most
-counted c = ap (λ (n : ℕ). n / (c .before .before .args .maximum)) (lesser c) ∙ least-div ((c .before .before .args .power) * ((c .before .before .args .bits) + 1) - 1) (c .before .before .args .bits) (c .before .before .args .maximum) (c .before .before .pre .0 .1 .0)
+counted c =
+    let a = c .before .before .args in
+    ap (λ (n : ℕ). n / (a .maximum)) (lesser c) ∙ least-div ((a .power) * ((a .bits) + 1) - 1) (a .bits) (a .maximum) (c .before .before .pre .0 .1 .0)
 
 -- end of helpers
 
@@ -52,11 +58,16 @@ shl-result c = omega (arith, counted c, c .before .before .pre .0 .0)
 
 -- src/lib.rt:48:5
 sub-result : tie.Need-sub-result
-sub-result c = omega (arith, ones ((c .before .if1 .least) / (c .before .before .args .maximum)) (omega (arith, counted c)), pow-pos ((c .before .if1 .least) / (c .before .before .args .maximum)))
+sub-result c =
+    let start = c .before .before in
+    omega (arith, ones ((c .before .if1 .least) / (start .args .maximum)) (omega (arith, counted c)), pow-pos ((c .before .if1 .least) / (start .args .maximum)))
 
 -- src/lib.rt:40:1
 returns : tie.Need-returns
-returns c = field-is (c .before .before .args .bits) (c .before .before .args .maximum) (c .before .before .args .power) ((c .before .if1 .least) / (c .before .before .args .maximum)) (c .before .before .pre .0 .0) (c .before .before .pre .0 .1 .0) (c .before .before .pre .1 .0) (counted c)
+returns c =
+    let start = c .before .before in
+    field-is (start .args .bits) (start .args .maximum) (start .args .power) ((c .before .if1 .least) / (start .args .maximum)) (start .pre .0 .0)
+    (start .pre .0 .1 .0) (start .pre .1 .0) (counted c)
 
 pub field-spec : {M : Type 1} → statement M
 field-spec =

@@ -1,3 +1,4 @@
+use mathlib.Core.List.{List}
 use borrow.Author.Needs.{needs}
 use Rattle.monomial.proofs.Firsts.{seen, first-bytes, first-canonical}
 use native.Mathlib.Omega.{arith}
@@ -7,9 +8,9 @@ use Rattle.words.specs.Words.{words}
 use Rattle.words.proofs.Fields.{is-end-true, is-end-false}
 use Rattle.words.proofs.Laws.{length-words}
 use Rattle.monomial.proofs.Walks.{within}
-use Rattle.divmask.proofs.Masks.{mask-small, Mapping, begin, mapped, step, bits-are, stepped}
+use Rattle.divmask.proofs.Masks.{mask-small, Mapping, begin, mapped, step, bits-are, stepped, Step, Stepped}
 use Rattle.monomial.specs.Monomial.{pow, first}
-use Prim.Native.Nat.{_-_}
+use Prim.Native.Nat.{_-_, ℕ}
 use Rattle.divmask.proofs.map.Statement.{statement}
 use Rattle.divmask.proofs.map.Tie as tie
 use Rattle.divmask.proofs.map.Reads as reads
@@ -27,6 +28,35 @@ Inv-loop maxima variables monomial whole extra mask₀ i₀ mask i = Mapping var
 
 abbrev μ-loop : tie.MeasureT-loop
 μ-loop maxima variables monomial whole extra mask₀ i₀ mask i = length (first 1 (words monomial)) - i
+
+-- helpers
+abbrev A : tie.At-loop Inv-loop μ-loop → List ℕ
+A c = first 1 (words (c .before .before .before .args .monomial .now))
+
+abbrev M : tie.At-loop Inv-loop μ-loop → ℕ
+M c = c .before .before .before .args .variables
+
+-- the walk after a field, from bit t on, is added to the mask
+abbrev Added : tie.At-loop Inv-loop μ-loop → ℕ → ℕ → Type 0
+Added c t f = Stepped (M c) (words (c .before .before .before .args .maxima .now)) (A c) (c .loop .i) (c .loop .mask) t f
+
+-- what is known of a variable's word
+abbrev Known : tie.At-loop Inv-loop μ-loop → ℕ → Type 0
+Known c w = Step (M c) (words (c .before .before .before .args .maxima .now)) (A c) (c .loop .i) (c .loop .mask) w
+
+variable : (c : tie.Else1 Inv-loop μ-loop) → Known (c .before .before .before) (c .before .before .get .result)
+variable c =
+    let loop = c .before .before .before .loop in
+    step (loop .inv) (seen _ (loop .inv .ra) (c .before .before .get .ensures)) (is-end-false _ (c .before .is-end .ensures) (c .if1 .left))
+
+stepped-at : (c : tie.After-first-bit Inv-loop μ-loop) → Added (c .before .before .before .before .before .before .before .before .before) (c .first-bit .result) (c .before .field .result)
+stepped-at c =
+    let b = c .before .before .before .before .before .before in
+    let loop = b .before .before .before .loop in
+    stepped (loop .inv) (seen _ (loop .inv .ra) (b .before .before .get .ensures)) (is-end-false _ (b .before .is-end .ensures) (b .if1 .left))
+    (c .before .before .before .before .before .id .ensures) (c .before .before .power .ensures) (c .before .before .before .before .get2 .ensures) (c .before .before .before .bits-of .ensures) (c .before .field .ensures) (c .first-bit .ensures)
+
+-- end of helpers
 
 -- src/lib.rt:57:17
 div-whole : tie.Need-div-whole Inv-loop μ-loop
@@ -50,11 +80,17 @@ is-end-requires c κs = search needs
 
 -- src/lib.rt:64:20
 cast-result : tie.Need-cast-result Inv-loop μ-loop
-cast-result c = let e = mapped (c .before .before .before .loop .inv) (seen _ (c .before .before .before .loop .inv .ra) (c .before .before .get .ensures)) (is-end-true _ (c .before .is-end .ensures) (c .if1 .taken)) in omega (arith, mask-small (c .before .before .before .before .before .before .args .variables) (words (c .before .before .before .before .before .before .args .maxima .now)) (pow 1 (first 1 (words (c .before .before .before .before .before .before .args .monomial .now)))))
+cast-result c =
+    let loop = c .before .before .before .loop in
+    let start = c .before .before .before .before .before .before in
+    let e = mapped (loop .inv) (seen _ (loop .inv .ra) (c .before .before .get .ensures)) (is-end-true _ (c .before .is-end .ensures) (c .if1 .taken)) in
+    omega (arith, mask-small (start .args .variables) (words (start .args .maxima .now)) (pow 1 (first 1 (words (start .args .monomial .now)))))
 
 -- src/lib.rt:64:13
 returns : tie.Need-returns Inv-loop μ-loop
-returns c = mapped (c .before .before .before .loop .inv) (seen _ (c .before .before .before .loop .inv .ra) (c .before .before .get .ensures)) (is-end-true _ (c .before .is-end .ensures) (c .if1 .taken))
+returns c =
+    let loop = c .before .before .before .loop in
+    mapped (loop .inv) (seen _ (loop .inv .ra) (c .before .before .get .ensures)) (is-end-true _ (c .before .is-end .ensures) (c .if1 .taken))
 
 -- src/lib.rt:66:13
 id-requires : tie.Need-id-requires Inv-loop μ-loop
@@ -66,7 +102,10 @@ cast-get c = omega arith
 
 -- src/lib.rt:67:13
 get-requires-2 : tie.Need-get-requires-2 Inv-loop μ-loop
-get-requires-2 c κs = let k = step (c .before .before .before .before .loop .inv) (seen _ (c .before .before .before .before .loop .inv .ra) (c .before .before .before .get .ensures)) (is-end-false _ (c .before .before .is-end .ensures) (c .before .if1 .left)) in omega (arith, c .id .ensures, k .known, length-words (c .before .before .before .before .before .before .before .args .maxima .now), c .before .before .before .before .before .before .before .pre .0 .one-each)
+get-requires-2 c κs =
+    let start = c .before .before .before .before .before .before .before in
+    let k = variable (c .before) in
+    omega (arith, c .id .ensures, k .known, length-words (start .args .maxima .now), start .pre .0 .one-each)
 
 -- src/lib.rt:68:23
 bits-of-requires : tie.Need-bits-of-requires Inv-loop μ-loop
@@ -78,13 +117,32 @@ power-requires c κs = search needs
 
 -- src/lib.rt:68:13
 field-requires : tie.Need-field-requires Inv-loop μ-loop
-field-requires c κs = let k = step (c .before .before .before .before .before .before .before .loop .inv) (seen _ (c .before .before .before .before .before .before .before .loop .inv .ra) (c .before .before .before .before .before .before .get .ensures)) (is-end-false _ (c .before .before .before .before .before .is-end .ensures) (c .before .before .before .before .if1 .left)) in let v = (c .before .before .before .id .result) in let e = bits-are (c .before .before .before .before .before .before .before .before .before .before .args .variables) v (c .before .bits-of .result) (c .before .bits-of .ensures) in
-    let p = (c .before .before .before .before .before .before .before .before .before .before .pre .0) in
-    ((omega (arith, rw (c .before .before .before .id .ensures) at e, k .few), (omega (arith, c .before .before .get2 .ensures, (p .low) v (omega (arith, k .known, c .before .before .before .id .ensures))), omega (arith, c .before .before .get2 .ensures, (p .high) v (omega (arith, k .known, c .before .before .before .id .ensures))))), (omega (arith, c .power .ensures, k .low), omega (arith, c .power .ensures, k .high)))
+field-requires c κs =
+    let get2 = c .before .before .get2 in
+    let id = c .before .before .before .id in
+    let start = c .before .before .before .before .before .before .before .before .before .before in
+    let k = variable (c .before .before .before .before) in
+    let v = (id .result) in
+    let e = bits-are (start .args .variables) v (c .before .bits-of .result) (c .before .bits-of .ensures) in
+    let p = (start .pre .0) in (
+      (
+        omega (arith, rw (id .ensures) at e, k .few),
+        (
+          omega (arith, get2 .ensures, (p .low) v (omega (arith, k .known, id .ensures))),
+          omega (arith, get2 .ensures, (p .high) v (omega (arith, k .known, id .ensures))),
+        ),
+      ),
+      (omega (arith, c .power .ensures, k .low), omega (arith, c .power .ensures, k .high)),
+    )
 
 -- src/lib.rt:69:22
 first-bit-requires : tie.Need-first-bit-requires Inv-loop μ-loop
-first-bit-requires c κs = let k = step (c .before .before .before .before .before .before .before .before .loop .inv) (seen _ (c .before .before .before .before .before .before .before .before .loop .inv .ra) (c .before .before .before .before .before .before .before .get .ensures)) (is-end-false _ (c .before .before .before .before .before .before .is-end .ensures) (c .before .before .before .before .before .if1 .left)) in (div-le-self 32 (c .before .before .before .before .before .before .before .before .before .before .before .args .variables), omega (arith, c .before .before .before .before .id .ensures, k .known, c .before .before .before .before .before .before .before .before .before .before .before .pre .0 .few))
+first-bit-requires c κs =
+    let before = c .before .before .before .before .before in
+    let id = c .before .before .before .before .id in
+    let start = c .before .before .before .before .before .before .before .before .before .before .before in
+    let k = variable before in
+    (div-le-self 32 (start .args .variables), omega (arith, id .ensures, k .known, start .pre .0 .few))
 
 -- src/lib.rt:69:22
 cast-mask : tie.Need-cast-mask Inv-loop μ-loop
@@ -92,15 +150,18 @@ cast-mask c = omega arith
 
 -- src/lib.rt:69:17
 shl-mask : tie.Need-shl-mask Inv-loop μ-loop
-shl-mask c = omega (arith, stepped (c .before .before .before .before .before .before .before .before .before .loop .inv) (seen _ (c .before .before .before .before .before .before .before .before .before .loop .inv .ra) (c .before .before .before .before .before .before .before .before .get .ensures)) (is-end-false _ (c .before .before .before .before .before .before .before .is-end .ensures) (c .before .before .before .before .before .before .if1 .left)) (c .before .before .before .before .before .id .ensures) (c .before .before .power .ensures) (c .before .before .before .before .get2 .ensures) (c .before .before .before .bits-of .ensures) (c .before .field .ensures) (c .first-bit .ensures) .shift)
+shl-mask c = omega (arith, stepped-at (c) .shift)
 
 -- src/lib.rt:69:9
 add-mask : tie.Need-add-mask Inv-loop μ-loop
-add-mask c = omega (arith, stepped (c .before .before .before .before .before .before .before .before .before .loop .inv) (seen _ (c .before .before .before .before .before .before .before .before .before .loop .inv .ra) (c .before .before .before .before .before .before .before .before .get .ensures)) (is-end-false _ (c .before .before .before .before .before .before .before .is-end .ensures) (c .before .before .before .before .before .before .if1 .left)) (c .before .before .before .before .before .id .ensures) (c .before .before .power .ensures) (c .before .before .before .before .get2 .ensures) (c .before .before .before .bits-of .ensures) (c .before .field .ensures) (c .first-bit .ensures) .fits)
+add-mask c = omega (arith, stepped-at (c) .fits)
 
 -- src/lib.rt:70:9
 add-i : tie.Need-add-i Inv-loop μ-loop
-add-i c = omega (arith, first-bytes 1 (c .before .before .before .before .before .before .before .before .before .before .before .before .args .monomial .now), within (c .before .before .before .before .before .before .before .before .before .loop .inv .ra))
+add-i c =
+    let b9 = c .before .before .before .before .before .before .before .before .before in
+    let start = b9 .before .before .before in
+    omega (arith, first-bytes 1 (start .args .monomial .now), within (b9 .loop .inv .ra))
 
 -- src/lib.rt:61:5
 loop-less : tie.Need-loop-less Inv-loop μ-loop
@@ -108,7 +169,7 @@ loop-less c = omega (arith, within (c .before .before .before .before .before .b
 
 -- src/lib.rt:61:5
 loop-again : tie.Need-loop-again Inv-loop μ-loop
-loop-again c = stepped (c .before .before .before .before .before .before .before .before .before .loop .inv) (seen _ (c .before .before .before .before .before .before .before .before .before .loop .inv .ra) (c .before .before .before .before .before .before .before .before .get .ensures)) (is-end-false _ (c .before .before .before .before .before .before .before .is-end .ensures) (c .before .before .before .before .before .before .if1 .left)) (c .before .before .before .before .before .id .ensures) (c .before .before .power .ensures) (c .before .before .before .before .get2 .ensures) (c .before .before .before .bits-of .ensures) (c .before .field .ensures) (c .first-bit .ensures) .rest
+loop-again c = stepped-at (c) .rest
 
 pub map-spec : {M : Type 1} → statement M
 map-spec =

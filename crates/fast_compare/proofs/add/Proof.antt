@@ -33,15 +33,23 @@ same-length c = search needs
 
 -- src/lib.rt:181:9
 returns : tie.Need-returns
-returns c = λ st i e. gave-full (c .before .before .before .before .before .before .before .args .map .now) st (valueOf (c .before .before .before .before .before .before .before .args .index) (words (c .before .before .before .before .before .before .before .args .ratio .now))) (λ j. (c .before .before .before .before .before .before .slice-known .given) j .fits) i (c .before .before .before .before .before .before .before .args .p) e (omega (arith, c .before .before .before .get .ensures, (c .before .count .ensures .1) st i, cap-of (c .before .before .before .before .before .before .before .args .map .now) st i))
+returns c =
+    let slice-known = c .before .before .before .before .before .before .slice-known in
+    let start = c .before .before .before .before .before .before .before in
+    λ st i e. gave-full (start .args .map .now) st (valueOf (start .args .index) (words (start .args .ratio .now))) (λ j. (slice-known .given) j .fits) i
+    (start .args .p) e (omega (arith, c .before .before .before .get .ensures, (c .before .count .ensures .1) st i, cap-of (start .args .map .now) st i))
 
 -- src/lib.rt:183:9
 lowest-requires : tie.Need-lowest-requires
-lowest-requires c κs = (c .before .before .before .before .before .before .before .before .pre .0, c .before .before .before .before .before .before .before .before .pre .1 .1)
+lowest-requires c κs =
+    let start = c .before .before .before .before .before .before .before .before in
+    (start .pre .0, start .pre .1 .1)
 
 -- src/lib.rt:184:9
 highest-requires : tie.Need-highest-requires
-highest-requires c κs = (c .before .before .before .before .before .before .before .before .before .before .pre .0, c .before .before .before .before .before .before .before .before .before .before .pre .1 .1)
+highest-requires c κs =
+    let start = c .before .before .before .before .before .before .before .before .before .before in
+    (start .pre .0, start .pre .1 .1)
 
 -- src/lib.rt:186:9
 same-length-2 : tie.Need-same-length-2
@@ -49,8 +57,17 @@ same-length-2 c = search needs
 
 -- src/lib.rt:186:9
 returns-2 : tie.Need-returns-2
-returns-2 c = λ st i e. let z = before-place st (valueOf (c .before .before .before .before .before .before .before .before .before .before .before .before .args .index) (words (c .before .before .before .before .before .before .before .before .before .before .before .before .args .ratio .now))) (c .before .before .before .before .before .before .before .before .before .before .before .before .args .p) e in
-    gave-none (c .before .before .before .before .before .before .before .before .before .before .before .before .args .map .now) st (valueOf (c .before .before .before .before .before .before .before .before .before .before .before .before .args .index) (words (c .before .before .before .before .before .before .before .before .before .before .before .before .args .ratio .now))) (λ j. (c .before .before .before .before .before .before .before .before .before .before .before .slice-known .given) j .fits) i (c .before .before .before .before .before .before .before .before .before .before .before .before .args .p) (c .before .before .before .lowest .result) (c .before .highest .result) e (omega (arith, c .before .before .before .before .before .before .before .before .get .ensures, (c .before .before .before .before .before .before .count .ensures .1) st i, cap-of (c .before .before .before .before .before .before .before .before .before .before .before .before .args .map .now) st i)) ((c .before .before .before .lowest .ensures .1) st i (valueOf (c .before .before .before .before .before .before .before .before .before .before .before .before .args .index) (words (c .before .before .before .before .before .before .before .before .before .before .before .before .args .ratio .now))) (z .place-is)) ((c .before .highest .ensures .1) st i (valueOf (c .before .before .before .before .before .before .before .before .before .before .before .before .args .index) (words (c .before .before .before .before .before .before .before .before .before .before .before .before .args .ratio .now))) (z .place-is) (z .is)) (c .if2 .taken)
+returns-2 c =
+    let lowest = c .before .before .before .lowest in
+    let count = c .before .before .before .before .before .before .count in
+    let b8 = c .before .before .before .before .before .before .before .before in
+    let slice-known = b8 .before .before .before .slice-known in
+    let start = b8 .before .before .before .before in
+    λ st i e. let z = before-place st (valueOf (start .args .index) (words (start .args .ratio .now))) (start .args .p) e in
+    gave-none (start .args .map .now) st (valueOf (start .args .index) (words (start .args .ratio .now))) (λ j. (slice-known .given) j .fits) i (start .args .p)
+    (lowest .result) (c .before .highest .result) e (omega (arith, b8 .get .ensures, (count .ensures .1) st i, cap-of (start .args .map .now) st i))
+    ((lowest .ensures .1) st i (valueOf (start .args .index) (words (start .args .ratio .now))) (z .place-is))
+    ((c .before .highest .ensures .1) st i (valueOf (start .args .index) (words (start .args .ratio .now))) (z .place-is) (z .is)) (c .if2 .taken)
 
 -- src/lib.rt:188:19
 add-label : tie.Need-add-label
@@ -66,7 +83,11 @@ cast-label c = search needs
 
 -- src/lib.rt:189:5
 store-requires : tie.Need-store-requires
-store-requires c κs = (c .before .before .before .before .before .before .before .before .before .before .before .before .before .pre .0, (c .before .before .before .before .before .before .before .before .before .before .before .before .before .pre .1 .0, (c .before .before .before .before .before .before .before .before .before .before .before .before .before .pre .1 .1, omega (arith, c .before .before .before .before .before .before .before .before .before .get .ensures, c .before .before .before .before .before .before .before .count .ensures .0))))
+store-requires c κs =
+    let b7 = c .before .before .before .before .before .before .before in
+    let get = b7 .before .before .get in
+    let start = b7 .before .before .before .before .before .before in
+    (start .pre .0, (start .pre .1 .0, (start .pre .1 .1, omega (arith, get .ensures, b7 .count .ensures .0))))
 
 -- src/lib.rt:174:1
 same-length-3 : tie.Need-same-length-3
@@ -74,8 +95,23 @@ same-length-3 c = search needs
 
 -- src/lib.rt:174:1
 returns-3 : tie.Need-returns-3
-returns-3 c = λ st i e. let z = before-place st (valueOf (c .before .before .before .before .before .before .before .before .before .before .before .before .before .before .before .before .args .index) (words (c .before .before .before .before .before .before .before .before .before .before .before .before .before .before .before .before .args .ratio .now))) (c .before .before .before .before .before .before .before .before .before .before .before .before .before .before .before .before .args .p) e in
-    gave-new (c .before .before .before .before .before .before .before .before .before .before .before .before .before .before .before .before .args .map .now) st (valueOf (c .before .before .before .before .before .before .before .before .before .before .before .before .before .before .before .before .args .index) (words (c .before .before .before .before .before .before .before .before .before .before .before .before .before .before .before .before .args .ratio .now))) (λ j. (c .before .before .before .before .before .before .before .before .before .before .before .before .before .before .before .slice-known .given) j .fits) i (c .before .before .before .before .before .before .before .before .before .before .before .before .before .before .before .before .args .p) (c .before .before .before .before .before .before .before .lowest .result) (c .before .before .before .before .before .highest .result) (c .before .before .store .last .0) e (omega (arith, c .before .before .before .before .before .before .before .before .before .before .before .before .get .ensures, (c .before .before .before .before .before .before .before .before .before .before .count .ensures .1) st i, cap-of (c .before .before .before .before .before .before .before .before .before .before .before .before .before .before .before .before .args .map .now) st i)) ((c .before .before .before .before .before .before .before .lowest .ensures .1) st i (valueOf (c .before .before .before .before .before .before .before .before .before .before .before .before .before .before .before .before .args .index) (words (c .before .before .before .before .before .before .before .before .before .before .before .before .before .before .before .before .args .ratio .now))) (z .place-is)) ((c .before .before .before .before .before .highest .ensures .1) st i (valueOf (c .before .before .before .before .before .before .before .before .before .before .before .before .before .before .before .before .args .index) (words (c .before .before .before .before .before .before .before .before .before .before .before .before .before .before .before .before .args .ratio .now))) (z .place-is) (z .is)) (c .before .before .before .before .if2 .left) ((c .before .before .store .ensures) st i (z .place-is))
+returns-3 c =
+    let store = c .before .before .store in
+    let if2 = c .before .before .before .before .if2 in
+    let highest = c .before .before .before .before .before .highest in
+    let b7 = c .before .before .before .before .before .before .before in
+    let lowest = b7 .lowest in
+    let count = b7 .before .before .before .count in
+    let get = b7 .before .before .before .before .before .get in
+    let b15 = b7 .before .before .before .before .before .before .before .before in
+    let start = b15 .before in
+    λ st i e. let z = before-place st (valueOf (start .args .index) (words (start .args .ratio .now))) (start .args .p) e in
+    gave-new (start .args .map .now) st (valueOf (start .args .index) (words (start .args .ratio .now))) (λ j. (b15 .slice-known .given) j .fits) i
+    (start .args .p) (lowest .result) (highest .result) (store .last .0) e
+    (omega (arith, get .ensures, (count .ensures .1) st i, cap-of (start .args .map .now) st i))
+    ((lowest .ensures .1) st i (valueOf (start .args .index) (words (start .args .ratio .now))) (z .place-is))
+    ((highest .ensures .1) st i (valueOf (start .args .index) (words (start .args .ratio .now))) (z .place-is) (z .is)) (if2 .left)
+    ((store .ensures) st i (z .place-is))
 
 pub add-spec : {M : Type 1} → statement M
 add-spec =

@@ -46,14 +46,19 @@ add-compare-at-2 c = omega (arith, facts (c .before .before .before) (c .get .re
 
 -- src/lib.rt:94:5
 compare-at-requires : tie.Need-compare-at-requires
-compare-at-requires c κs = (rw (c .get .ensures) (has-ratio (c .before .before .before .args .map .now) (c .before .before .before .pre .0) (c .before .before .before .args .row) (c .before .before .before .pre .1 .0)), starts-whole (c .before .before .before .pre .1 .1))
+compare-at-requires c κs =
+    let start = c .before .before .before in
+    (rw (c .get .ensures) (has-ratio (start .args .map .now) (start .pre .0) (start .args .row) (start .pre .1 .0)), starts-whole (start .pre .1 .1))
 
 -- src/lib.rt:87:1
 returns : tie.Need-returns
-returns c = λ st i. let l : (c .before .before .before .before .args .row) < length (st .rows) = omega (arith, c .before .before .before .before .pre .1 .0, count-of (c .before .before .before .before .args .map .now) st i) in
-    let z = rw (c .before .get .ensures, first-whole (c .before .before .before .before .pre .1 .1)) at (c .compare-at .ensures) in
-    let q = valueOf (c .before .before .before .before .args .index) (words (c .before .before .before .before .args .ratio .now)) in
-    z (getD (words (c .before .before .before .before .args .map .now)) 1 0) (ratio-of (c .before .before .before .before .args .map .now) st i (c .before .before .before .before .args .row) l) ∙ ap (λ (x : Value). cmp x q) (value-of (c .before .before .before .before .args .map .now) st i (c .before .before .before .before .args .row) l)
+returns c =
+    let start = c .before .before .before .before in
+    λ st i. let l : (start .args .row) < length (st .rows) = omega (arith, start .pre .1 .0, count-of (start .args .map .now) st i) in
+    let z = rw (c .before .get .ensures, first-whole (start .pre .1 .1)) at (c .compare-at .ensures) in
+    let q = valueOf (start .args .index) (words (start .args .ratio .now)) in
+    z (getD (words (start .args .map .now)) 1 0) (ratio-of (start .args .map .now) st i (start .args .row) l) ∙ ap (λ (x : Value). cmp x q)
+    (value-of (start .args .map .now) st i (start .args .row) l)
 
 pub compare-spec : {M : Type 1} → statement M
 compare-spec =

@@ -28,11 +28,31 @@ enum-known-place c = search needs
 
 -- src/lib.rt:202:17
 row-at-requires : tie.Need-row-at-requires
-row-at-requires c κs = (c .before .before .before .before .before .before .before .before .pre .0, omega (arith, known-row (c .before .before .before .before .before .before .before .before .pre .0 .state) (valueOf (c .before .before .before .before .before .before .before .before .args .index) (words (c .before .before .before .before .before .before .before .before .args .ratio .now))) ((c .before .before .before .before .before .before .before .before .pre .0 .is) .valid) (c .before .before .place .given .0 .0) (at-place (c .before .before .before .before .before .before .before .before .pre .0 .state) (valueOf (c .before .before .before .before .before .before .before .before .args .index) (words (c .before .before .before .before .before .before .before .before .args .ratio .now))) (c .before .before .place .given .0 .0) (sym (c .before .before .place .given .1) ∙ (c .before .before .before .before .search .ensures) (c .before .before .before .before .before .before .before .before .pre .0 .state) (c .before .before .before .before .before .before .before .before .pre .0 .is))) .0, count-of (c .before .before .before .before .before .before .before .before .args .map .now) (c .before .before .before .before .before .before .before .before .pre .0 .state) (c .before .before .before .before .before .before .before .before .pre .0 .is)))
+row-at-requires c κs =
+    let place = c .before .before .place in
+    let search = c .before .before .before .before .search in
+    let start = c .before .before .before .before .before .before .before .before in (
+      start .pre .0,
+      omega (
+        arith,
+        known-row (start .pre .0 .state) (valueOf (start .args .index) (words (start .args .ratio .now))) ((start .pre .0 .is) .valid)
+            (place .given .0 .0) (at-place (start .pre .0 .state) (valueOf (start .args .index) (words (start .args .ratio .now))) (place .given .0 .0)
+            (sym (place .given .1) ∙ (search .ensures) (start .pre .0 .state) (start .pre .0 .is))) .0,
+        count-of (start .args .map .now) (start .pre .0 .state) (start .pre .0 .is),
+      ),
+    )
 
 -- src/lib.rt:203:29
 label-requires : tie.Need-label-requires
-label-requires c κs = (c .before .before .before .before .before .before .before .before .before .before .pre .0, omega (arith, (c .before .row-at .ensures) (c .before .before .before .before .before .before .before .before .before .before .pre .0 .state) (c .before .before .before .before .before .before .before .before .before .before .pre .0 .is) .0, count-of (c .before .before .before .before .before .before .before .before .before .before .args .map .now) (c .before .before .before .before .before .before .before .before .before .before .pre .0 .state) (c .before .before .before .before .before .before .before .before .before .before .pre .0 .is)))
+label-requires c κs =
+    let start = c .before .before .before .before .before .before .before .before .before .before in (
+      start .pre .0,
+      omega (
+        arith,
+        (c .before .row-at .ensures) (start .pre .0 .state) (start .pre .0 .is) .0,
+        count-of (start .args .map .now) (start .pre .0 .state) (start .pre .0 .is),
+      ),
+    )
 
 -- src/lib.rt:205:23
 enum-known-place-2 : tie.Need-enum-known-place-2
@@ -40,7 +60,22 @@ enum-known-place-2 c = search needs
 
 -- src/lib.rt:205:29
 add-requires : tie.Need-add-requires
-add-requires c κs = (c .before .before .before .before .before .before .before .before .pre .0, (c .before .before .before .before .before .before .before .before .pre .1, omega (arith, place-few (c .before .before .before .before .before .before .before .before .pre .0 .state) (valueOf (c .before .before .before .before .before .before .before .before .args .index) (words (c .before .before .before .before .before .before .before .before .args .ratio .now))) ((c .before .before .before .before .before .before .before .before .pre .0 .is) .valid) (c .before .before .place2 .given .0 .0) (before-place (c .before .before .before .before .before .before .before .before .pre .0 .state) (valueOf (c .before .before .before .before .before .before .before .before .args .index) (words (c .before .before .before .before .before .before .before .before .args .ratio .now))) (c .before .before .place2 .given .0 .0) (sym (c .before .before .place2 .given .1) ∙ (c .before .before .before .before .search .ensures) (c .before .before .before .before .before .before .before .before .pre .0 .state) (c .before .before .before .before .before .before .before .before .pre .0 .is)) .place-is), count-of (c .before .before .before .before .before .before .before .before .args .map .now) (c .before .before .before .before .before .before .before .before .pre .0 .state) (c .before .before .before .before .before .before .before .before .pre .0 .is))))
+add-requires c κs =
+    let place2 = c .before .before .place2 in
+    let search = c .before .before .before .before .search in
+    let start = c .before .before .before .before .before .before .before .before in (
+      start .pre .0,
+      (
+        start .pre .1,
+        omega (
+          arith,
+          place-few (start .pre .0 .state) (valueOf (start .args .index) (words (start .args .ratio .now)))
+              ((start .pre .0 .is) .valid) (place2 .given .0 .0) (before-place (start .pre .0 .state) (valueOf (start .args .index) (words (start .args .ratio .now)))
+              (place2 .given .0 .0) (sym (place2 .given .1) ∙ (search .ensures) (start .pre .0 .state) (start .pre .0 .is)) .place-is),
+          count-of (start .args .map .now) (start .pre .0 .state) (start .pre .0 .is),
+        ),
+      ),
+    )
 
 -- src/lib.rt:194:1
 same-length : tie.Need-same-length
@@ -48,7 +83,14 @@ same-length c = search needs
 
 -- src/lib.rt:194:1
 returns : tie.Need-returns
-returns c = λ st i. gave-known (c .before .before .before .before .before .before .before .before .before .before .before .args .map .now) st (valueOf (c .before .before .before .before .before .before .before .before .before .before .before .args .index) (words (c .before .before .before .before .before .before .before .before .before .before .before .args .ratio .now))) (λ j. (c .before .before .before .before .before .before .before .before .before .before .slice-known .given) j .fits) i (c .before .before .before .before .before .place .given .0 .0) (c .label .result) (sym (c .before .before .before .before .before .place .given .1) ∙ (c .before .before .before .before .before .before .before .search .ensures) st i) ((c .label .ensures) st i ∙ ap (Map.label (st .rows)) ((c .before .before .row-at .ensures) st i .1))
+returns c =
+    let place = c .before .before .before .before .before .place in
+    let b7 = c .before .before .before .before .before .before .before in
+    let slice-known = b7 .before .before .before .slice-known in
+    let start = b7 .before .before .before .before in
+    λ st i. gave-known (start .args .map .now) st (valueOf (start .args .index) (words (start .args .ratio .now))) (λ j. (slice-known .given) j .fits) i
+    (place .given .0 .0) (c .label .result) (sym (place .given .1) ∙ (b7 .search .ensures) st i)
+    ((c .label .ensures) st i ∙ ap (Map.label (st .rows)) ((c .before .before .row-at .ensures) st i .1))
 
 -- src/lib.rt:194:1
 same-length-2 : tie.Need-same-length-2
@@ -56,7 +98,10 @@ same-length-2 c = search needs
 
 -- src/lib.rt:194:1
 returns-2 : tie.Need-returns-2
-returns-2 c = λ st i. (c .before .before .add .ensures) st i (sym (c .before .before .before .before .before .place2 .given .1) ∙ (c .before .before .before .before .before .before .before .search .ensures) st i)
+returns-2 c =
+    let place2 = c .before .before .before .before .before .place2 in
+    let b7 = c .before .before .before .before .before .before .before in
+    λ st i. (c .before .before .add .ensures) st i (sym (place2 .given .1) ∙ (b7 .search .ensures) st i)
 
 pub get-comparer-spec : {M : Type 1} → statement M
 get-comparer-spec =

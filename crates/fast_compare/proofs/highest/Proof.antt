@@ -27,7 +27,15 @@ row-at-requires c κs = (c .before .before .before .pre .0, omega (arith, c .bef
 
 -- src/lib.rt:151:5
 label-requires : tie.Need-label-requires
-label-requires c κs = (c .before .before .before .before .pre .0, omega (arith, (c .row-at .ensures) (c .before .before .before .before .pre .0 .state) (c .before .before .before .before .pre .0 .is) .0, count-of (c .before .before .before .before .args .map .now) (c .before .before .before .before .pre .0 .state) (c .before .before .before .before .pre .0 .is)))
+label-requires c κs =
+    let start = c .before .before .before .before in (
+      start .pre .0,
+      omega (
+        arith,
+        (c .row-at .ensures) (start .pre .0 .state) (start .pre .0 .is) .0,
+        count-of (start .args .map .now) (start .pre .0 .state) (start .pre .0 .is),
+      ),
+    )
 
 -- src/lib.rt:151:5
 cast-result : tie.Need-cast-result
@@ -35,7 +43,12 @@ cast-result c = search needs
 
 -- src/lib.rt:141:1
 returns-2 : tie.Need-returns-2
-returns-2 c = (omega (arith, c .label .ok), λ st i q e k. (c .label .ensures) st i ∙ ap (Map.label (st .rows)) ((c .before .row-at .ensures) st i .1) ∙ highest-at st q (i .valid) k (c .before .before .before .before .before .args .p) e (λ z. (c .before .before .if1 .left) (z ∙ sym ((c .before .before .before .count .ensures .1) st i))))
+returns-2 c =
+    let start = c .before .before .before .before .before in (
+      omega (arith, c .label .ok),
+      λ st i q e k. (c .label .ensures) st i ∙ ap (Map.label (st .rows)) ((c .before .row-at .ensures) st i .1) ∙ highest-at st q
+          (i .valid) k (start .args .p) e (λ z. (c .before .before .if1 .left) (z ∙ sym ((c .before .before .before .count .ensures .1) st i))),
+    )
 
 pub highest-spec : {M : Type 1} → statement M
 highest-spec =

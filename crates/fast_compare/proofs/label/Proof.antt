@@ -56,7 +56,10 @@ get-requires-2 c κs = omega (arith, facts (c .before .before) (c .get .result) 
 
 -- src/lib.rt:77:1
 returns : tie.Need-returns
-returns c = λ st i. (c .get2 .ensures) ∙ rw (c .before .get .ensures) (label-of (c .before .before .before .args .map .now) st i (c .before .before .before .args .row) (omega (arith, c .before .before .before .pre .1, count-of (c .before .before .before .args .map .now) st i)))
+returns c =
+    let start = c .before .before .before in
+    λ st i. (c .get2 .ensures) ∙ rw (c .before .get .ensures) (label-of (start .args .map .now) st i (start .args .row)
+    (omega (arith, start .pre .1, count-of (start .args .map .now) st i)))
 
 pub label-spec : {M : Type 1} → statement M
 label-spec =

@@ -26,7 +26,15 @@ row-at-requires c κs = (c .before .before .pre .0, omega arith)
 
 -- src/lib.rt:137:5
 label-requires : tie.Need-label-requires
-label-requires c κs = (c .before .before .before .pre .0, omega (arith, (c .row-at .ensures) (c .before .before .before .pre .0 .state) (c .before .before .before .pre .0 .is) .0, count-of (c .before .before .before .args .map .now) (c .before .before .before .pre .0 .state) (c .before .before .before .pre .0 .is)))
+label-requires c κs =
+    let start = c .before .before .before in (
+      start .pre .0,
+      omega (
+        arith,
+        (c .row-at .ensures) (start .pre .0 .state) (start .pre .0 .is) .0,
+        count-of (start .args .map .now) (start .pre .0 .state) (start .pre .0 .is),
+      ),
+    )
 
 -- src/lib.rt:137:5
 cast-result : tie.Need-cast-result
@@ -38,7 +46,12 @@ add-result c = search needs
 
 -- src/lib.rt:127:1
 returns-2 : tie.Need-returns-2
-returns-2 c = (omega (arith, c .label .ok), λ st i q e. ap (λ (x : ℕ). x + 1) ((c .label .ensures) st i ∙ ap (Map.label (st .rows)) ((c .before .row-at .ensures) st i .1)) ∙ lowest-at st q (i .valid) (c .before .before .before .before .args .p) e (c .before .before .if1 .left))
+returns-2 c =
+    let start = c .before .before .before .before in (
+      omega (arith, c .label .ok),
+      λ st i q e. ap (λ (x : ℕ). x + 1) ((c .label .ensures) st i ∙ ap (Map.label (st .rows))
+          ((c .before .row-at .ensures) st i .1)) ∙ lowest-at st q (i .valid) (start .args .p) e (c .before .before .if1 .left),
+    )
 
 pub lowest-spec : {M : Type 1} → statement M
 lowest-spec =

@@ -53,7 +53,15 @@ same-length c = search needs
 
 -- src/lib.rt:236:1
 returns : tie.Need-returns
-returns c = opened (c .before .before .before .before .before .before .before .before .before .before .before .before .before .before .before .before .before .args .map .now) (c .before .before .before .before .before .before .before .before .before .before .before .before .before .before .put .last .0) (c .before .before .before .before .before .before .before .before .before .before .put2 .last .0) (c .before .before .before .before .before .before .put3 .last .0) (c .before .before .clear .last .0) (c .before .before .before .before .before .before .before .before .before .before .before .before .before .before .before .before .before .args .variables) (c .before .before .before .before .before .before .before .before .before .before .before .before .before .before .before .before .before .args .capacity) (c .before .before .before .before .before .before .before .before .before .before .before .before .before .before .before .before .before .pre .1) (c .before .before .before .before .before .before .before .before .before .before .before .before .before .before .put .ensures) (c .before .before .before .before .before .before .before .before .before .before .put2 .ensures) (c .before .before .before .before .before .before .put3 .ensures) (c .before .before .clear .ensures)
+returns c =
+    let clear = c .before .before .clear in
+    let put3 = c .before .before .before .before .before .before .put3 in
+    let b10 = c .before .before .before .before .before .before .before .before .before .before in
+    let put2 = b10 .put2 in
+    let put = b10 .before .before .before .before .put in
+    let start = b10 .before .before .before .before .before .before .before in
+    opened (start .args .map .now) (put .last .0) (put2 .last .0) (put3 .last .0) (clear .last .0) (start .args .variables) (start .args .capacity)
+    (start .pre .1) (put .ensures) (put2 .ensures) (put3 .ensures) (clear .ensures)
 
 pub open-spec : {M : Type 1} → statement M
 open-spec =

@@ -1,10 +1,11 @@
+use lib.ListN.{length}
 use native.Mathlib.Omega.{arith}
 use borrow.Author.Needs.{needs}
 use mathlib.Core.Path.{_≡_}
 use Prim.Native.Nat.{ℕ, _+_, _-_, _*_, _≤_}
 use Rattle.fast_compare.proofs.Rising.{spaced-top}
-use Rattle.fast_compare.proofs.Reading.{Head, head}
-use Rattle.fast_compare.proofs.Respacing.{Respacing, respace-start, respace-end, spot, respace-more}
+use Rattle.fast_compare.proofs.Reading.{Head, head, HeadOf}
+use Rattle.fast_compare.proofs.Respacing.{Respacing, respace-start, respace-end, spot, respace-more, Spot}
 use Rattle.fast_compare.proofs.rebuild.Statement.{statement}
 use Rattle.fast_compare.proofs.rebuild.Tie as tie
 use Rattle.fast_compare.proofs.rebuild.Reads as reads
@@ -27,8 +28,24 @@ record Fit (len v k n : ℕ) : Type 0 where
   rows : k * (v + 3) ≤ 274432
   room : 16 + 4 * (k * (v + 3)) + 4 * k ≤ len
 
-fit : (len v k n a b c : ℕ) → v ≡ a → k ≡ b → n ≡ c → Head len a b c → Fit len v k n
-fit len v k n a b c ev ek en h = rw (ev, ek, en) (record { vars = h .vars; cap = h .cap; few = h .few; rows = h .rows; room = h .room })
+-- the numbers of the header
+fit-at : (c : tie.After-get3 Inv-loop μ-loop)
+    → Fit (length (c .before .before .before .before .before .before .before .args .map .now)) (c .before .before .before .before .get .result) (c .before .before .get2 .result) (c .get3 .result)
+fit-at c =
+    let s = c .before .before .before .before .before .before .before in
+    let h : HeadOf (s .args .map .now) = head (s .args .map .now) (s .pre) in
+    rw (c .before .before .before .before .get .ensures, c .before .before .get2 .ensures, c .get3 .ensures) (record { vars = h .vars; cap = h .cap; few = h .few; rows = h .rows; room = h .room })
+
+-- the row at place k
+spot-at : (c : tie.After-get4 Inv-loop μ-loop)
+    → Spot (c .before .before .before .before .before .before .before .before .before .before .before .args .map .now)
+    (c .before .before .before .before .before .before .before .before .get .result) (c .before .before .before .before .before .before .get2 .result) (c .get4 .result)
+spot-at c =
+    let l = c .before .before .before .loop in
+    let s = c .before .before .before .before .before .before .before .before .before .before .before in
+    let e = c .before .before .before .before .get3 in
+    spot (s .args .map .now) (l .map) (l .k) (l .inv) (s .pre) (omega (arith, e .ensures)) _ _ (e .result) _
+    (c .before .before .before .before .before .before .before .before .get .ensures) (c .before .before .before .before .before .before .get2 .ensures) (e .ensures) (c .get4 .ensures)
 
 -- end of helpers
 
@@ -50,7 +67,9 @@ cast-capacity c = search needs
 
 -- src/lib.rt:224:13
 get-requires-3 : tie.Need-get-requires-3 Inv-loop μ-loop
-get-requires-3 c κs = omega (arith, head (c .before .before .before .before .before .before .args .map .now) (c .before .before .before .before .before .before .pre) .room)
+get-requires-3 c κs =
+    let start = c .before .before .before .before .before .before in
+    omega (arith, head (start .args .map .now) (start .pre) .room)
 
 -- src/lib.rt:224:13
 cast-n : tie.Need-cast-n Inv-loop μ-loop
@@ -62,23 +81,26 @@ add-order c = search needs
 
 -- src/lib.rt:225:21
 mul-order : tie.Need-mul-order Inv-loop μ-loop
-mul-order c = let f = fit _ (c .before .before .before .before .get .result) (c .before .before .get2 .result) (c .get3 .result) _ _ _ (c .before .before .before .before .get .ensures) (c .before .before .get2 .ensures) (c .get3 .ensures) (head (c .before .before .before .before .before .before .before .args .map .now) (c .before .before .before .before .before .before .before .pre)) in omega (arith, f .rows)
+mul-order c = let f = fit-at (c) in omega (arith, f .rows)
 
 -- src/lib.rt:225:17
 add-order-2 : tie.Need-add-order-2 Inv-loop μ-loop
-add-order-2 c = let f = fit _ (c .before .before .before .before .get .result) (c .before .before .get2 .result) (c .get3 .result) _ _ _ (c .before .before .before .before .get .ensures) (c .before .before .get2 .ensures) (c .get3 .ensures) (head (c .before .before .before .before .before .before .before .args .map .now) (c .before .before .before .before .before .before .before .pre)) in omega (arith, f .rows)
+add-order-2 c = let f = fit-at (c) in omega (arith, f .rows)
 
 -- src/lib.rt:227:5
 loop-holds : tie.Need-loop-holds Inv-loop μ-loop
-loop-holds c = respace-start (c .before .before .before .before .before .before .before .args .map .now) (λ j. (c .before .before .before .before .before .before .slice-known .given) j .fits)
+loop-holds c =
+    let slice-known = c .before .before .before .before .before .before .slice-known in
+    let start = c .before .before .before .before .before .before .before in
+    respace-start (start .args .map .now) (λ j. (slice-known .given) j .fits)
 
 -- src/lib.rt:228:35
 add-get : tie.Need-add-get Inv-loop μ-loop
-add-get c = let f = fit _ (c .before .before .before .before .before .before .before .get .result) (c .before .before .before .before .before .get2 .result) (c .before .before .before .get3 .result) _ _ _ (c .before .before .before .before .before .before .before .get .ensures) (c .before .before .before .before .before .get2 .ensures) (c .before .before .before .get3 .ensures) (head (c .before .before .before .before .before .before .before .before .before .before .args .map .now) (c .before .before .before .before .before .before .before .before .before .before .pre)) in omega (arith, f .rows, f .few, f .cap)
+add-get c = let f = fit-at (c .before .before .before) in omega (arith, f .rows, f .few, f .cap)
 
 -- src/lib.rt:228:19
 get-requires-4 : tie.Need-get-requires-4 Inv-loop μ-loop
-get-requires-4 c κs = let f = fit _ (c .before .before .before .before .before .before .before .get .result) (c .before .before .before .before .before .get2 .result) (c .before .before .before .get3 .result) _ _ _ (c .before .before .before .before .before .before .before .get .ensures) (c .before .before .before .before .before .get2 .ensures) (c .before .before .before .get3 .ensures) (head (c .before .before .before .before .before .before .before .before .before .before .args .map .now) (c .before .before .before .before .before .before .before .before .before .before .pre)) in omega (arith, f .room, f .few, c .before .before .loop .inv .long)
+get-requires-4 c κs = let f = fit-at (c .before .before .before) in omega (arith, f .room, f .few, c .before .before .loop .inv .long)
 
 -- src/lib.rt:228:19
 cast-row : tie.Need-cast-row Inv-loop μ-loop
@@ -86,11 +108,11 @@ cast-row c = search needs
 
 -- src/lib.rt:229:31
 add-spaced : tie.Need-add-spaced Inv-loop μ-loop
-add-spaced c = let f = fit _ (c .before .before .before .before .before .before .before .before .get .result) (c .before .before .before .before .before .before .get2 .result) (c .before .before .before .before .get3 .result) _ _ _ (c .before .before .before .before .before .before .before .before .get .ensures) (c .before .before .before .before .before .before .get2 .ensures) (c .before .before .before .before .get3 .ensures) (head (c .before .before .before .before .before .before .before .before .before .before .before .args .map .now) (c .before .before .before .before .before .before .before .before .before .before .before .pre)) in omega (arith, f .few, f .cap)
+add-spaced c = let f = fit-at (c .before .before .before .before) in omega (arith, f .few, f .cap)
 
 -- src/lib.rt:229:13
 spaced-requires : tie.Need-spaced-requires Inv-loop μ-loop
-spaced-requires c κs = let f = fit _ (c .before .before .before .before .before .before .before .before .get .result) (c .before .before .before .before .before .before .get2 .result) (c .before .before .before .before .get3 .result) _ _ _ (c .before .before .before .before .before .before .before .before .get .ensures) (c .before .before .before .before .before .before .get2 .ensures) (c .before .before .before .before .get3 .ensures) (head (c .before .before .before .before .before .before .before .before .before .before .before .args .map .now) (c .before .before .before .before .before .before .before .before .before .before .before .pre)) in (omega arith, omega (arith, f .few, f .cap))
+spaced-requires c κs = let f = fit-at (c .before .before .before .before) in (omega arith, omega (arith, f .few, f .cap))
 
 -- src/lib.rt:230:36
 add-put : tie.Need-add-put Inv-loop μ-loop
@@ -98,27 +120,27 @@ add-put c = search needs
 
 -- src/lib.rt:230:29
 mul-put : tie.Need-mul-put Inv-loop μ-loop
-mul-put c = let s = spot (c .before .before .before .before .before .before .before .before .before .before .before .before .before .args .map .now) (c .before .before .before .before .before .loop .map) (c .before .before .before .before .before .loop .k) (c .before .before .before .before .before .loop .inv) (c .before .before .before .before .before .before .before .before .before .before .before .before .before .pre) (omega (arith, c .before .before .before .before .before .before .get3 .ensures)) (c .before .before .before .before .before .before .before .before .before .before .get .result) (c .before .before .before .before .before .before .before .before .get2 .result) (c .before .before .before .before .before .before .get3 .result) (c .before .before .get4 .result) (c .before .before .before .before .before .before .before .before .before .before .get .ensures) (c .before .before .before .before .before .before .before .before .get2 .ensures) (c .before .before .before .before .before .before .get3 .ensures) (c .before .before .get4 .ensures) in omega (arith, s .below-c, s .rows)
+mul-put c = let s = spot-at (c .before .before) in omega (arith, s .below-c, s .rows)
 
 -- src/lib.rt:230:25
 add-put-2 : tie.Need-add-put-2 Inv-loop μ-loop
-add-put-2 c = let s = spot (c .before .before .before .before .before .before .before .before .before .before .before .before .before .args .map .now) (c .before .before .before .before .before .loop .map) (c .before .before .before .before .before .loop .k) (c .before .before .before .before .before .loop .inv) (c .before .before .before .before .before .before .before .before .before .before .before .before .before .pre) (omega (arith, c .before .before .before .before .before .before .get3 .ensures)) (c .before .before .before .before .before .before .before .before .before .before .get .result) (c .before .before .before .before .before .before .before .before .get2 .result) (c .before .before .before .before .before .before .get3 .result) (c .before .before .get4 .result) (c .before .before .before .before .before .before .before .before .before .before .get .ensures) (c .before .before .before .before .before .before .before .before .get2 .ensures) (c .before .before .before .before .before .before .get3 .ensures) (c .before .before .get4 .ensures) in omega (arith, s .below-c, s .rows, s .vars)
+add-put-2 c = let s = spot-at (c .before .before) in omega (arith, s .below-c, s .rows, s .vars)
 
 -- src/lib.rt:230:54
 add-put-3 : tie.Need-add-put-3 Inv-loop μ-loop
-add-put-3 c = let s = spot (c .before .before .before .before .before .before .before .before .before .before .before .before .before .args .map .now) (c .before .before .before .before .before .loop .map) (c .before .before .before .before .before .loop .k) (c .before .before .before .before .before .loop .inv) (c .before .before .before .before .before .before .before .before .before .before .before .before .before .pre) (omega (arith, c .before .before .before .before .before .before .get3 .ensures)) (c .before .before .before .before .before .before .before .before .before .before .get .result) (c .before .before .before .before .before .before .before .before .get2 .result) (c .before .before .before .before .before .before .get3 .result) (c .before .before .get4 .result) (c .before .before .before .before .before .before .before .before .before .before .get .ensures) (c .before .before .before .before .before .before .before .before .get2 .ensures) (c .before .before .before .before .before .before .get3 .ensures) (c .before .before .get4 .ensures) in omega (arith, s .below-c, s .rows, s .vars)
+add-put-3 c = let s = spot-at (c .before .before) in omega (arith, s .below-c, s .rows, s .vars)
 
 -- src/lib.rt:230:25
 add-put-4 : tie.Need-add-put-4 Inv-loop μ-loop
-add-put-4 c = let s = spot (c .before .before .before .before .before .before .before .before .before .before .before .before .before .args .map .now) (c .before .before .before .before .before .loop .map) (c .before .before .before .before .before .loop .k) (c .before .before .before .before .before .loop .inv) (c .before .before .before .before .before .before .before .before .before .before .before .before .before .pre) (omega (arith, c .before .before .before .before .before .before .get3 .ensures)) (c .before .before .before .before .before .before .before .before .before .before .get .result) (c .before .before .before .before .before .before .before .before .get2 .result) (c .before .before .before .before .before .before .get3 .result) (c .before .before .get4 .result) (c .before .before .before .before .before .before .before .before .before .before .get .ensures) (c .before .before .before .before .before .before .before .before .get2 .ensures) (c .before .before .before .before .before .before .get3 .ensures) (c .before .before .get4 .ensures) in omega (arith, s .below-c, s .rows, s .vars)
+add-put-4 c = let s = spot-at (c .before .before) in omega (arith, s .below-c, s .rows, s .vars)
 
 -- src/lib.rt:230:9
 put-requires : tie.Need-put-requires Inv-loop μ-loop
-put-requires c κs = let s = spot (c .before .before .before .before .before .before .before .before .before .before .before .before .before .args .map .now) (c .before .before .before .before .before .loop .map) (c .before .before .before .before .before .loop .k) (c .before .before .before .before .before .loop .inv) (c .before .before .before .before .before .before .before .before .before .before .before .before .before .pre) (omega (arith, c .before .before .before .before .before .before .get3 .ensures)) (c .before .before .before .before .before .before .before .before .before .before .get .result) (c .before .before .before .before .before .before .before .before .get2 .result) (c .before .before .before .before .before .before .get3 .result) (c .before .before .get4 .result) (c .before .before .before .before .before .before .before .before .before .before .get .ensures) (c .before .before .before .before .before .before .before .before .get2 .ensures) (c .before .before .before .before .before .before .get3 .ensures) (c .before .before .get4 .ensures) in omega (arith, s .below-c, s .room, c .before .before .before .before .before .loop .inv .long)
+put-requires c κs = let s = spot-at (c .before .before) in omega (arith, s .below-c, s .room, c .before .before .before .before .before .loop .inv .long)
 
 -- src/lib.rt:231:9
 add-k : tie.Need-add-k Inv-loop μ-loop
-add-k c = let f = fit _ (c .before .before .before .before .before .before .before .before .before .before .before .before .before .get .result) (c .before .before .before .before .before .before .before .before .before .before .before .get2 .result) (c .before .before .before .before .before .before .before .before .before .get3 .result) _ _ _ (c .before .before .before .before .before .before .before .before .before .before .before .before .before .get .ensures) (c .before .before .before .before .before .before .before .before .before .before .before .get2 .ensures) (c .before .before .before .before .before .before .before .before .before .get3 .ensures) (head (c .before .before .before .before .before .before .before .before .before .before .before .before .before .before .before .before .args .map .now) (c .before .before .before .before .before .before .before .before .before .before .before .before .before .before .before .before .pre)) in omega (arith, f .few, f .cap)
+add-k c = let f = fit-at (c .before .before .before .before .before .before .before .before .before) in omega (arith, f .few, f .cap)
 
 -- src/lib.rt:227:5
 loop-less : tie.Need-loop-less Inv-loop μ-loop
@@ -126,7 +148,19 @@ loop-less c = search needs
 
 -- src/lib.rt:227:5
 loop-again : tie.Need-loop-again Inv-loop μ-loop
-loop-again c = respace-more (c .before .before .before .before .before .before .before .before .before .before .before .before .before .before .before .before .args .map .now) (c .before .before .before .before .before .before .before .before .loop .map) (c .before .before .before .before .before .before .before .before .loop .k) (c .before .before .before .before .before .before .before .before .loop .inv) (c .before .before .before .before .before .before .before .before .before .before .before .before .before .before .before .before .pre) (omega (arith, c .before .before .before .before .before .before .before .before .before .get3 .ensures)) (c .before .before .before .before .before .before .before .before .before .before .before .before .before .get .result) (c .before .before .before .before .before .before .before .before .before .before .before .get2 .result) (c .before .before .before .before .before .before .before .before .before .get3 .result) (c .before .before .before .before .before .get4 .result) (c .before .before .before .before .before .before .before .before .before .before .before .before .before .get .ensures) (c .before .before .before .before .before .before .before .before .before .before .before .get2 .ensures) (c .before .before .before .before .before .before .before .before .before .get3 .ensures) (c .before .before .before .before .before .get4 .ensures) (c .before .before .put .last .0) (c .before .before .before .before .spaced .result) (c .before .before .before .before .spaced .ensures) (omega (arith, c .before .before .before .before .spaced .ensures, spaced-top (c .before .before .before .before .before .before .before .before .before .get3 .result) ((c .before .before .before .before .before .before .before .before .loop .k) + 1) (omega arith))) (c .before .before .put .ensures)
+loop-again c =
+    let put = c .before .before .put in
+    let spaced = c .before .before .before .before .spaced in
+    let get4 = c .before .before .before .before .before .get4 in
+    let b8 = c .before .before .before .before .before .before .before .before in
+    let loop = b8 .loop in
+    let get3 = b8 .before .get3 in
+    let get2 = b8 .before .before .before .get2 in
+    let get = b8 .before .before .before .before .before .get in
+    let start = b8 .before .before .before .before .before .before .before .before in
+    respace-more (start .args .map .now) (loop .map) (loop .k) (loop .inv) (start .pre) (omega (arith, get3 .ensures)) (get .result) (get2 .result)
+    (get3 .result) (get4 .result) (get .ensures) (get2 .ensures) (get3 .ensures) (get4 .ensures) (put .last .0) (spaced .result) (spaced .ensures)
+    (omega (arith, spaced .ensures, spaced-top (get3 .result) ((loop .k) + 1) (omega arith))) (put .ensures)
 
 -- src/lib.rt:218:1
 same-length : tie.Need-same-length Inv-loop μ-loop
@@ -134,7 +168,10 @@ same-length c = c .before .loop .inv .long
 
 -- src/lib.rt:218:1
 returns : tie.Need-returns Inv-loop μ-loop
-returns c = λ st i. respace-end (c .before .before .before .before .before .before .before .before .before .args .map .now) (c .before .loop .map) (c .before .loop .k) (c .before .loop .inv) (omega (arith, c .before .before .get3 .ensures)) st i
+returns c =
+    let loop = c .before .loop in
+    let start = c .before .before .before .before .before .before .before .before .before in
+    λ st i. respace-end (start .args .map .now) (loop .map) (loop .k) (loop .inv) (omega (arith, c .before .before .get3 .ensures)) st i
 
 pub rebuild-spec : {M : Type 1} → statement M
 rebuild-spec =

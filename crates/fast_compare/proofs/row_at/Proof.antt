@@ -15,7 +15,8 @@ use Rattle.fast_compare.proofs.row_at.Lts as lts
 use Rattle.words.proofs.get.Reads as get-reads
 
 -- helpers
-facts : (s : tie.Start) (v c : ℕ) → v ≡ getD (words (s .args .map .now)) 1 0 → c ≡ getD (words (s .args .map .now)) 2 0 → ((c * (v + 3) ≤ 274432) × (s .args .position < c)) × ((16 + 4 * (c * (v + 3)) + 4 * c ≤ length (s .args .map .now)) × (c ≤ 4096))
+facts : (s : tie.Start) (v c : ℕ) → v ≡ getD (words (s .args .map .now)) 1 0 → c ≡ getD (words (s .args .map .now)) 2 0
+    → ((c * (v + 3) ≤ 274432) × (s .args .position < c)) × ((16 + 4 * (c * (v + 3)) + 4 * c ≤ length (s .args .map .now)) × (c ≤ 4096))
 facts s v c e g =
     let h : HeadOf (s .args .map .now) = head (s .args .map .now) (s .pre .0) in
     rw (e, g) ((h .rows, omega (arith, s .pre .1, h .few)), (h .room, h .cap))
@@ -64,9 +65,12 @@ cast-result c = search needs
 
 -- src/lib.rt:66:1
 returns : tie.Need-returns
-returns c = λ st i. let l : (c .before .before .before .before .args .position) < length (st .rows) = omega (arith, c .before .before .before .before .pre .1, count-of (c .before .before .before .before .args .map .now) st i) in
-    let e : (c .get3 .result) ≡ getD (sorted cmp (value (st .rows)) (length (st .rows))) (c .before .before .before .before .args .position) 0 = c .get3 .ensures ∙ rw (c .before .before .get .ensures, c .before .get2 .ensures) (place-at (c .before .before .before .before .args .map .now) st i (c .before .before .before .before .args .position) l) in
-    (rw e (place-inside (c .before .before .before .before .args .map .now) st i (c .before .before .before .before .args .position) l), e)
+returns c =
+    let start = c .before .before .before .before in
+    λ st i. let l : (start .args .position) < length (st .rows) = omega (arith, start .pre .1, count-of (start .args .map .now) st i) in
+    let e : (c .get3 .result) ≡ getD (sorted cmp (value (st .rows)) (length (st .rows))) (start .args .position) 0 = c .get3 .ensures ∙
+    rw (c .before .before .get .ensures, c .before .get2 .ensures) (place-at (start .args .map .now) st i (start .args .position) l) in
+    (rw e (place-inside (start .args .map .now) st i (start .args .position) l), e)
 
 pub row-at-spec : {M : Type 1} → statement M
 row-at-spec =

@@ -27,7 +27,10 @@ count-requires c κs = c .before .before .pre .0
 
 -- src/lib.rt:105:5
 loop-holds : tie.Need-loop-holds Inv-loop μ-loop
-loop-holds c = (omega (arith, c .count .ensures .0), λ st i. seek-start st (valueOf (c .before .before .before .args .index) (words (c .before .before .before .args .ratio .now))) (c .count .result) ((c .count .ensures .1) st i))
+loop-holds c =
+    let count = c .count in
+    let start = c .before .before .before in
+    (omega (arith, count .ensures .0), λ st i. seek-start st (valueOf (start .args .index) (words (start .args .ratio .now))) (count .result) ((count .ensures .1) st i))
 
 -- src/lib.rt:106:25
 sub-mid : tie.Need-sub-mid Inv-loop μ-loop
@@ -35,7 +38,9 @@ sub-mid c = search needs
 
 -- src/lib.rt:106:19
 add-mid : tie.Need-add-mid Inv-loop μ-loop
-add-mid c = omega (arith, c .before .loop .inv .0, head (c .before .before .before .before .before .args .map .now) (c .before .before .before .before .before .pre .0) .few, head (c .before .before .before .before .before .args .map .now) (c .before .before .before .before .before .pre .0) .cap)
+add-mid c =
+    let start = c .before .before .before .before .before in
+    omega (arith, c .before .loop .inv .0, head (start .args .map .now) (start .pre .0) .few, head (start .args .map .now) (start .pre .0) .cap)
 
 -- src/lib.rt:107:13
 row-at-requires : tie.Need-row-at-requires Inv-loop μ-loop
@@ -43,7 +48,18 @@ row-at-requires c κs = (c .before .before .before .before .before .pre .0, omeg
 
 -- src/lib.rt:108:13
 compare-requires : tie.Need-compare-requires Inv-loop μ-loop
-compare-requires c κs = (c .before .before .before .before .before .before .pre .0, (omega (arith, (c .row-at .ensures) (c .before .before .before .before .before .before .pre .0 .state) (c .before .before .before .before .before .before .pre .0 .is) .0, count-of (c .before .before .before .before .before .before .args .map .now) (c .before .before .before .before .before .before .pre .0 .state) (c .before .before .before .before .before .before .pre .0 .is)), c .before .before .before .before .before .before .pre .1))
+compare-requires c κs =
+    let start = c .before .before .before .before .before .before in (
+      start .pre .0,
+      (
+        omega (
+          arith,
+          (c .row-at .ensures) (start .pre .0 .state) (start .pre .0 .is) .0,
+          count-of (start .args .map .now) (start .pre .0 .state) (start .pre .0 .is),
+        ),
+        start .pre .1,
+      ),
+    )
 
 -- src/lib.rt:111:22
 enum-told : tie.Need-enum-told Inv-loop μ-loop
@@ -51,7 +67,10 @@ enum-told c = search needs
 
 -- src/lib.rt:111:22
 add-lo : tie.Need-add-lo Inv-loop μ-loop
-add-lo c = omega (arith, c .before .before .before .before .before .loop .inv .0, head (c .before .before .before .before .before .before .before .before .before .args .map .now) (c .before .before .before .before .before .before .before .before .before .pre .0) .few, head (c .before .before .before .before .before .before .before .before .before .args .map .now) (c .before .before .before .before .before .before .before .before .before .pre .0) .cap)
+add-lo c =
+    let loop = c .before .before .before .before .before .loop in
+    let start = c .before .before .before .before .before .before .before .before .before in
+    omega (arith, loop .inv .0, head (start .args .map .now) (start .pre .0) .few, head (start .args .map .now) (start .pre .0) .cap)
 
 -- src/lib.rt:105:5
 loop-less : tie.Need-loop-less Inv-loop μ-loop
@@ -59,7 +78,17 @@ loop-less c = search needs
 
 -- src/lib.rt:105:5
 loop-again : tie.Need-loop-again Inv-loop μ-loop
-loop-again c = (c .before .before .before .before .before .loop .inv .0, λ st i. seek-less (c .before .before .before .before .before .before .before .before .before .args .map .now) st i (valueOf (c .before .before .before .before .before .before .before .before .before .args .index) (words (c .before .before .before .before .before .before .before .before .before .args .ratio .now))) (c .before .before .before .before .before .loop .lo) (c .before .before .before .before .before .loop .hi) ((c .before .before .before .before .before .loop .lo) + ((c .before .before .before .before .before .loop .hi) - (c .before .before .before .before .before .loop .lo)) / 2) (c .before .before .before .row-at .result) ((c .before .before .before .before .before .loop .inv .1) st i) (mid-high (c .before .before .before .before .before .loop .lo) (c .before .before .before .before .before .loop .hi) (c .before .before .before .before .loop-test .taken)) ((c .before .before .before .row-at .ensures) st i .1) (c .before .before .compare .result) ((c .before .before .compare .ensures) st i) (c .enum-told .given .1))
+loop-again c =
+    let compare = c .before .before .compare in
+    let row-at = c .before .before .before .row-at in
+    let loop-test = c .before .before .before .before .loop-test in
+    let loop = c .before .before .before .before .before .loop in
+    let start = c .before .before .before .before .before .before .before .before .before in (
+      loop .inv .0,
+      λ st i. seek-less (start .args .map .now) st i (valueOf (start .args .index) (words (start .args .ratio .now))) (loop .lo) (loop .hi)
+          ((loop .lo) + ((loop .hi) - (loop .lo)) / 2) (row-at .result) ((loop .inv .1) st i) (mid-high (loop .lo) (loop .hi) (loop-test .taken))
+          ((row-at .ensures) st i .1) (compare .result) ((compare .ensures) st i) (c .enum-told .given .1),
+    )
 
 -- src/lib.rt:114:17
 enum-told-2 : tie.Need-enum-told-2 Inv-loop μ-loop
@@ -67,7 +96,15 @@ enum-told-2 c = search needs
 
 -- src/lib.rt:114:17
 returns : tie.Need-returns Inv-loop μ-loop
-returns c = λ st i. seek-equal (c .before .before .before .before .before .before .before .before .before .args .map .now) st i (valueOf (c .before .before .before .before .before .before .before .before .before .args .index) (words (c .before .before .before .before .before .before .before .before .before .args .ratio .now))) (c .before .before .before .before .before .loop .lo) (c .before .before .before .before .before .loop .hi) ((c .before .before .before .before .before .loop .lo) + ((c .before .before .before .before .before .loop .hi) - (c .before .before .before .before .before .loop .lo)) / 2) (c .before .before .before .row-at .result) ((c .before .before .before .before .before .loop .inv .1) st i) (mid-high (c .before .before .before .before .before .loop .lo) (c .before .before .before .before .before .loop .hi) (c .before .before .before .before .loop-test .taken)) ((c .before .before .before .row-at .ensures) st i .1) (c .before .before .compare .result) ((c .before .before .compare .ensures) st i) (c .enum-told2 .given .1)
+returns c =
+    let compare = c .before .before .compare in
+    let row-at = c .before .before .before .row-at in
+    let loop-test = c .before .before .before .before .loop-test in
+    let loop = c .before .before .before .before .before .loop in
+    let start = c .before .before .before .before .before .before .before .before .before in
+    λ st i. seek-equal (start .args .map .now) st i (valueOf (start .args .index) (words (start .args .ratio .now))) (loop .lo) (loop .hi)
+    ((loop .lo) + ((loop .hi) - (loop .lo)) / 2) (row-at .result) ((loop .inv .1) st i) (mid-high (loop .lo) (loop .hi) (loop-test .taken))
+    ((row-at .ensures) st i .1) (compare .result) ((compare .ensures) st i) (c .enum-told2 .given .1)
 
 -- src/lib.rt:117:17
 enum-told-3 : tie.Need-enum-told-3 Inv-loop μ-loop
@@ -79,11 +116,25 @@ loop-less-2 c = search needs
 
 -- src/lib.rt:105:5
 loop-again-2 : tie.Need-loop-again-2 Inv-loop μ-loop
-loop-again-2 c = (omega (arith, c .before .before .before .before .before .loop .inv .0), λ st i. seek-greater (c .before .before .before .before .before .before .before .before .before .args .map .now) st i (valueOf (c .before .before .before .before .before .before .before .before .before .args .index) (words (c .before .before .before .before .before .before .before .before .before .args .ratio .now))) (c .before .before .before .before .before .loop .lo) (c .before .before .before .before .before .loop .hi) ((c .before .before .before .before .before .loop .lo) + ((c .before .before .before .before .before .loop .hi) - (c .before .before .before .before .before .loop .lo)) / 2) (c .before .before .before .row-at .result) ((c .before .before .before .before .before .loop .inv .1) st i) (mid-high (c .before .before .before .before .before .loop .lo) (c .before .before .before .before .before .loop .hi) (c .before .before .before .before .loop-test .taken)) ((c .before .before .before .row-at .ensures) st i .1) (c .before .before .compare .result) ((c .before .before .compare .ensures) st i) (c .enum-told3 .given .1))
+loop-again-2 c =
+    let compare = c .before .before .compare in
+    let row-at = c .before .before .before .row-at in
+    let loop-test = c .before .before .before .before .loop-test in
+    let loop = c .before .before .before .before .before .loop in
+    let start = c .before .before .before .before .before .before .before .before .before in (
+      omega (arith, loop .inv .0),
+      λ st i. seek-greater (start .args .map .now) st i (valueOf (start .args .index) (words (start .args .ratio .now))) (loop .lo)
+          (loop .hi) ((loop .lo) + ((loop .hi) - (loop .lo)) / 2) (row-at .result) ((loop .inv .1) st i) (mid-high (loop .lo) (loop .hi) (loop-test .taken))
+          ((row-at .ensures) st i .1) (compare .result) ((compare .ensures) st i) (c .enum-told3 .given .1),
+    )
 
 -- src/lib.rt:98:1
 returns-2 : tie.Need-returns-2 Inv-loop μ-loop
-returns-2 c = λ st i. seek-end (c .before .before .before .before .before .args .map .now) st i (valueOf (c .before .before .before .before .before .args .index) (words (c .before .before .before .before .before .args .ratio .now))) (c .before .loop .lo) (c .before .loop .hi) ((c .before .loop .inv .1) st i) (omega arith)
+returns-2 c =
+    let loop = c .before .loop in
+    let start = c .before .before .before .before .before in
+    λ st i. seek-end (start .args .map .now) st i (valueOf (start .args .index) (words (start .args .ratio .now))) (loop .lo) (loop .hi) ((loop .inv .1) st i)
+    (omega arith)
 
 pub search-spec : {M : Type 1} → statement M
 search-spec =

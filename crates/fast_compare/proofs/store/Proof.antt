@@ -33,12 +33,14 @@ record Fit (s : tie.Start) (v k t : ℕ) : Type 0 where
   room : 16 + 4 * (k * (v + 3)) + 4 * k ≤ length (s .args .map .now)
   ratio : length (s .args .ratio .now) ≤ 4 * (v + 1) + 3
 
-fit : (s : tie.Start) (v k t : ℕ) → v ≡ getD (words (s .args .map .now)) 1 0 → k ≡ getD (words (s .args .map .now)) 2 0 → t ≡ getD (words (s .args .map .now)) 3 0 → Fit s v k t
-fit s v k t ev ek et =
+fit-at : (c : tie.After-get3) → Fit (c .before .before .before .before .before .before .before .before) (c .before .before .before .before .get .result) (c .before .before .get2 .result) (c .get3 .result)
+fit-at c =
+    let s = c .before .before .before .before .before .before .before .before in
+    let W = words (s .args .map .now) in
     let h : HeadOf (s .args .map .now) = head (s .args .map .now) (s .pre .0) in
-    let l = canonical-length 2 (getD (words (s .args .map .now)) 1 0) (words (s .args .ratio .now)) (omega arith) (omega (arith, h .vars)) (s .pre .1 .0 .canonical) in
-    let u = row-fits (getD (words (s .args .map .now)) 3 0) (getD (words (s .args .map .now)) 2 0) (getD (words (s .args .map .now)) 1 0 + 3) (s .pre .1 .1 .1) in
-    rw (ev, ek, et) (record {
+    let l = canonical-length 2 (getD W 1 0) (words (s .args .ratio .now)) (omega arith) (omega (arith, h .vars)) (s .pre .1 .0 .canonical) in
+    let u = row-fits (getD W 3 0) (getD W 2 0) (getD W 1 0 + 3) (s .pre .1 .1 .1) in
+    rw (c .before .before .before .before .get .ensures, c .before .before .get2 .ensures, c .get3 .ensures) (record {
       vars = h .vars;
       cap = h .cap;
       less = s .pre .1 .1 .1;
@@ -81,11 +83,11 @@ add-order c = search needs
 
 -- src/lib.rt:164:21
 mul-order : tie.Need-mul-order
-mul-order c = let f = fit (c .before .before .before .before .before .before .before .before) (c .before .before .before .before .get .result) (c .before .before .get2 .result) (c .get3 .result) (c .before .before .before .before .get .ensures) (c .before .before .get2 .ensures) (c .get3 .ensures) in omega (arith, f .vars, f .cap, f .less, f .rows, f .used)
+mul-order c = let f = fit-at (c) in omega (arith, f .vars, f .cap, f .less, f .rows, f .used)
 
 -- src/lib.rt:164:17
 add-order-2 : tie.Need-add-order-2
-add-order-2 c = let f = fit (c .before .before .before .before .before .before .before .before) (c .before .before .before .before .get .result) (c .before .before .get2 .result) (c .get3 .result) (c .before .before .before .before .get .ensures) (c .before .before .get2 .ensures) (c .get3 .ensures) in omega (arith, f .vars, f .cap, f .less, f .place, f .rows, f .used)
+add-order-2 c = let f = fit-at (c) in omega (arith, f .vars, f .cap, f .less, f .place, f .rows, f .used)
 
 -- src/lib.rt:165:23
 add-at : tie.Need-add-at
@@ -93,19 +95,19 @@ add-at c = search needs
 
 -- src/lib.rt:165:18
 mul-at : tie.Need-mul-at
-mul-at c = let f = fit (c .before .before .before .before .before .before .before .before) (c .before .before .before .before .get .result) (c .before .before .get2 .result) (c .get3 .result) (c .before .before .before .before .get .ensures) (c .before .before .get2 .ensures) (c .get3 .ensures) in omega (arith, f .vars, f .cap, f .less, f .rows, f .used)
+mul-at c = let f = fit-at (c) in omega (arith, f .vars, f .cap, f .less, f .rows, f .used)
 
 -- src/lib.rt:165:14
 add-at-2 : tie.Need-add-at-2
-add-at-2 c = let f = fit (c .before .before .before .before .before .before .before .before) (c .before .before .before .before .get .result) (c .before .before .get2 .result) (c .get3 .result) (c .before .before .before .before .get .ensures) (c .before .before .get2 .ensures) (c .get3 .ensures) in omega (arith, f .vars, f .cap, f .less, f .place, f .rows, f .used)
+add-at-2 c = let f = fit-at (c) in omega (arith, f .vars, f .cap, f .less, f .place, f .rows, f .used)
 
 -- src/lib.rt:166:30
 add-insert : tie.Need-add-insert
-add-insert c = let f = fit (c .before .before .before .before .before .before .before .before .before) (c .before .before .before .before .before .get .result) (c .before .before .before .get2 .result) (c .before .get3 .result) (c .before .before .before .before .before .get .ensures) (c .before .before .before .get2 .ensures) (c .before .get3 .ensures) in omega (arith, f .vars, f .cap, f .less, f .place, f .rows, f .used)
+add-insert c = let f = fit-at (c .before) in omega (arith, f .vars, f .cap, f .less, f .place, f .rows, f .used)
 
 -- src/lib.rt:166:41
 add-insert-2 : tie.Need-add-insert-2
-add-insert-2 c = let f = fit (c .before .before .before .before .before .before .before .before .before) (c .before .before .before .before .before .get .result) (c .before .before .before .get2 .result) (c .before .get3 .result) (c .before .before .before .before .before .get .ensures) (c .before .before .before .get2 .ensures) (c .before .get3 .ensures) in omega (arith, f .vars, f .cap, f .less, f .place, f .rows, f .used)
+add-insert-2 c = let f = fit-at (c .before) in omega (arith, f .vars, f .cap, f .less, f .place, f .rows, f .used)
 
 -- src/lib.rt:166:52
 cast-insert : tie.Need-cast-insert
@@ -113,7 +115,7 @@ cast-insert c = search needs
 
 -- src/lib.rt:166:5
 insert-requires : tie.Need-insert-requires
-insert-requires c κs = let f = fit (c .before .before .before .before .before .before .before .before .before) (c .before .before .before .before .before .get .result) (c .before .before .before .get2 .result) (c .before .get3 .result) (c .before .before .before .before .before .get .ensures) (c .before .before .before .get2 .ensures) (c .before .get3 .ensures) in (omega (arith, f .place), omega (arith, f .less, f .room))
+insert-requires c κs = let f = fit-at (c .before) in (omega (arith, f .place), omega (arith, f .less, f .room))
 
 -- src/lib.rt:167:25
 index-word-requires : tie.Need-index-word-requires
@@ -121,27 +123,48 @@ index-word-requires c κs = search needs
 
 -- src/lib.rt:167:5
 put-requires : tie.Need-put-requires
-put-requires c κs = let f = fit (c .before .before .before .before .before .before .before .before .before .before .before .before .before .before) (c .before .before .before .before .before .before .before .before .before .before .get .result) (c .before .before .before .before .before .before .before .before .get2 .result) (c .before .before .before .before .before .before .get3 .result) (c .before .before .before .before .before .before .before .before .before .before .get .ensures) (c .before .before .before .before .before .before .before .before .get2 .ensures) (c .before .before .before .before .before .before .get3 .ensures) in omega (arith, f .used, f .room, c .before .before .before .before .insert .kept .0)
+put-requires c κs =
+    let insert = c .before .before .before .before .insert in
+    let before = c .before .before .before .before .before .before in
+    let f = fit-at before in
+    omega (arith, f .used, f .room, insert .kept .0)
 
 -- src/lib.rt:168:29
 add-paste : tie.Need-add-paste
-add-paste c = let f = fit (c .before .before .before .before .before .before .before .before .before .before .before .before .before .before .before .before .before .before) (c .before .before .before .before .before .before .before .before .before .before .before .before .before .before .get .result) (c .before .before .before .before .before .before .before .before .before .before .before .before .get2 .result) (c .before .before .before .before .before .before .before .before .before .before .get3 .result) (c .before .before .before .before .before .before .before .before .before .before .before .before .before .before .get .ensures) (c .before .before .before .before .before .before .before .before .before .before .before .before .get2 .ensures) (c .before .before .before .before .before .before .before .before .before .before .get3 .ensures) in omega (arith, f .vars, f .cap, f .less, f .place, f .rows, f .used)
+add-paste c =
+    let b9 = c .before .before .before .before .before .before .before .before .before in
+    let f = fit-at (b9 .before) in
+    omega (arith, f .vars, f .cap, f .less, f .place, f .rows, f .used)
 
 -- src/lib.rt:168:5
 paste-requires : tie.Need-paste-requires
-paste-requires c κs = let f = fit (c .before .before .before .before .before .before .before .before .before .before .before .before .before .before .before .before .before .before) (c .before .before .before .before .before .before .before .before .before .before .before .before .before .before .get .result) (c .before .before .before .before .before .before .before .before .before .before .before .before .get2 .result) (c .before .before .before .before .before .before .before .before .before .before .get3 .result) (c .before .before .before .before .before .before .before .before .before .before .before .before .before .before .get .ensures) (c .before .before .before .before .before .before .before .before .before .before .before .before .get2 .ensures) (c .before .before .before .before .before .before .before .before .before .before .get3 .ensures) in omega (arith, f .used, f .room, f .ratio, c .before .before .before .before .before .before .before .before .insert .kept .0, c .before .before .before .put .kept .0)
+paste-requires c κs =
+    let b8 = c .before .before .before .before .before .before .before .before in
+    let f = fit-at (b8 .before .before) in
+    omega (arith, f .used, f .room, f .ratio, b8 .insert .kept .0, c .before .before .before .put .kept .0)
 
 -- src/lib.rt:169:27
 add-put : tie.Need-add-put
-add-put c = let f = fit (c .before .before .before .before .before .before .before .before .before .before .before .before .before .before .before .before .before .before .before .before .before .before) (c .before .before .before .before .before .before .before .before .before .before .before .before .before .before .before .before .before .before .get .result) (c .before .before .before .before .before .before .before .before .before .before .before .before .before .before .before .before .get2 .result) (c .before .before .before .before .before .before .before .before .before .before .before .before .before .before .get3 .result) (c .before .before .before .before .before .before .before .before .before .before .before .before .before .before .before .before .before .before .get .ensures) (c .before .before .before .before .before .before .before .before .before .before .before .before .before .before .before .before .get2 .ensures) (c .before .before .before .before .before .before .before .before .before .before .before .before .before .before .get3 .ensures) in omega (arith, f .vars, f .cap, f .less, f .place, f .rows, f .used)
+add-put c =
+    let b13 = c .before .before .before .before .before .before .before .before .before .before .before .before .before in
+    let f = fit-at (b13 .before) in
+    omega (arith, f .vars, f .cap, f .less, f .place, f .rows, f .used)
 
 -- src/lib.rt:169:21
 add-put-2 : tie.Need-add-put-2
-add-put-2 c = let f = fit (c .before .before .before .before .before .before .before .before .before .before .before .before .before .before .before .before .before .before .before .before .before .before) (c .before .before .before .before .before .before .before .before .before .before .before .before .before .before .before .before .before .before .get .result) (c .before .before .before .before .before .before .before .before .before .before .before .before .before .before .before .before .get2 .result) (c .before .before .before .before .before .before .before .before .before .before .before .before .before .before .get3 .result) (c .before .before .before .before .before .before .before .before .before .before .before .before .before .before .before .before .before .before .get .ensures) (c .before .before .before .before .before .before .before .before .before .before .before .before .before .before .before .before .get2 .ensures) (c .before .before .before .before .before .before .before .before .before .before .before .before .before .before .get3 .ensures) in omega (arith, f .vars, f .cap, f .less, f .place, f .rows, f .used)
+add-put-2 c =
+    let b13 = c .before .before .before .before .before .before .before .before .before .before .before .before .before in
+    let f = fit-at (b13 .before) in
+    omega (arith, f .vars, f .cap, f .less, f .place, f .rows, f .used)
 
 -- src/lib.rt:169:5
 put-requires-2 : tie.Need-put-requires-2
-put-requires-2 c κs = let f = fit (c .before .before .before .before .before .before .before .before .before .before .before .before .before .before .before .before .before .before .before .before .before .before) (c .before .before .before .before .before .before .before .before .before .before .before .before .before .before .before .before .before .before .get .result) (c .before .before .before .before .before .before .before .before .before .before .before .before .before .before .before .before .get2 .result) (c .before .before .before .before .before .before .before .before .before .before .before .before .before .before .get3 .result) (c .before .before .before .before .before .before .before .before .before .before .before .before .before .before .before .before .before .before .get .ensures) (c .before .before .before .before .before .before .before .before .before .before .before .before .before .before .before .before .get2 .ensures) (c .before .before .before .before .before .before .before .before .before .before .before .before .before .before .get3 .ensures) in omega (arith, f .used, f .room, c .before .before .before .before .before .before .before .before .before .before .before .before .insert .kept .0, c .before .before .before .before .before .before .before .put .kept .0, c .before .before .before .paste .kept .0)
+put-requires-2 c κs =
+    let b7 = c .before .before .before .before .before .before .before in
+    let insert = b7 .before .before .before .before .before .insert in
+    let before = b7 .before .before .before .before .before .before .before in
+    let f = fit-at before in
+    omega (arith, f .used, f .room, insert .kept .0, b7 .put .kept .0, c .before .before .before .paste .kept .0)
 
 -- src/lib.rt:170:24
 cast-put : tie.Need-cast-put
@@ -149,11 +172,19 @@ cast-put c = search needs
 
 -- src/lib.rt:170:24
 add-put-3 : tie.Need-add-put-3
-add-put-3 c = let f = fit (c .before .before .before .before .before .before .before .before .before .before .before .before .before .before .before .before .before .before .before .before .before .before .before .before .before .before) (c .before .before .before .before .before .before .before .before .before .before .before .before .before .before .before .before .before .before .before .before .before .before .get .result) (c .before .before .before .before .before .before .before .before .before .before .before .before .before .before .before .before .before .before .before .before .get2 .result) (c .before .before .before .before .before .before .before .before .before .before .before .before .before .before .before .before .before .before .get3 .result) (c .before .before .before .before .before .before .before .before .before .before .before .before .before .before .before .before .before .before .before .before .before .before .get .ensures) (c .before .before .before .before .before .before .before .before .before .before .before .before .before .before .before .before .before .before .before .before .get2 .ensures) (c .before .before .before .before .before .before .before .before .before .before .before .before .before .before .before .before .before .before .get3 .ensures) in omega (arith, f .vars, f .cap, f .less, f .place, f .rows, f .used)
+add-put-3 c =
+    let b17 = c .before .before .before .before .before .before .before .before .before .before .before .before .before .before .before .before .before in
+    let f = fit-at (b17 .before) in
+    omega (arith, f .vars, f .cap, f .less, f .place, f .rows, f .used)
 
 -- src/lib.rt:170:5
 put-requires-3 : tie.Need-put-requires-3
-put-requires-3 c κs = let f = fit (c .before .before .before .before .before .before .before .before .before .before .before .before .before .before .before .before .before .before .before .before .before .before .before .before .before .before) (c .before .before .before .before .before .before .before .before .before .before .before .before .before .before .before .before .before .before .before .before .before .before .get .result) (c .before .before .before .before .before .before .before .before .before .before .before .before .before .before .before .before .before .before .before .before .get2 .result) (c .before .before .before .before .before .before .before .before .before .before .before .before .before .before .before .before .before .before .get3 .result) (c .before .before .before .before .before .before .before .before .before .before .before .before .before .before .before .before .before .before .before .before .before .before .get .ensures) (c .before .before .before .before .before .before .before .before .before .before .before .before .before .before .before .before .before .before .before .before .get2 .ensures) (c .before .before .before .before .before .before .before .before .before .before .before .before .before .before .before .before .before .before .get3 .ensures) in omega (arith, f .used, f .room, c .before .before .before .before .before .before .before .before .before .before .before .before .before .before .before .before .insert .kept .0, c .before .before .before .before .before .before .before .before .before .before .before .put .kept .0, c .before .before .before .before .before .before .before .paste .kept .0, c .before .before .before .put2 .kept .0)
+put-requires-3 c κs =
+    let b7 = c .before .before .before .before .before .before .before in
+    let put = b7 .before .before .before .before .put in
+    let b16 = b7 .before .before .before .before .before .before .before .before .before in
+    let f = fit-at (b16 .before .before) in
+    omega (arith, f .used, f .room, b16 .insert .kept .0, put .kept .0, b7 .paste .kept .0, c .before .before .before .put2 .kept .0)
 
 -- src/lib.rt:155:1
 same-length : tie.Need-same-length
@@ -161,13 +192,29 @@ same-length c = search needs
 
 -- src/lib.rt:155:1
 returns : tie.Need-returns
-returns c = λ st i e. let bs = (c .before .before .before .before .before .before .before .before .before .before .before .before .before .before .before .before .before .before .before .before .before .before .before .before .before .before .before .before .before .args .map .now) in
-    let q = valueOf (c .before .before .before .before .before .before .before .before .before .before .before .before .before .before .before .before .before .before .before .before .before .before .before .before .before .before .before .before .before .args .index) (words (c .before .before .before .before .before .before .before .before .before .before .before .before .before .before .before .before .before .before .before .before .before .before .before .before .before .before .before .before .before .args .ratio .now)) in
-    let ev = c .before .before .before .before .before .before .before .before .before .before .before .before .before .before .before .before .before .before .before .before .before .before .before .before .before .get .ensures ∙ vars-of bs st i in
-    let ek = c .before .before .before .before .before .before .before .before .before .before .before .before .before .before .before .before .before .before .before .before .before .before .before .get2 .ensures ∙ cap-of bs st i in
-    let et = c .before .before .before .before .before .before .before .before .before .before .before .before .before .before .before .before .before .before .before .before .before .get3 .ensures ∙ count-of bs st i in
-    stored-call bs st (λ j. (c .before .before .before .before .before .before .before .before .before .before .before .before .before .before .before .before .before .before .before .before .before .before .before .before .before .before .before .before .slice-known .given) j .fits) i (omega (arith, c .before .before .before .before .before .before .before .before .before .before .before .before .before .before .before .before .before .before .before .before .before .before .before .before .before .before .before .before .before .pre .1 .1 .1, vars-of bs st i, cap-of bs st i, count-of bs st i)) q (c .before .before .before .before .before .before .before .before .before .before .before .before .before .before .before .before .before .before .before .before .before .before .before .before .before .before .before .before .before .args .label) (c .before .before .before .before .before .before .before .before .before .before .before .before .before .before .before .before .before .before .before .before .before .before .before .before .before .before .before .before .before .args .p) (rw (vars-of bs st i) at (c .before .before .before .before .before .before .before .before .before .before .before .before .before .before .before .before .before .before .before .before .before .before .before .before .before .before .before .before .before .pre .1 .0)) e
-    (c .before .before .before .before .before .before .before .before .before .before .before .before .before .before .before .before .before .before .before .before .before .before .before .before .before .get .result) (c .before .before .before .before .before .before .before .before .before .before .before .before .before .before .before .before .before .before .before .before .before .before .before .get2 .result) (c .before .before .before .before .before .before .before .before .before .before .before .before .before .before .before .before .before .before .before .before .before .get3 .result) (c .before .before .before .before .before .before .before .before .before .before .before .before .before .before .before .index-word .result) (c .before .before .before .before .before .before .before .before .before .before .before .before .before .before .before .before .before .before .before .insert .last .0) (c .before .before .before .before .before .before .before .before .before .before .before .before .before .before .put .last .0) (c .before .before .before .before .before .before .before .before .before .before .paste .last .0) (c .before .before .before .before .before .before .put2 .last .0) (c .before .before .put3 .last .0) ev ek et (c .before .before .before .before .before .before .before .before .before .before .before .before .before .before .before .index-word .ensures) (c .before .before .before .before .before .before .before .before .before .before .before .before .before .before .before .before .before .before .before .insert .ensures) (c .before .before .before .before .before .before .before .before .before .before .before .before .before .before .put .ensures) (c .before .before .before .before .before .before .before .before .before .before .paste .ensures) (c .before .before .before .before .before .before .put2 .ensures) (c .before .before .put3 .ensures)
+returns c =
+    let put3 = c .before .before .put3 in
+    let put2 = c .before .before .before .before .before .before .put2 in
+    let b10 = c .before .before .before .before .before .before .before .before .before .before in
+    let paste = b10 .paste in
+    let put = b10 .before .before .before .before .put in
+    let index-word = b10 .before .before .before .before .before .index-word in
+    let b19 = b10 .before .before .before .before .before .before .before .before .before in
+    let insert = b19 .insert in
+    let get3 = b19 .before .before .get3 in
+    let get2 = b19 .before .before .before .before .get2 in
+    let get = b19 .before .before .before .before .before .before .get in
+    let b28 = b19 .before .before .before .before .before .before .before .before .before in
+    let start = b28 .before in
+    λ st i e. let bs = (start .args .map .now) in
+    let q = valueOf (start .args .index) (words (start .args .ratio .now)) in
+    let ev = get .ensures ∙ vars-of bs st i in
+    let ek = get2 .ensures ∙ cap-of bs st i in
+    let et = get3 .ensures ∙ count-of bs st i in
+    stored-call bs st (λ j. (b28 .slice-known .given) j .fits) i (omega (arith, start .pre .1 .1 .1, vars-of bs st i, cap-of bs st i, count-of bs st i)) q
+    (start .args .label) (start .args .p) (rw (vars-of bs st i) at (start .pre .1 .0)) e (get .result) (get2 .result) (get3 .result) (index-word .result)
+    (insert .last .0) (put .last .0) (paste .last .0) (put2 .last .0) (put3 .last .0) ev ek et (index-word .ensures) (insert .ensures) (put .ensures)
+    (paste .ensures) (put2 .ensures) (put3 .ensures)
 
 pub store-spec : {M : Type 1} → statement M
 store-spec =

@@ -36,15 +36,36 @@ returns c = rw (← (c .before .before .canonical-words .ensures), c .before .if
 
 -- src/lib.rt:99:13
 mul-a : tie.Need-mul-a
-mul-a c = omega (arith, front-within _ _ (c .before .before .before .args .at) (c .before .canonical-words .result) (words (c .before .before .before .args .s .now)) (c .before .canonical-words .ensures) (c .if1 .left), length-words (c .before .before .before .args .s .now))
+mul-a c =
+    let start = c .before .before .before in
+    omega (
+      arith,
+      front-within _ _ (start .args .at) (c .before .canonical-words .result) (words (start .args .s .now)) (c .before .canonical-words .ensures)
+          (c .if1 .left),
+      length-words (start .args .s .now),
+    )
 
 -- src/lib.rt:100:17
 mul-e : tie.Need-mul-e
-mul-e c = omega (arith, front-within _ _ (c .before .before .before .args .at) (c .before .canonical-words .result) (words (c .before .before .before .args .s .now)) (c .before .canonical-words .ensures) (c .if1 .left), length-words (c .before .before .before .args .s .now))
+mul-e c =
+    let start = c .before .before .before in
+    omega (
+      arith,
+      front-within _ _ (start .args .at) (c .before .canonical-words .result) (words (start .args .s .now)) (c .before .canonical-words .ensures)
+          (c .if1 .left),
+      length-words (start .args .s .now),
+    )
 
 -- src/lib.rt:100:13
 add-e : tie.Need-add-e
-add-e c = omega (arith, front-within _ _ (c .before .before .before .args .at) (c .before .canonical-words .result) (words (c .before .before .before .args .s .now)) (c .before .canonical-words .ensures) (c .if1 .left), length-words (c .before .before .before .args .s .now))
+add-e c =
+    let start = c .before .before .before in
+    omega (
+      arith,
+      front-within _ _ (start .args .at) (c .before .canonical-words .result) (words (start .args .s .now)) (c .before .canonical-words .ensures)
+          (c .if1 .left),
+      length-words (start .args .s .now),
+    )
 
 -- src/lib.rt:101:5
 sub-result-2 : tie.Need-sub-result-2
@@ -56,13 +77,23 @@ part-result-start-2 c = search needs
 
 -- src/lib.rt:101:5
 part-result-end-2 : tie.Need-part-result-end-2
-part-result-end-2 c = omega (arith, front-within _ _ (c .before .before .before .args .at) (c .before .canonical-words .result) (words (c .before .before .before .args .s .now)) (c .before .canonical-words .ensures) (c .if1 .left), length-words (c .before .before .before .args .s .now))
+part-result-end-2 c =
+    let start = c .before .before .before in
+    omega (
+      arith,
+      front-within _ _ (start .args .at) (c .before .canonical-words .result) (words (start .args .s .now)) (c .before .canonical-words .ensures)
+          (c .if1 .left),
+      length-words (start .args .s .now),
+    )
 
 -- src/lib.rt:91:1
 returns-2 : tie.Need-returns-2
 unfolding found
-returns-2 c = let e : 4 * (c .before .before .before .before .args .at) + 4 * (c .before .before .canonical-words .result) - 4 * (c .before .before .before .before .args .at) ≡ 4 * (c .before .before .canonical-words .result) = omega arith in
-    rw (e, ← (c .before .before .canonical-words .ensures))
+returns-2 c =
+    let canonical-words = c .before .before .canonical-words in
+    let start = c .before .before .before .before in
+    let e : 4 * (start .args .at) + 4 * (canonical-words .result) - 4 * (start .args .at) ≡ 4 * (canonical-words .result) = omega arith in
+    rw (e, ← (canonical-words .ensures))
 
 pub canonical-at-spec : {M : Type 1} → statement M
 canonical-at-spec =

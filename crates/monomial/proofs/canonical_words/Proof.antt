@@ -51,11 +51,23 @@ add-result c = search needs
 
 -- src/lib.rt:64:17
 returns : tie.Need-returns Inv-loop μ-loop
-returns c = sym (c .before .before .before .before .before .before .loop .inv .1 ∙ rw (word-and-rest (words (c .before .before .before .before .before .before .before .before .args .s .now)) (c .before .before .before .before .before .before .loop .i) (c .before .before .before .before .get .result) (omega (arith, length-words (c .before .before .before .before .before .before .before .before .args .s .now))) (c .before .before .before .before .get .ensures)) (front-end _ _ _ _ _ (is-end-true _ (c .before .before .before .is-end .ensures) (c .before .before .if1 .taken)) (sym (c .before .payload .ensures) ∙ c .if2 .taken)))
+returns c =
+    let get = c .before .before .before .before .get in
+    let loop = c .before .before .before .before .before .before .loop in
+    let start = c .before .before .before .before .before .before .before .before in
+    sym (loop .inv .1 ∙ rw (word-and-rest (words (start .args .s .now)) (loop .i) (get .result) (omega (arith, length-words (start .args .s .now)))
+    (get .ensures)) (front-end _ _ _ _ _ (is-end-true _ (c .before .before .before .is-end .ensures) (c .before .before .if1 .taken))
+    (sym (c .before .payload .ensures) ∙ c .if2 .taken)))
 
 -- src/lib.rt:66:13
 returns-2 : tie.Need-returns-2 Inv-loop μ-loop
-returns-2 c = sym (c .before .before .before .before .before .before .loop .inv .1 ∙ rw (word-and-rest (words (c .before .before .before .before .before .before .before .before .args .s .now)) (c .before .before .before .before .before .before .loop .i) (c .before .before .before .before .get .result) (omega (arith, length-words (c .before .before .before .before .before .before .before .before .args .s .now))) (c .before .before .before .before .get .ensures)) (front-bad-end _ _ _ _ _ (is-end-true _ (c .before .before .before .is-end .ensures) (c .before .before .if1 .taken)) (λ q. (c .if2 .left) (c .before .payload .ensures ∙ q))))
+returns-2 c =
+    let get = c .before .before .before .before .get in
+    let loop = c .before .before .before .before .before .before .loop in
+    let start = c .before .before .before .before .before .before .before .before in
+    sym (loop .inv .1 ∙ rw (word-and-rest (words (start .args .s .now)) (loop .i) (get .result) (omega (arith, length-words (start .args .s .now)))
+    (get .ensures)) (front-bad-end _ _ _ _ _ (is-end-true _ (c .before .before .before .is-end .ensures) (c .before .before .if1 .taken))
+    (λ q. (c .if2 .left) (c .before .payload .ensures ∙ q))))
 
 -- src/lib.rt:68:13
 is-variable-requires : tie.Need-is-variable-requires Inv-loop μ-loop
@@ -63,7 +75,13 @@ is-variable-requires c κs = search needs
 
 -- src/lib.rt:69:13
 returns-3 : tie.Need-returns-3 Inv-loop μ-loop
-returns-3 c = sym (c .before .before .before .before .before .before .loop .inv .1 ∙ rw (word-and-rest (words (c .before .before .before .before .before .before .before .before .args .s .now)) (c .before .before .before .before .before .before .loop .i) (c .before .before .before .before .get .result) (omega (arith, length-words (c .before .before .before .before .before .before .before .before .args .s .now))) (c .before .before .before .before .get .ensures)) (front-bad-var _ _ _ _ _ (is-end-false _ (c .before .before .before .is-end .ensures) (c .before .before .if1 .left)) (sym (c .before .is-variable .ensures) ∙ not-true _ (c .if3 .taken))))
+returns-3 c =
+    let get = c .before .before .before .before .get in
+    let loop = c .before .before .before .before .before .before .loop in
+    let start = c .before .before .before .before .before .before .before .before in
+    sym (loop .inv .1 ∙ rw (word-and-rest (words (start .args .s .now)) (loop .i) (get .result) (omega (arith, length-words (start .args .s .now)))
+    (get .ensures)) (front-bad-var _ _ _ _ _ (is-end-false _ (c .before .before .before .is-end .ensures) (c .before .before .if1 .left))
+    (sym (c .before .is-variable .ensures) ∙ not-true _ (c .if3 .taken))))
 
 -- src/lib.rt:71:9
 id-requires : tie.Need-id-requires Inv-loop μ-loop
@@ -84,12 +102,25 @@ loop-less c = search needs
 
 -- src/lib.rt:60:5
 loop-again : tie.Need-loop-again Inv-loop μ-loop
-loop-again c = let v = sym (c .before .before .is-variable .ensures) ∙ not-false _ (c .before .if3 .left) in
-    (omega (arith, is-var _ _ _ v .below, c .id .ensures), rw (c .id .ensures) (c .before .before .before .before .before .before .before .loop .inv .1 ∙ rw (word-and-rest (words (c .before .before .before .before .before .before .before .before .before .args .s .now)) (c .before .before .before .before .before .before .before .loop .i) (c .before .before .before .before .before .get .result) (omega (arith, length-words (c .before .before .before .before .before .before .before .before .before .args .s .now))) (c .before .before .before .before .before .get .ensures)) (front-var _ _ _ _ _ (is-end-false _ (c .before .before .before .before .is-end .ensures) (c .before .before .before .if1 .left)) v)))
+loop-again c =
+    let is-end = c .before .before .before .before .is-end in
+    let get = c .before .before .before .before .before .get in
+    let b7 = c .before .before .before .before .before .before .before in
+    let loop = b7 .loop in
+    let start = b7 .before .before in
+    let v = sym (c .before .before .is-variable .ensures) ∙ not-false _ (c .before .if3 .left) in (
+      omega (arith, is-var _ _ _ v .below, c .id .ensures),
+      rw (c .id .ensures)
+          (loop .inv .1 ∙ rw (word-and-rest (words (start .args .s .now)) (loop .i) (get .result) (omega (arith, length-words (start .args .s .now)))
+          (get .ensures)) (front-var _ _ _ _ _ (is-end-false _ (is-end .ensures) (c .before .before .before .if1 .left)) v)),
+    )
 
 -- src/lib.rt:52:1
 returns-4 : tie.Need-returns-4 Inv-loop μ-loop
-returns-4 c = sym (c .before .loop .inv .1 ∙ rw (drop-of-length-le (words (c .before .before .before .args .s .now)) {i = (c .before .loop .i)} (omega (arith, length-words (c .before .before .before .args .s .now)))) (front-none _ _ _))
+returns-4 c =
+    let start = c .before .before .before in
+    sym (c .before .loop .inv .1 ∙ rw (drop-of-length-le (words (start .args .s .now)) {i = (c .before .loop .i)}
+    (omega (arith, length-words (start .args .s .now)))) (front-none _ _ _))
 
 pub canonical-words-spec : {M : Type 1} → statement M
 canonical-words-spec =

@@ -39,7 +39,9 @@ is-end-requires c κs = search needs
 
 -- src/lib.rt:188:13
 returns : tie.Need-returns Inv-loop μ-loop
-returns c = all-passed (c .before .before .before .loop .inv) (seen _ (c .before .before .before .loop .inv .ra) (c .before .before .get .ensures)) (is-end-true _ (c .before .is-end .ensures) (c .if1 .taken))
+returns c =
+    let loop = c .before .before .before .loop in
+    all-passed (loop .inv) (seen _ (loop .inv .ra) (c .before .before .get .ensures)) (is-end-true _ (c .before .is-end .ensures) (c .if1 .taken))
 
 -- src/lib.rt:190:13
 get-requires-2 : tie.Need-get-requires-2 Inv-loop μ-loop
@@ -47,7 +49,11 @@ get-requires-2 c κs = omega (arith, within (c .before .before .before .loop .in
 
 -- src/lib.rt:192:13
 returns-2 : tie.Need-returns-2 Inv-loop μ-loop
-returns-2 c = exceeds (c .before .before .before .before .before .loop .inv) (seen _ (c .before .before .before .before .before .loop .inv .ra) (c .before .before .before .before .get .ensures)) (seen _ (c .before .before .before .before .before .loop .inv .rb) (c .before .get2 .ensures)) (is-end-false _ (c .before .before .before .is-end .ensures) (c .before .before .if1 .left)) (c .if2 .taken)
+returns-2 c =
+    let get = c .before .before .before .before .get in
+    let loop = c .before .before .before .before .before .loop in
+    exceeds (loop .inv) (seen _ (loop .inv .ra) (get .ensures)) (seen _ (loop .inv .rb) (c .before .get2 .ensures))
+    (is-end-false _ (c .before .before .before .is-end .ensures) (c .before .before .if1 .left)) (c .if2 .taken)
 
 -- src/lib.rt:194:37
 upper-half-requires : tie.Need-upper-half-requires Inv-loop μ-loop
@@ -55,11 +61,17 @@ upper-half-requires c κs = search needs
 
 -- src/lib.rt:194:9
 step-requires : tie.Need-step-requires Inv-loop μ-loop
-step-requires c κs = omega (arith, within (c .before .before .before .before .before .before .loop .inv .ra), first-bytes 1 (c .before .before .before .before .before .before .before .before .before .args .a .now))
+step-requires c κs =
+    let loop = c .before .before .before .before .before .before .loop in
+    let start = c .before .before .before .before .before .before .before .before .before in
+    omega (arith, within (loop .inv .ra), first-bytes 1 (start .args .a .now))
 
 -- src/lib.rt:195:9
 add-j : tie.Need-add-j Inv-loop μ-loop
-add-j c = omega (arith, within (c .before .before .before .before .before .before .before .loop .inv .rb), first-bytes 1 (c .before .before .before .before .before .before .before .before .before .before .args .b .now))
+add-j c =
+    let b7 = c .before .before .before .before .before .before .before in
+    let start = b7 .before .before .before in
+    omega (arith, within (b7 .loop .inv .rb), first-bytes 1 (start .args .b .now))
 
 -- src/lib.rt:185:5
 loop-less : tie.Need-loop-less Inv-loop μ-loop
@@ -67,7 +79,14 @@ loop-less c = omega (arith, within (c .before .before .before .before .before .b
 
 -- src/lib.rt:185:5
 loop-again : tie.Need-loop-again Inv-loop μ-loop
-loop-again c = rw (c .step .ensures, c .before .upper-half .ensures) (goes-on (c .before .before .before .before .before .before .before .loop .inv) (seen _ (c .before .before .before .before .before .before .before .loop .inv .ra) (c .before .before .before .before .before .before .get .ensures)) (seen _ (c .before .before .before .before .before .before .before .loop .inv .rb) (c .before .before .before .get2 .ensures)) (is-end-false _ (c .before .before .before .before .before .is-end .ensures) (c .before .before .before .before .if1 .left)) (c .before .before .if2 .left))
+loop-again c =
+    let if1 = c .before .before .before .before .if1 in
+    let is-end = c .before .before .before .before .before .is-end in
+    let get = c .before .before .before .before .before .before .get in
+    let b7 = c .before .before .before .before .before .before .before in
+    let loop = b7 .loop in
+    rw (c .step .ensures, c .before .upper-half .ensures) (goes-on (loop .inv) (seen _ (loop .inv .ra) (get .ensures))
+    (seen _ (loop .inv .rb) (c .before .before .before .get2 .ensures)) (is-end-false _ (is-end .ensures) (if1 .left)) (c .before .before .if2 .left))
 
 pub divides-spec : {M : Type 1} → statement M
 divides-spec =

@@ -21,7 +21,10 @@ abbrev μ-loop : tie.MeasureT-loop
 
 -- src/lib.rt:176:9
 returns : tie.Need-returns Inv-loop μ-loop
-returns c = sym (other-length (words (c .before .before .before .args .a .now)) (words (c .before .before .before .args .b .now)) (λ e. (c .if1 .taken) (omega (arith, length-words (c .before .before .before .args .a .now), length-words (c .before .before .before .args .b .now)))))
+returns c =
+    let start = c .before .before .before in
+    sym (other-length (words (start .args .a .now)) (words (start .args .b .now))
+    (λ e. (c .if1 .taken) (omega (arith, length-words (start .args .a .now), length-words (start .args .b .now)))))
 
 -- src/lib.rt:179:5
 loop-holds : tie.Need-loop-holds Inv-loop μ-loop
@@ -37,7 +40,13 @@ get-requires-2 c κs = search needs
 
 -- src/lib.rt:181:13
 returns-2 : tie.Need-returns-2 Inv-loop μ-loop
-returns-2 c = sym (c .before .before .before .before .loop .inv .1 ∙ differ-at (words (c .before .before .before .before .before .before .before .before .args .a .now)) (words (c .before .before .before .before .before .before .before .before .args .b .now)) (c .before .before .before .before .loop .i) (omega (arith, length-words (c .before .before .before .before .before .before .before .before .args .a .now), length-words (c .before .before .before .before .before .before .before .before .args .b .now))) (omega (arith, length-words (c .before .before .before .before .before .before .before .before .args .a .now), length-words (c .before .before .before .before .before .before .before .before .args .b .now))) (λ e. (c .if2 .taken) (c .before .before .get .ensures ∙ e ∙ sym (c .before .get2 .ensures))))
+returns-2 c =
+    let loop = c .before .before .before .before .loop in
+    let start = c .before .before .before .before .before .before .before .before in
+    sym (loop .inv .1 ∙ differ-at (words (start .args .a .now)) (words (start .args .b .now)) (loop .i)
+    (omega (arith, length-words (start .args .a .now), length-words (start .args .b .now)))
+    (omega (arith, length-words (start .args .a .now), length-words (start .args .b .now)))
+    (λ e. (c .if2 .taken) (c .before .before .get .ensures ∙ e ∙ sym (c .before .get2 .ensures))))
 
 -- src/lib.rt:183:9
 add-i : tie.Need-add-i Inv-loop μ-loop
@@ -49,11 +58,23 @@ loop-less c = search needs
 
 -- src/lib.rt:179:5
 loop-again : tie.Need-loop-again Inv-loop μ-loop
-loop-again c = (omega arith, c .before .before .before .before .loop .inv .1 ∙ equal-at (words (c .before .before .before .before .before .before .before .before .args .a .now)) (words (c .before .before .before .before .before .before .before .before .args .b .now)) (c .before .before .before .before .loop .i) (omega (arith, length-words (c .before .before .before .before .before .before .before .before .args .a .now), length-words (c .before .before .before .before .before .before .before .before .args .b .now))) (omega (arith, length-words (c .before .before .before .before .before .before .before .before .args .a .now), length-words (c .before .before .before .before .before .before .before .before .args .b .now))) (sym (c .before .before .get .ensures) ∙ c .if2 .left ∙ c .before .get2 .ensures))
+loop-again c =
+    let loop = c .before .before .before .before .loop in
+    let start = c .before .before .before .before .before .before .before .before in (
+      omega arith,
+      loop .inv .1 ∙ equal-at (words (start .args .a .now)) (words (start .args .b .now)) (loop .i)
+          (omega (arith, length-words (start .args .a .now), length-words (start .args .b .now)))
+          (omega (arith, length-words (start .args .a .now), length-words (start .args .b .now)))
+          (sym (c .before .before .get .ensures) ∙ c .if2 .left ∙ c .before .get2 .ensures),
+    )
 
 -- src/lib.rt:171:1
 returns-3 : tie.Need-returns-3 Inv-loop μ-loop
-returns-3 c = sym (c .before .loop .inv .1 ∙ equal-end (words (c .before .before .before .before .before .args .a .now)) (words (c .before .before .before .before .before .args .b .now)) (c .before .loop .i) (omega (arith, length-words (c .before .before .before .before .before .args .a .now), length-words (c .before .before .before .before .before .args .b .now))) (omega (arith, length-words (c .before .before .before .before .before .args .a .now), length-words (c .before .before .before .before .before .args .b .now))))
+returns-3 c =
+    let start = c .before .before .before .before .before in
+    sym (c .before .loop .inv .1 ∙ equal-end (words (start .args .a .now)) (words (start .args .b .now)) (c .before .loop .i)
+    (omega (arith, length-words (start .args .a .now), length-words (start .args .b .now)))
+    (omega (arith, length-words (start .args .a .now), length-words (start .args .b .now))))
 
 pub eq-spec : {M : Type 1} → statement M
 eq-spec =

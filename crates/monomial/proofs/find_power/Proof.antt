@@ -44,7 +44,12 @@ upper-half-requires c κs = search needs
 
 -- src/lib.rt:156:13
 returns : tie.Need-returns Inv-loop μ-loop
-returns c = let k = (c .before .before .before .before .before .pre .0 .0) in absent-here k (first-canonical k (c .before .before .before .before .before .pre .1)) (c .before .before .before .loop .inv) (seen _ (c .before .before .before .loop .inv .ra) (c .before .before .get .ensures)) (omega (arith, c .before .upper-half .ensures))
+returns c =
+    let loop = c .before .before .before .loop in
+    let start = c .before .before .before .before .before in
+    let k = (start .pre .0 .0) in
+    absent-here k (first-canonical k (start .pre .1)) (loop .inv) (seen _ (loop .inv .ra) (c .before .before .get .ensures))
+    (omega (arith, c .before .upper-half .ensures))
 
 -- src/lib.rt:159:33
 power-requires : tie.Need-power-requires Inv-loop μ-loop
@@ -52,11 +57,20 @@ power-requires c κs = search needs
 
 -- src/lib.rt:159:13
 returns-2 : tie.Need-returns-2 Inv-loop μ-loop
-returns-2 c = let k = (c .before .before .before .before .before .before .before .pre .0 .0) in rw (c .power .ensures) (found-here k (first-canonical k (c .before .before .before .before .before .before .before .pre .1)) (c .before .before .before .before .before .loop .inv) (seen _ (c .before .before .before .before .before .loop .inv .ra) (c .before .before .before .before .get .ensures)) (omega (arith, c .before .before .before .upper-half .ensures)))
+returns-2 c =
+    let get = c .before .before .before .before .get in
+    let loop = c .before .before .before .before .before .loop in
+    let start = c .before .before .before .before .before .before .before in
+    let k = (start .pre .0 .0) in
+    rw (c .power .ensures) (found-here k (first-canonical k (start .pre .1)) (loop .inv) (seen _ (loop .inv .ra) (get .ensures))
+    (omega (arith, c .before .before .before .upper-half .ensures)))
 
 -- src/lib.rt:161:9
 add-i : tie.Need-add-i Inv-loop μ-loop
-add-i c = omega (arith, within (c .before .before .before .before .loop .inv .ra), first-bytes (c .before .before .before .before .before .before .args .kind) (c .before .before .before .before .before .before .args .m .now))
+add-i c =
+    let loop = c .before .before .before .before .loop in
+    let start = c .before .before .before .before .before .before in
+    omega (arith, within (loop .inv .ra), first-bytes (start .args .kind) (start .args .m .now))
 
 -- src/lib.rt:152:5
 loop-less : tie.Need-loop-less Inv-loop μ-loop
@@ -64,7 +78,12 @@ loop-less c = omega (arith, within (c .before .before .before .before .loop .inv
 
 -- src/lib.rt:152:5
 loop-again : tie.Need-loop-again Inv-loop μ-loop
-loop-again c = let k = (c .before .before .before .before .before .before .pre .0 .0) in found-later k (first-canonical k (c .before .before .before .before .before .before .pre .1)) (c .before .before .before .before .loop .inv) (seen _ (c .before .before .before .before .loop .inv .ra) (c .before .before .before .get .ensures)) (omega (arith, c .before .before .upper-half .ensures))
+loop-again c =
+    let loop = c .before .before .before .before .loop in
+    let start = c .before .before .before .before .before .before in
+    let k = (start .pre .0 .0) in
+    found-later k (first-canonical k (start .pre .1)) (loop .inv) (seen _ (loop .inv .ra) (c .before .before .before .get .ensures))
+    (omega (arith, c .before .before .upper-half .ensures))
 
 pub find-power-spec : {M : Type 1} → statement M
 find-power-spec =

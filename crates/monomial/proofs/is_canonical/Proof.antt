@@ -23,7 +23,14 @@ canonical-words-requires c κs = search needs
 
 -- src/lib.rt:87:5
 mul-result : tie.Need-mul-result
-mul-result c = omega (arith, c .canonical-words .ensures, front-short (c .before .before .before .args .kind) (c .before .before .before .args .variables) 0 (words (c .before .before .before .args .s .now)), length-words (c .before .before .before .args .s .now))
+mul-result c =
+    let start = c .before .before .before in
+    omega (
+      arith,
+      c .canonical-words .ensures,
+      front-short (start .args .kind) (start .args .variables) 0 (words (start .args .s .now)),
+      length-words (start .args .s .now),
+    )
 
 -- src/lib.rt:79:1
 returns-2 : tie.Need-returns-2

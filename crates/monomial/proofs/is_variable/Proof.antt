@@ -36,7 +36,15 @@ power-requires c κs = search needs
 -- src/lib.rt:40:9
 returns-3 : tie.Need-returns-3
 unfolding isVar
-returns-3 c = simp (eq-eqb _ _ (rw (c .before .before .before .before .before .kind .ensures) at (c .before .before .before .before .if1 .left)), lt-ltb _ _ (rw (c .before .before .before .id .ensures) at (c .before .before .if2 .left)), le-ltb 0 (power (c .before .before .before .before .before .before .args .w)) (omega (arith, c .before .power .ensures)))
+returns-3 c =
+    let if1 = c .before .before .before .before .if1 in
+    let kind = c .before .before .before .before .before .kind in
+    let start = c .before .before .before .before .before .before in
+    simp (
+      eq-eqb _ _ (rw (kind .ensures) at (if1 .left)),
+      lt-ltb _ _ (rw (c .before .before .before .id .ensures) at (c .before .before .if2 .left)),
+      le-ltb 0 (power (start .args .w)) (omega (arith, c .before .power .ensures)),
+    )
 
 -- src/lib.rt:42:25
 sub-if4 : tie.Need-sub-if4
@@ -53,7 +61,18 @@ add-if4 c = search needs
 -- src/lib.rt:43:9
 returns-4 : tie.Need-returns-4
 unfolding isVar
-returns-4 c = simp (eq-eqb _ _ (rw (c .before .before .before .before .before .before .kind .ensures) at (c .before .before .before .before .before .if1 .left)), lt-ltb _ _ (rw (c .before .before .before .before .id .ensures) at (c .before .before .before .if2 .left)), lt-ltb 0 (power (c .before .before .before .before .before .before .before .args .w)) (omega (arith, c .before .before .power .ensures)), lt-leb _ _ (rw (c .before .before .power .ensures) at (c .if4 .taken)))
+returns-4 c =
+    let the-power = c .before .before .power in
+    let id = c .before .before .before .before .id in
+    let if1 = c .before .before .before .before .before .if1 in
+    let kind = c .before .before .before .before .before .before .kind in
+    let start = c .before .before .before .before .before .before .before in
+    simp (
+      eq-eqb _ _ (rw (kind .ensures) at (if1 .left)),
+      lt-ltb _ _ (rw (id .ensures) at (c .before .before .before .if2 .left)),
+      lt-ltb 0 (power (start .args .w)) (omega (arith, the-power .ensures)),
+      lt-leb _ _ (rw (the-power .ensures) at (c .if4 .taken)),
+    )
 
 -- src/lib.rt:45:22
 sub-if5 : tie.Need-sub-if5
@@ -66,12 +85,38 @@ mul-if5 c = search needs
 -- src/lib.rt:46:9
 returns-5 : tie.Need-returns-5
 unfolding isVar
-returns-5 c = simp (eq-eqb _ _ (rw (c .before .before .before .before .before .before .before .kind .ensures) at (c .before .before .before .before .before .before .if1 .left)), lt-ltb _ _ (rw (c .before .before .before .before .before .id .ensures) at (c .before .before .before .before .if2 .left)), lt-ltb 0 (power (c .before .before .before .before .before .before .before .before .args .w)) (omega (arith, c .before .before .before .power .ensures)), le-leb _ _ (rw (c .before .before .before .power .ensures) at (c .before .if4 .left)), eq-eqb _ _ (rw (c .before .before .before .power .ensures) at (c .if5 .taken)))
+returns-5 c =
+    let the-power = c .before .before .before .power in
+    let if2 = c .before .before .before .before .if2 in
+    let id = c .before .before .before .before .before .id in
+    let if1 = c .before .before .before .before .before .before .if1 in
+    let b7 = c .before .before .before .before .before .before .before in
+    let start = b7 .before in
+    simp (
+      eq-eqb _ _ (rw (b7 .kind .ensures) at (if1 .left)),
+      lt-ltb _ _ (rw (id .ensures) at (if2 .left)),
+      lt-ltb 0 (power (start .args .w)) (omega (arith, the-power .ensures)),
+      le-leb _ _ (rw (the-power .ensures) at (c .before .if4 .left)),
+      eq-eqb _ _ (rw (the-power .ensures) at (c .if5 .taken)),
+    )
 
 -- src/lib.rt:28:1
 returns-6 : tie.Need-returns-6
 unfolding isVar
-returns-6 c = simp (eq-eqb _ _ (rw (c .before .before .before .before .before .before .before .kind .ensures) at (c .before .before .before .before .before .before .if1 .left)), lt-ltb _ _ (rw (c .before .before .before .before .before .id .ensures) at (c .before .before .before .before .if2 .left)), lt-ltb 0 (power (c .before .before .before .before .before .before .before .before .args .w)) (omega (arith, c .before .before .before .power .ensures)), le-leb _ _ (rw (c .before .before .before .power .ensures) at (c .before .if4 .left)), ne-eqb _ _ (rw (c .before .before .before .power .ensures) at (c .if5 .left)))
+returns-6 c =
+    let the-power = c .before .before .before .power in
+    let if2 = c .before .before .before .before .if2 in
+    let id = c .before .before .before .before .before .id in
+    let if1 = c .before .before .before .before .before .before .if1 in
+    let b7 = c .before .before .before .before .before .before .before in
+    let start = b7 .before in
+    simp (
+      eq-eqb _ _ (rw (b7 .kind .ensures) at (if1 .left)),
+      lt-ltb _ _ (rw (id .ensures) at (if2 .left)),
+      lt-ltb 0 (power (start .args .w)) (omega (arith, the-power .ensures)),
+      le-leb _ _ (rw (the-power .ensures) at (c .before .if4 .left)),
+      ne-eqb _ _ (rw (the-power .ensures) at (c .if5 .left)),
+    )
 
 pub is-variable-spec : {M : Type 1} → statement M
 is-variable-spec =

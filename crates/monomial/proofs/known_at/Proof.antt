@@ -35,15 +35,36 @@ returns c = rw (← (c .before .before .words-to-end .ensures), c .before .if1 .
 
 -- src/lib.rt:139:13
 mul-a : tie.Need-mul-a
-mul-a c = omega (arith, end-within (c .before .before .before .args .at) (c .before .words-to-end .result) (words (c .before .before .before .args .s .now)) (c .before .words-to-end .ensures) (c .if1 .left), length-words (c .before .before .before .args .s .now))
+mul-a c =
+    let start = c .before .before .before in
+    omega (
+      arith,
+      end-within (start .args .at) (c .before .words-to-end .result) (words (start .args .s .now)) (c .before .words-to-end .ensures)
+          (c .if1 .left),
+      length-words (start .args .s .now),
+    )
 
 -- src/lib.rt:140:17
 mul-e : tie.Need-mul-e
-mul-e c = omega (arith, end-within (c .before .before .before .args .at) (c .before .words-to-end .result) (words (c .before .before .before .args .s .now)) (c .before .words-to-end .ensures) (c .if1 .left), length-words (c .before .before .before .args .s .now))
+mul-e c =
+    let start = c .before .before .before in
+    omega (
+      arith,
+      end-within (start .args .at) (c .before .words-to-end .result) (words (start .args .s .now)) (c .before .words-to-end .ensures)
+          (c .if1 .left),
+      length-words (start .args .s .now),
+    )
 
 -- src/lib.rt:140:13
 add-e : tie.Need-add-e
-add-e c = omega (arith, end-within (c .before .before .before .args .at) (c .before .words-to-end .result) (words (c .before .before .before .args .s .now)) (c .before .words-to-end .ensures) (c .if1 .left), length-words (c .before .before .before .args .s .now))
+add-e c =
+    let start = c .before .before .before in
+    omega (
+      arith,
+      end-within (start .args .at) (c .before .words-to-end .result) (words (start .args .s .now)) (c .before .words-to-end .ensures)
+          (c .if1 .left),
+      length-words (start .args .s .now),
+    )
 
 -- src/lib.rt:141:5
 sub-result-2 : tie.Need-sub-result-2
@@ -55,12 +76,23 @@ part-result-start-2 c = search needs
 
 -- src/lib.rt:141:5
 part-result-end-2 : tie.Need-part-result-end-2
-part-result-end-2 c = omega (arith, end-within (c .before .before .before .args .at) (c .before .words-to-end .result) (words (c .before .before .before .args .s .now)) (c .before .words-to-end .ensures) (c .if1 .left), length-words (c .before .before .before .args .s .now))
+part-result-end-2 c =
+    let start = c .before .before .before in
+    omega (
+      arith,
+      end-within (start .args .at) (c .before .words-to-end .result) (words (start .args .s .now)) (c .before .words-to-end .ensures)
+          (c .if1 .left),
+      length-words (start .args .s .now),
+    )
 
 -- src/lib.rt:132:1
 returns-2 : tie.Need-returns-2
 unfolding ended
-returns-2 c = let e : 4 * (c .before .before .before .before .args .at) + 4 * (c .before .before .words-to-end .result) - 4 * (c .before .before .before .before .args .at) ≡ 4 * (c .before .before .words-to-end .result) = omega arith in rw (e, ← (c .before .before .words-to-end .ensures))
+returns-2 c =
+    let words-to-end = c .before .before .words-to-end in
+    let start = c .before .before .before .before in
+    let e : 4 * (start .args .at) + 4 * (words-to-end .result) - 4 * (start .args .at) ≡ 4 * (words-to-end .result) = omega arith in
+    rw (e, ← (words-to-end .ensures))
 
 pub known-at-spec : {M : Type 1} → statement M
 known-at-spec =

@@ -43,7 +43,12 @@ add-result c = search needs
 
 -- src/lib.rt:124:13
 returns : tie.Need-returns Inv-loop μ-loop
-returns c = sym (c .before .before .before .before .loop .inv .1 ∙ rw (word-and-rest (words (c .before .before .before .before .before .before .args .s .now)) (c .before .before .before .before .loop .i) (c .before .before .get .result) (omega (arith, length-words (c .before .before .before .before .before .before .args .s .now))) (c .before .before .get .ensures)) (end-here _ _ _ (is-end-true _ (c .before .is-end .ensures) (c .if1 .taken))))
+returns c =
+    let get = c .before .before .get in
+    let loop = c .before .before .before .before .loop in
+    let start = c .before .before .before .before .before .before in
+    sym (loop .inv .1 ∙ rw (word-and-rest (words (start .args .s .now)) (loop .i) (get .result) (omega (arith, length-words (start .args .s .now)))
+    (get .ensures)) (end-here _ _ _ (is-end-true _ (c .before .is-end .ensures) (c .if1 .taken))))
 
 -- src/lib.rt:126:9
 add-i : tie.Need-add-i Inv-loop μ-loop
@@ -55,11 +60,22 @@ loop-less c = search needs
 
 -- src/lib.rt:122:5
 loop-again : tie.Need-loop-again Inv-loop μ-loop
-loop-again c = (omega (arith, c .before .before .before .before .loop .inv .0), let z : (c .before .before .before .before .loop .i) - (c .before .before .before .before .before .before .args .at) + 1 ≡ (c .before .before .before .before .loop .i) + 1 - (c .before .before .before .before .before .before .args .at) = omega (arith, c .before .before .before .before .loop .inv .0) in (c .before .before .before .before .loop .inv .1) ∙ rw (word-and-rest (words (c .before .before .before .before .before .before .args .s .now)) (c .before .before .before .before .loop .i) (c .before .before .get .result) (omega (arith, length-words (c .before .before .before .before .before .before .args .s .now))) (c .before .before .get .ensures)) (end-past _ _ _ (is-end-false _ (c .before .is-end .ensures) (c .if1 .left))) ∙ ap (λ (n : ℕ). toEnd n (drop ((c .before .before .before .before .loop .i) + 1) (words (c .before .before .before .before .before .before .args .s .now)))) z)
+loop-again c =
+    let get = c .before .before .get in
+    let loop = c .before .before .before .before .loop in
+    let start = c .before .before .before .before .before .before in (
+      omega (arith, loop .inv .0),
+      let z : (loop .i) - (start .args .at) + 1 ≡ (loop .i) + 1 - (start .args .at) = omega (arith, loop .inv .0) in (loop .inv .1)
+          ∙ rw (word-and-rest (words (start .args .s .now)) (loop .i) (get .result) (omega (arith, length-words (start .args .s .now))) (get .ensures))
+          (end-past _ _ _ (is-end-false _ (c .before .is-end .ensures) (c .if1 .left))) ∙ ap (λ (n : ℕ). toEnd n (drop ((loop .i) + 1) (words (start .args .s .now)))) z,
+    )
 
 -- src/lib.rt:117:1
 returns-2 : tie.Need-returns-2 Inv-loop μ-loop
-returns-2 c = sym (c .before .loop .inv .1 ∙ rw (drop-of-length-le (words (c .before .before .before .args .s .now)) {i = (c .before .loop .i)} (omega (arith, length-words (c .before .before .before .args .s .now)))) (end-none _))
+returns-2 c =
+    let start = c .before .before .before in
+    sym (c .before .loop .inv .1 ∙ rw (drop-of-length-le (words (start .args .s .now)) {i = (c .before .loop .i)}
+    (omega (arith, length-words (start .args .s .now)))) (end-none _))
 
 pub words-to-end-spec : {M : Type 1} → statement M
 words-to-end-spec =

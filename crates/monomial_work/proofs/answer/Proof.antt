@@ -21,10 +21,11 @@ enum-told c = search needs
 -- src/lib.rt:73:20
 gcd-requires : tie.Need-gcd-requires
 gcd-requires c κs =
-    let a = c .before .before .before .before .before .before .args .a .now in
-    let b = c .before .before .before .before .before .before .args .b .now in
-    let t = c .before .before .before .before .before .before .args .out .now in
-    ready Op.Gcd (words a) (words b) t (c .before .before .before .before .before .before .pre .0) (c .before .before .before .before .before .before .pre .1 .0) (c .before .before .before .before .before .before .pre .1 .1)
+    let start = c .before .before .before .before .before .before in
+    let a = start .args .a .now in
+    let b = start .args .b .now in
+    let t = start .args .out .now in
+    ready Op.Gcd (words a) (words b) t (start .pre .0) (start .pre .1 .0) (start .pre .1 .1)
 
 -- src/lib.rt:74:44
 enum-told-2 : tie.Need-enum-told-2
@@ -33,10 +34,11 @@ enum-told-2 c = search needs
 -- src/lib.rt:74:24
 mul-requires : tie.Need-mul-requires
 mul-requires c κs =
-    let a = c .before .before .before .before .before .before .args .a .now in
-    let b = c .before .before .before .before .before .before .args .b .now in
-    let t = c .before .before .before .before .before .before .args .out .now in
-    ready Op.Product (words a) (words b) t (c .before .before .before .before .before .before .pre .0) (c .before .before .before .before .before .before .pre .1 .0) (c .before .before .before .before .before .before .pre .1 .1)
+    let start = c .before .before .before .before .before .before in
+    let a = start .args .a .now in
+    let b = start .args .b .now in
+    let t = start .args .out .now in
+    ready Op.Product (words a) (words b) t (start .pre .0) (start .pre .1 .0) (start .pre .1 .1)
 
 -- src/lib.rt:75:40
 enum-told-3 : tie.Need-enum-told-3
@@ -45,10 +47,11 @@ enum-told-3 c = search needs
 -- src/lib.rt:75:25
 quotient-requires : tie.Need-quotient-requires
 quotient-requires c κs =
-    let a = c .before .before .before .before .before .before .args .a .now in
-    let b = c .before .before .before .before .before .before .args .b .now in
-    let t = c .before .before .before .before .before .before .args .out .now in
-    let r = ready Op.Quotient (words a) (words b) t (c .before .before .before .before .before .before .pre .0) (c .before .before .before .before .before .before .pre .1 .0) (c .before .before .before .before .before .before .pre .1 .1) in
+    let start = c .before .before .before .before .before .before in
+    let a = start .args .a .now in
+    let b = start .args .b .now in
+    let t = start .args .out .now in
+    let r = ready Op.Quotient (words a) (words b) t (start .pre .0) (start .pre .1 .0) (start .pre .1 .1) in
     (r .0, (r .1 .0, (omega arith, r .1 .1)))
 
 -- src/lib.rt:76:56
@@ -58,10 +61,11 @@ enum-told-4 c = search needs
 -- src/lib.rt:76:22
 fraction-division-requires : tie.Need-fraction-division-requires
 fraction-division-requires c κs =
-    let a = c .before .before .before .before .before .before .args .a .now in
-    let b = c .before .before .before .before .before .before .args .b .now in
-    let t = c .before .before .before .before .before .before .args .out .now in
-    ready Op.Ratio (words a) (words b) t (c .before .before .before .before .before .before .pre .0) (c .before .before .before .before .before .before .pre .1 .0) (c .before .before .before .before .before .before .pre .1 .1)
+    let start = c .before .before .before .before .before .before in
+    let a = start .args .a .now in
+    let b = start .args .b .now in
+    let t = start .args .out .now in
+    ready Op.Ratio (words a) (words b) t (start .pre .0) (start .pre .1 .0) (start .pre .1 .1)
 
 -- src/lib.rt:66:1
 same-length : tie.Need-same-length
@@ -71,7 +75,9 @@ same-length c = search needs
 returns : tie.Need-returns
 unfolding answer
 returns c =
-    rw (c .before .before .before .before .enum-told .given .1) (rw (first-whole (c .before .before .before .before .before .before .before .before .before .pre .0), first-whole (c .before .before .before .before .before .before .before .before .before .pre .1 .0)) at (c .before .before .gcd .ensures))
+    let enum-told = c .before .before .before .before .enum-told in
+    let start = c .before .before .before .before .before .before .before .before .before in
+    rw (enum-told .given .1) (rw (first-whole (start .pre .0), first-whole (start .pre .1 .0)) at (c .before .before .gcd .ensures))
 
 -- src/lib.rt:66:1
 same-length-2 : tie.Need-same-length-2
@@ -81,7 +87,9 @@ same-length-2 c = search needs
 returns-2 : tie.Need-returns-2
 unfolding answer
 returns-2 c =
-    rw (c .before .before .before .before .enum-told2 .given .1) (rw (first-whole (c .before .before .before .before .before .before .before .before .before .pre .0), first-whole (c .before .before .before .before .before .before .before .before .before .pre .1 .0)) at (c .before .before .mul .ensures))
+    let enum-told2 = c .before .before .before .before .enum-told2 in
+    let start = c .before .before .before .before .before .before .before .before .before in
+    rw (enum-told2 .given .1) (rw (first-whole (start .pre .0), first-whole (start .pre .1 .0)) at (c .before .before .mul .ensures))
 
 -- src/lib.rt:66:1
 same-length-3 : tie.Need-same-length-3
@@ -91,7 +99,9 @@ same-length-3 c = search needs
 returns-3 : tie.Need-returns-3
 unfolding answer
 returns-3 c =
-    rw (c .before .before .before .before .enum-told3 .given .1) (rw (first-whole (c .before .before .before .before .before .before .before .before .before .pre .0), first-whole (c .before .before .before .before .before .before .before .before .before .pre .1 .0)) at (c .before .before .quotient .ensures))
+    let enum-told3 = c .before .before .before .before .enum-told3 in
+    let start = c .before .before .before .before .before .before .before .before .before in
+    rw (enum-told3 .given .1) (rw (first-whole (start .pre .0), first-whole (start .pre .1 .0)) at (c .before .before .quotient .ensures))
 
 -- src/lib.rt:66:1
 same-length-4 : tie.Need-same-length-4
@@ -101,7 +111,9 @@ same-length-4 c = search needs
 returns-4 : tie.Need-returns-4
 unfolding answer
 returns-4 c =
-    rw (c .before .before .before .before .enum-told4 .given .1) (rw (first-whole (c .before .before .before .before .before .before .before .before .before .pre .0), first-whole (c .before .before .before .before .before .before .before .before .before .pre .1 .0)) at (c .before .before .fraction-division .ensures))
+    let enum-told4 = c .before .before .before .before .enum-told4 in
+    let start = c .before .before .before .before .before .before .before .before .before in
+    rw (enum-told4 .given .1) (rw (first-whole (start .pre .0), first-whole (start .pre .1 .0)) at (c .before .before .fraction-division .ensures))
 
 pub answer-spec : {M : Type 1} → statement M
 answer-spec =

@@ -3,7 +3,7 @@ use mathlib.Core.Path.{refl, sym, _∙_}
 use Rattle.words.specs.Words.{words}
 use Rattle.monomial_work.specs.Steps.{workOf}
 use Rattle.monomial_work.proofs.Laws.{answer-length}
-use Rattle.monomial_work.proofs.Questions.{asked-no, fine, canonical-64, power-too-large, no-room, answered, made-fits, kinds}
+use Rattle.monomial_work.proofs.Questions.{asked-no, fine, canonical-64, power-too-large, no-room, answered, made-fits, kinds, Fine, Made}
 use borrow.Author.Needs.{needs}
 use Rattle.monomial_work.proofs.make.Statement.{statement}
 use Rattle.monomial_work.proofs.make.Tie as tie
@@ -14,19 +14,32 @@ use Rattle.monomial_work.proofs.answer.Reads as answer-reads
 use Rattle.monomial_work.proofs.refusal.Reads as refusal-reads
 use Rattle.monomial_work.proofs.too_large.Reads as too-large-reads
 
+-- helpers
+-- the questions are passed
+fine-at : (c : tie.Else1)
+    → let s = c .before .before .before .before .before .args in
+    Fine 1 (s .variables) (s .a .now) (s .b .now)
+fine-at c = fine 1 _ _ _ (sym (c .if1 .left) ∙ c .before .refusal .ensures)
+
+-- the answer is made
+made-at : (c : tie.After-answer) → Made (c .answer .last .1 .1 .1 .0) (c .answer .result)
+made-at c =
+    let s = c .before .before .before .before .before .before .before .args in
+    let f = fine-at (c .before .before) in
+    let ca = canonical-64 1 (s .variables) (s .a .now) (omega arith) (f .few) (f .la) in
+    let cb = canonical-64 1 (s .variables) (s .b .now) (omega arith) (f .few) (f .lb) in
+    made-fits _ _ _ _ (c .answer .ensures .1) refl (c .answer .ensures .0) (answer-length (s .op) (words (s .a .now)) (words (s .b .now)) ca cb)
+
+-- end of helpers
+
 -- src/lib.rt:116:9
 refusal-requires : tie.Need-refusal-requires
 refusal-requires c κs = search needs
 
 -- src/lib.rt:118:9
 returns : tie.Need-returns
-returns c =
-    let m = c .before .before .before .before .before .args .variables in
-    let o = c .before .before .before .before .before .args .op in
-    let a = c .before .before .before .before .before .args .a .now in
-    let b = c .before .before .before .before .before .args .b .now in
-    let t = c .before .before .before .before .before .args .out .now in
-    asked-no (workOf o) m a b t (rw (← kinds o) at (c .before .refusal .ensures)) (c .if1 .taken)
+returns c = let s = (c .before .before .before .before .before .args) in
+    asked-no (workOf (s .op)) (s .variables) (s .a .now) (s .b .now) (s .out .now) (rw (← kinds (s .op)) at (c .before .refusal .ensures)) (c .if1 .taken)
 
 -- src/lib.rt:121:34
 slice-aggregate-answer : tie.Need-slice-aggregate-answer
@@ -34,50 +47,21 @@ slice-aggregate-answer c = search needs
 
 -- src/lib.rt:121:17
 answer-requires : tie.Need-answer-requires
-answer-requires c κs =
-    let m = c .before .before .before .before .before .before .args .variables in
-    let a = c .before .before .before .before .before .before .args .a .now in
-    let b = c .before .before .before .before .before .before .args .b .now in
-    let f = fine 1 m a b (sym (c .before .if1 .left) ∙ c .before .before .refusal .ensures) in
-    let ca = canonical-64 1 m a (omega arith) (f .few) (f .la) in
-    let cb = canonical-64 1 m b (omega arith) (f .few) (f .lb) in
-    (ca, (cb, omega arith))
+answer-requires c κs = let s = (c .before .before .before .before .before .before .args) in
+    let f = fine-at (c .before) in
+    (canonical-64 1 (s .variables) (s .a .now) (omega arith) (f .few) (f .la), (canonical-64 1 (s .variables) (s .b .now) (omega arith) (f .few) (f .lb), omega arith))
 
 -- src/lib.rt:121:13
 mul-e : tie.Need-mul-e
-mul-e c =
-    let m = c .before .before .before .before .before .before .before .before .args .variables in
-    let o = c .before .before .before .before .before .before .before .before .args .op in
-    let a = c .before .before .before .before .before .before .before .before .args .a .now in
-    let b = c .before .before .before .before .before .before .before .before .args .b .now in
-    let f = fine 1 m a b (sym (c .before .before .before .if1 .left) ∙ c .before .before .before .before .refusal .ensures) in
-    let ca = canonical-64 1 m a (omega arith) (f .few) (f .la) in
-    let cb = canonical-64 1 m b (omega arith) (f .few) (f .lb) in
-    omega (arith, answer-length o (words a) (words b) ca cb, c .before .answer .ensures .0)
+mul-e c = omega (arith, made-at (c .before) .few)
 
 -- src/lib.rt:122:22
 array-share-prefix-made : tie.Need-array-share-prefix-made
-array-share-prefix-made c =
-    let m = c .before .before .before .before .before .before .before .before .args .variables in
-    let o = c .before .before .before .before .before .before .before .before .args .op in
-    let a = c .before .before .before .before .before .before .before .before .args .a .now in
-    let b = c .before .before .before .before .before .before .before .before .args .b .now in
-    let f = fine 1 m a b (sym (c .before .before .before .if1 .left) ∙ c .before .before .before .before .refusal .ensures) in
-    let ca = canonical-64 1 m a (omega arith) (f .few) (f .la) in
-    let cb = canonical-64 1 m b (omega arith) (f .few) (f .lb) in
-    made-fits _ (c .before .answer .last .1 .1 .1 .0) _ (c .before .answer .result) (c .before .answer .ensures .1) refl (c .before .answer .ensures .0) (answer-length o (words a) (words b) ca cb) .room
+array-share-prefix-made c = made-at (c .before) .room
 
 -- src/lib.rt:122:22
 slice-aggregate-too-large : tie.Need-slice-aggregate-too-large
-slice-aggregate-too-large c =
-    let m = c .before .before .before .before .before .before .before .before .before .args .variables in
-    let o = c .before .before .before .before .before .before .before .before .before .args .op in
-    let a = c .before .before .before .before .before .before .before .before .before .args .a .now in
-    let b = c .before .before .before .before .before .before .before .before .before .args .b .now in
-    let f = fine 1 m a b (sym (c .before .before .before .before .if1 .left) ∙ c .before .before .before .before .before .refusal .ensures) in
-    let ca = canonical-64 1 m a (omega arith) (f .few) (f .la) in
-    let cb = canonical-64 1 m b (omega arith) (f .few) (f .lb) in
-    sym (made-fits _ (c .before .before .answer .last .1 .1 .1 .0) _ (c .before .before .answer .result) (c .before .before .answer .ensures .1) refl (c .before .before .answer .ensures .0) (answer-length o (words a) (words b) ca cb) .size)
+slice-aggregate-too-large c = sym (made-at (c .before .before) .size)
 
 -- src/lib.rt:122:8
 too-large-requires : tie.Need-too-large-requires
@@ -86,60 +70,34 @@ too-large-requires c κs = search needs
 -- src/lib.rt:123:9
 returns-2 : tie.Need-returns-2
 returns-2 c =
-    let m = c .before .before .before .before .before .before .before .before .before .before .before .args .variables in
-    let o = c .before .before .before .before .before .before .before .before .before .before .before .args .op in
-    let a = c .before .before .before .before .before .before .before .before .before .before .before .args .a .now in
-    let b = c .before .before .before .before .before .before .before .before .before .before .before .args .b .now in
-    let t = c .before .before .before .before .before .before .before .before .before .before .before .args .out .now in
-    let f = fine 1 m a b (sym (c .before .before .before .before .before .before .if1 .left) ∙ c .before .before .before .before .before .before .before .refusal .ensures) in
-    power-too-large o m a b t f _ (c .before .before .before .before .answer .last .1 .1 .1 .0) (c .before .before .before .before .answer .result) (c .before .before .before .before .answer .ensures .0) (c .before .before .before .before .answer .ensures .1) (sym (c .before .too-large .ensures) ∙ c .if2 .taken)
+    let answer = c .before .before .before .before .answer in
+    let before = c .before .before .before .before .before .before in
+    let start = c .before .before .before .before .before .before .before .before .before .before .before in
+    let s = (start .args) in
+    power-too-large (s .op) (s .variables) (s .a .now) (s .b .now) (s .out .now) (fine-at before) _ (answer .last .1 .1 .1 .0) (answer .result)
+    (answer .ensures .0) (answer .ensures .1) (sym (c .before .too-large .ensures) ∙ c .if2 .taken)
 
 -- src/lib.rt:126:9
 returns-3 : tie.Need-returns-3
 returns-3 c =
-    let m = c .before .before .before .before .before .before .before .before .before .before .before .before .args .variables in
-    let o = c .before .before .before .before .before .before .before .before .before .before .before .before .args .op in
-    let a = c .before .before .before .before .before .before .before .before .before .before .before .before .args .a .now in
-    let b = c .before .before .before .before .before .before .before .before .before .before .before .before .args .b .now in
-    let t = c .before .before .before .before .before .before .before .before .before .before .before .before .args .out .now in
-    let f = fine 1 m a b (sym (c .before .before .before .before .before .before .before .if1 .left) ∙ c .before .before .before .before .before .before .before .before .refusal .ensures) in
-    no-room o m a b t f _ (c .before .before .before .before .before .answer .last .1 .1 .1 .0) (c .before .before .before .before .before .answer .result) (c .before .before .before .before .before .answer .ensures .0) (c .before .before .before .before .before .answer .ensures .1) (sym (c .before .before .too-large .ensures) ∙ c .before .if2 .left) (c .if3 .taken)
+    let answer = c .before .before .before .before .before .answer in
+    let before = c .before .before .before .before .before .before .before in
+    let start = c .before .before .before .before .before .before .before .before .before .before .before .before in
+    let s = (start .args) in
+    no-room (s .op) (s .variables) (s .a .now) (s .b .now) (s .out .now) (fine-at before) _ (answer .last .1 .1 .1 .0) (answer .result) (answer .ensures .0)
+    (answer .ensures .1) (sym (c .before .before .too-large .ensures) ∙ c .before .if2 .left) (c .if3 .taken)
 
 -- src/lib.rt:128:17
 array-share-prefix-made-2 : tie.Need-array-share-prefix-made-2
-array-share-prefix-made-2 c =
-    let m = c .before .before .before .before .before .before .before .before .before .before .before .before .args .variables in
-    let o = c .before .before .before .before .before .before .before .before .before .before .before .before .args .op in
-    let a = c .before .before .before .before .before .before .before .before .before .before .before .before .args .a .now in
-    let b = c .before .before .before .before .before .before .before .before .before .before .before .before .args .b .now in
-    let f = fine 1 m a b (sym (c .before .before .before .before .before .before .before .if1 .left) ∙ c .before .before .before .before .before .before .before .before .refusal .ensures) in
-    let ca = canonical-64 1 m a (omega arith) (f .few) (f .la) in
-    let cb = canonical-64 1 m b (omega arith) (f .few) (f .lb) in
-    made-fits _ (c .before .before .before .before .before .answer .last .1 .1 .1 .0) _ (c .before .before .before .before .before .answer .result) (c .before .before .before .before .before .answer .ensures .1) refl (c .before .before .before .before .before .answer .ensures .0) (answer-length o (words a) (words b) ca cb) .room
+array-share-prefix-made-2 c = made-at (c .before .before .before .before .before) .room
 
 -- src/lib.rt:128:17
 slice-aggregate-copy : tie.Need-slice-aggregate-copy
-slice-aggregate-copy c =
-    let m = c .before .before .before .before .before .before .before .before .before .before .before .before .before .args .variables in
-    let o = c .before .before .before .before .before .before .before .before .before .before .before .before .before .args .op in
-    let a = c .before .before .before .before .before .before .before .before .before .before .before .before .before .args .a .now in
-    let b = c .before .before .before .before .before .before .before .before .before .before .before .before .before .args .b .now in
-    let f = fine 1 m a b (sym (c .before .before .before .before .before .before .before .before .if1 .left) ∙ c .before .before .before .before .before .before .before .before .before .refusal .ensures) in
-    let ca = canonical-64 1 m a (omega arith) (f .few) (f .la) in
-    let cb = canonical-64 1 m b (omega arith) (f .few) (f .lb) in
-    sym (made-fits _ (c .before .before .before .before .before .before .answer .last .1 .1 .1 .0) _ (c .before .before .before .before .before .before .answer .result) (c .before .before .before .before .before .before .answer .ensures .1) refl (c .before .before .before .before .before .before .answer .ensures .0) (answer-length o (words a) (words b) ca cb) .size)
+slice-aggregate-copy c = sym (made-at (c .before .before .before .before .before .before) .size)
 
 -- src/lib.rt:128:5
 copy-requires : tie.Need-copy-requires
-copy-requires c κs =
-    let m = c .before .before .before .before .before .before .before .before .before .before .before .before .before .before .args .variables in
-    let o = c .before .before .before .before .before .before .before .before .before .before .before .before .before .before .args .op in
-    let a = c .before .before .before .before .before .before .before .before .before .before .before .before .before .before .args .a .now in
-    let b = c .before .before .before .before .before .before .before .before .before .before .before .before .before .before .args .b .now in
-    let f = fine 1 m a b (sym (c .before .before .before .before .before .before .before .before .before .if1 .left) ∙ c .before .before .before .before .before .before .before .before .before .before .refusal .ensures) in
-    let ca = canonical-64 1 m a (omega arith) (f .few) (f .la) in
-    let cb = canonical-64 1 m b (omega arith) (f .few) (f .lb) in
-    omega (arith, made-fits _ (c .before .before .before .before .before .before .before .answer .last .1 .1 .1 .0) _ (c .before .before .before .before .before .before .before .answer .result) (c .before .before .before .before .before .before .before .answer .ensures .1) refl (c .before .before .before .before .before .before .before .answer .ensures .0) (answer-length o (words a) (words b) ca cb) .size)
+copy-requires c κs = omega (arith, made-at (c .before .before .before .before .before .before .before) .size)
 
 -- src/lib.rt:113:1
 same-length : tie.Need-same-length
@@ -148,13 +106,15 @@ same-length c = search needs
 -- src/lib.rt:113:1
 returns-4 : tie.Need-returns-4
 returns-4 c =
-    let m = c .before .before .before .before .before .before .before .before .before .before .before .before .before .before .before .before .before .args .variables in
-    let o = c .before .before .before .before .before .before .before .before .before .before .before .before .before .before .before .before .before .args .op in
-    let a = c .before .before .before .before .before .before .before .before .before .before .before .before .before .before .before .before .before .args .a .now in
-    let b = c .before .before .before .before .before .before .before .before .before .before .before .before .before .before .before .before .before .args .b .now in
-    let t = c .before .before .before .before .before .before .before .before .before .before .before .before .before .before .before .before .before .args .out .now in
-    let f = fine 1 m a b (sym (c .before .before .before .before .before .before .before .before .before .before .before .before .if1 .left) ∙ c .before .before .before .before .before .before .before .before .before .before .before .before .before .refusal .ensures) in
-    answered o m a b t f _ (c .before .before .before .before .before .before .before .before .before .before .answer .last .1 .1 .1 .0) (c .before .before .before .before .before .before .before .before .before .before .answer .result) (c .before .before .before .before .before .before .before .before .before .before .answer .ensures .0) (c .before .before .before .before .before .before .before .before .before .before .answer .ensures .1) (sym (c .before .before .before .before .before .before .before .too-large .ensures) ∙ c .before .before .before .before .before .before .if2 .left) (c .before .before .before .before .before .if3 .left) _ (c .before .before .copy .ensures .1)
+    let if3 = c .before .before .before .before .before .if3 in
+    let if2 = c .before .before .before .before .before .before .if2 in
+    let b7 = c .before .before .before .before .before .before .before in
+    let answer = b7 .before .before .before .answer in
+    let before = b7 .before .before .before .before .before in
+    let start = b7 .before .before .before .before .before .before .before .before .before .before in
+    let s = (start .args) in
+    answered (s .op) (s .variables) (s .a .now) (s .b .now) (s .out .now) (fine-at before) _ (answer .last .1 .1 .1 .0) (answer .result) (answer .ensures .0)
+    (answer .ensures .1) (sym (b7 .too-large .ensures) ∙ if2 .left) (if3 .left) _ (c .before .before .copy .ensures .1)
 
 pub make-spec : {M : Type 1} → statement M
 make-spec =

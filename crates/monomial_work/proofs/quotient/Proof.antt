@@ -37,10 +37,15 @@ same-length c = search needs
 returns : tie.Need-returns
 unfolding answer
 returns c =
-    let a = first 1 (words (c .before .before .before .before .before .before .before .before .before .before .before .before .before .args .a .now)) in
-    let b = first 1 (words (c .before .before .before .before .before .before .before .before .before .before .before .before .before .args .b .now)) in
-    let e = not-whole a b (sym (c .before .before .before .before .before .before .before .before .whole-division .ensures .0) ∙ c .before .before .before .before .enum-told .given .1) in
-    rw (division-words a b, e) (c .before .before .put-answer .ensures .0, c .before .before .put-answer .ensures .1 ∙ ap (λ (l : List ℕ). pasteW l 0 (1073741824 ∷ [])) (c .before .before .before .before .before .before .before .before .whole-division .ensures .1 ∙ rw e))
+    let put-answer = c .before .before .put-answer in
+    let enum-told = c .before .before .before .before .enum-told in
+    let b8 = c .before .before .before .before .before .before .before .before in
+    let whole-division = b8 .whole-division in
+    let start = b8 .before .before .before .before .before in
+    let a = first 1 (words (start .args .a .now)) in
+    let b = first 1 (words (start .args .b .now)) in
+    let e = not-whole a b (sym (whole-division .ensures .0) ∙ enum-told .given .1) in
+    rw (division-words a b, e) (put-answer .ensures .0, put-answer .ensures .1 ∙ ap (λ (l : List ℕ). pasteW l 0 (1073741824 ∷ [])) (whole-division .ensures .1 ∙ rw e))
 
 -- src/lib.rt:72:1
 same-length-2 : tie.Need-same-length-2

@@ -15,7 +15,10 @@ variables-fit-requires c κs = search needs
 
 -- src/lib.rt:98:9
 returns : tie.Need-returns
-returns c = no-variables (c .before .before .before .before .args .kind) (c .before .before .before .before .args .variables) (c .before .before .before .before .args .a .now) (c .before .before .before .before .args .b .now) (sym (c .before .variables-fit .ensures) ∙ not-true _ (c .if1 .taken))
+returns c =
+    let start = c .before .before .before .before in
+    no-variables (start .args .kind) (start .args .variables) (start .args .a .now) (start .args .b .now)
+    (sym (c .before .variables-fit .ensures) ∙ not-true _ (c .if1 .taken))
 
 -- src/lib.rt:100:9
 is-canonical-requires : tie.Need-is-canonical-requires
@@ -23,7 +26,11 @@ is-canonical-requires c κs = search needs
 
 -- src/lib.rt:101:9
 returns-2 : tie.Need-returns-2
-returns-2 c = first-not (c .before .before .before .before .before .before .args .kind) (c .before .before .before .before .before .before .args .variables) (c .before .before .before .before .before .before .args .a .now) (c .before .before .before .before .before .before .args .b .now) (sym (c .before .before .before .variables-fit .ensures) ∙ not-false _ (c .before .before .if1 .left)) (sym (c .before .is-canonical .ensures) ∙ not-true _ (c .if2 .taken))
+returns-2 c =
+    let start = c .before .before .before .before .before .before in
+    first-not (start .args .kind) (start .args .variables) (start .args .a .now) (start .args .b .now)
+    (sym (c .before .before .before .variables-fit .ensures) ∙ not-false _ (c .before .before .if1 .left))
+    (sym (c .before .is-canonical .ensures) ∙ not-true _ (c .if2 .taken))
 
 -- src/lib.rt:103:9
 is-canonical-requires-2 : tie.Need-is-canonical-requires-2
@@ -31,11 +38,23 @@ is-canonical-requires-2 c κs = search needs
 
 -- src/lib.rt:104:9
 returns-3 : tie.Need-returns-3
-returns-3 c = second-not (c .before .before .before .before .before .before .before .before .args .kind) (c .before .before .before .before .before .before .before .before .args .variables) (c .before .before .before .before .before .before .before .before .args .a .now) (c .before .before .before .before .before .before .before .before .args .b .now) (sym (c .before .before .before .before .before .variables-fit .ensures) ∙ not-false _ (c .before .before .before .before .if1 .left)) (sym (c .before .before .before .is-canonical .ensures) ∙ not-false _ (c .before .before .if2 .left)) (sym (c .before .is-canonical2 .ensures) ∙ not-true _ (c .if3 .taken))
+returns-3 c =
+    let if1 = c .before .before .before .before .if1 in
+    let variables-fit = c .before .before .before .before .before .variables-fit in
+    let start = c .before .before .before .before .before .before .before .before in
+    second-not (start .args .kind) (start .args .variables) (start .args .a .now) (start .args .b .now) (sym (variables-fit .ensures) ∙ not-false _ (if1 .left))
+    (sym (c .before .before .before .is-canonical .ensures) ∙ not-false _ (c .before .before .if2 .left))
+    (sym (c .before .is-canonical2 .ensures) ∙ not-true _ (c .if3 .taken))
 
 -- src/lib.rt:93:1
 returns-4 : tie.Need-returns-4
-returns-4 c = both-canonical (c .before .before .before .before .before .before .before .before .args .kind) (c .before .before .before .before .before .before .before .before .args .variables) (c .before .before .before .before .before .before .before .before .args .a .now) (c .before .before .before .before .before .before .before .before .args .b .now) (sym (c .before .before .before .before .before .variables-fit .ensures) ∙ not-false _ (c .before .before .before .before .if1 .left)) (sym (c .before .before .before .is-canonical .ensures) ∙ not-false _ (c .before .before .if2 .left)) (sym (c .before .is-canonical2 .ensures) ∙ not-false _ (c .if3 .left))
+returns-4 c =
+    let if1 = c .before .before .before .before .if1 in
+    let variables-fit = c .before .before .before .before .before .variables-fit in
+    let start = c .before .before .before .before .before .before .before .before in
+    both-canonical (start .args .kind) (start .args .variables) (start .args .a .now) (start .args .b .now)
+    (sym (variables-fit .ensures) ∙ not-false _ (if1 .left)) (sym (c .before .before .before .is-canonical .ensures) ∙ not-false _
+    (c .before .before .if2 .left)) (sym (c .before .is-canonical2 .ensures) ∙ not-false _ (c .if3 .left))
 
 pub refusal-spec : {M : Type 1} → statement M
 refusal-spec =

@@ -31,11 +31,15 @@ returns c = rw (sym (c .before .maxima-good .ensures) ∙ not-true _ (c .if1 .ta
 -- src/doors.rt:65:9
 returns-2 : tie.Need-returns-2
 unfolding growthNumber growthBytes
-returns-2 c = rw (sym (c .before .before .maxima-good .ensures) ∙ not-false _ (c .before .if1 .left), lt-leb 4 (length (c .before .before .before .before .before .args .out .now)) (omega arith)) (refl, refl)
+returns-2 c =
+    let start = c .before .before .before .before .before in
+    rw (sym (c .before .before .maxima-good .ensures) ∙ not-false _ (c .before .if1 .left), lt-leb 4 (length (start .args .out .now)) (omega arith)) (refl, refl)
 
 -- src/doors.rt:68:8
 has-grown-beyond-percentage-requires : tie.Need-has-grown-beyond-percentage-requires
-has-grown-beyond-percentage-requires c κs = lent-maxima (c .before .before .before .before .before .args .variables) (c .before .before .before .before .before .args .maxima .now) .0 (sym (c .before .before .maxima-good .ensures) ∙ not-false _ (c .before .if1 .left)) .1
+has-grown-beyond-percentage-requires c κs =
+    let start = c .before .before .before .before .before in
+    lent-maxima (start .args .variables) (start .args .maxima .now) .0 (sym (c .before .before .maxima-good .ensures) ∙ not-false _ (c .before .if1 .left)) .1
 
 -- src/doors.rt:71:24
 answer-word-requires : tie.Need-answer-word-requires
@@ -52,7 +56,21 @@ same-length c = search needs
 -- src/doors.rt:56:1
 returns-3 : tie.Need-returns-3
 unfolding growthNumber growthBytes
-returns-3 c = let e : (c .before .before .before .before .before .if3 .answer) ≡ cond (grown (c .before .before .before .before .before .before .before .before .before .before .before .before .args .variables) (words (c .before .before .before .before .before .before .before .before .before .before .before .before .args .maxima .now)) (c .before .before .before .before .before .before .before .before .before .before .before .before .args .percentage)) 1 0 = ⊎-elim (λ w. w .1 ∙ rw (sym (c .before .before .before .before .before .before .has-grown-beyond-percentage .ensures) ∙ w .0 .taken)) (λ w. w .1 ∙ rw (sym (c .before .before .before .before .before .before .has-grown-beyond-percentage .ensures) ∙ w .0 .left)) (c .before .before .before .before .before .if3 .came) in rw (sym (c .before .before .before .before .before .before .before .before .before .maxima-good .ensures) ∙ not-false _ (c .before .before .before .before .before .before .before .before .if1 .left), le-leb 4 (length (c .before .before .before .before .before .before .before .before .before .before .before .before .args .out .now)) (omega arith), ← e, ← (c .before .before .before .answer-word .ensures)) (refl, c .before .before .put .ensures ∙ put-one (c .before .before .before .before .before .before .before .before .before .before .before .before .args .out .now) (c .before .before .before .answer-word .result) (omega arith))
+returns-3 c =
+    let answer-word = c .before .before .before .answer-word in
+    let if3 = c .before .before .before .before .before .if3 in
+    let has-grown-beyond-percentage = c .before .before .before .before .before .before .has-grown-beyond-percentage in
+    let b8 = c .before .before .before .before .before .before .before .before in
+    let start = b8 .before .before .before .before in
+    let e : (if3 .answer) ≡ cond (grown (start .args .variables) (words (start .args .maxima .now)) (start .args .percentage)) 1
+    0 = ⊎-elim (λ w. w .1 ∙ rw (sym (has-grown-beyond-percentage .ensures) ∙ w .0 .taken))
+    (λ w. w .1 ∙ rw (sym (has-grown-beyond-percentage .ensures) ∙ w .0 .left)) (if3 .came) in
+    rw (
+      sym (b8 .before .maxima-good .ensures) ∙ not-false _ (b8 .if1 .left),
+      le-leb 4 (length (start .args .out .now)) (omega arith),
+      ← e,
+      ← (answer-word .ensures),
+    ) (refl, c .before .before .put .ensures ∙ put-one (start .args .out .now) (answer-word .result) (omega arith))
 
 pub divisor-index-divmask-growth-spec : {M : Type 1} → statement M
 divisor-index-divmask-growth-spec =

@@ -35,16 +35,34 @@ is-canonical-requires c κs = search needs
 -- src/doors.rt:19:9
 returns-2 : tie.Need-returns-2
 unfolding maskNumber maskBytes
-returns-2 c = rw (sym (c .before .before .before .maxima-good .ensures) ∙ not-false _ (c .before .before .if1 .left), sym (c .before .is-canonical .ensures) ∙ not-true _ (c .if2 .taken)) (refl, refl)
+returns-2 c =
+    rw (
+      sym (c .before .before .before .maxima-good .ensures) ∙ not-false _ (c .before .before .if1 .left),
+      sym (c .before .is-canonical .ensures) ∙ not-true _ (c .if2 .taken),
+    ) (refl, refl)
 
 -- src/doors.rt:22:9
 returns-3 : tie.Need-returns-3
 unfolding maskNumber maskBytes
-returns-3 c = rw (sym (c .before .before .before .before .maxima-good .ensures) ∙ not-false _ (c .before .before .before .if1 .left), sym (c .before .before .is-canonical .ensures) ∙ not-false _ (c .before .if2 .left), lt-leb 4 (length (c .before .before .before .before .before .before .before .before .args .out .now)) (omega arith)) (refl, refl)
+returns-3 c =
+    let maxima-good = c .before .before .before .before .maxima-good in
+    let start = c .before .before .before .before .before .before .before .before in
+    rw (
+      sym (maxima-good .ensures) ∙ not-false _ (c .before .before .before .if1 .left),
+      sym (c .before .before .is-canonical .ensures) ∙ not-false _ (c .before .if2 .left),
+      lt-leb 4 (length (start .args .out .now)) (omega arith),
+    ) (refl, refl)
 
 -- src/doors.rt:24:24
 map-requires : tie.Need-map-requires
-map-requires c κs = (lent-maxima (c .before .before .before .before .before .before .before .before .before .args .variables) (c .before .before .before .before .before .before .before .before .before .args .maxima .now) .0 (sym (c .before .before .before .before .before .maxima-good .ensures) ∙ not-false _ (c .before .before .before .before .if1 .left)) .1, starts-whole (lent-canonical 1 (c .before .before .before .before .before .before .before .before .before .args .variables) (c .before .before .before .before .before .before .before .before .before .args .monomial .now) .0 (sym (c .before .before .before .is-canonical .ensures) ∙ not-false _ (c .before .before .if2 .left)) .1))
+map-requires c κs =
+    let if1 = c .before .before .before .before .if1 in
+    let maxima-good = c .before .before .before .before .before .maxima-good in
+    let start = c .before .before .before .before .before .before .before .before .before in (
+      lent-maxima (start .args .variables) (start .args .maxima .now) .0 (sym (maxima-good .ensures) ∙ not-false _ (if1 .left)) .1,
+      starts-whole (lent-canonical 1 (start .args .variables) (start .args .monomial .now) .0
+          (sym (c .before .before .before .is-canonical .ensures) ∙ not-false _ (c .before .before .if2 .left)) .1),
+    )
 
 -- src/doors.rt:24:5
 put-requires : tie.Need-put-requires
@@ -57,7 +75,21 @@ same-length c = search needs
 -- src/doors.rt:10:1
 returns-4 : tie.Need-returns-4
 unfolding maskNumber maskBytes
-returns-4 c = let w = c .before .before .before .map .ensures ∙ mask-whole (words (c .before .before .before .before .before .before .before .before .before .before .before .before .before .args .maxima .now)) (lent-canonical 1 (c .before .before .before .before .before .before .before .before .before .before .before .before .before .args .variables) (c .before .before .before .before .before .before .before .before .before .before .before .before .before .args .monomial .now) .0 (sym (c .before .before .before .before .before .before .before .is-canonical .ensures) ∙ not-false _ (c .before .before .before .before .before .before .if2 .left)) .1) in rw (sym (c .before .before .before .before .before .before .before .before .before .maxima-good .ensures) ∙ not-false _ (c .before .before .before .before .before .before .before .before .if1 .left), sym (c .before .before .before .before .before .before .before .is-canonical .ensures) ∙ not-false _ (c .before .before .before .before .before .before .if2 .left), le-leb 4 (length (c .before .before .before .before .before .before .before .before .before .before .before .before .before .args .out .now)) (omega arith), ← w) (refl, c .before .before .put .ensures ∙ put-one (c .before .before .before .before .before .before .before .before .before .before .before .before .before .args .out .now) (c .before .before .before .map .result) (omega arith))
+returns-4 c =
+    let map = c .before .before .before .map in
+    let if2 = c .before .before .before .before .before .before .if2 in
+    let b7 = c .before .before .before .before .before .before .before in
+    let is-canonical = b7 .is-canonical in
+    let maxima-good = b7 .before .before .maxima-good in
+    let start = b7 .before .before .before .before .before .before in
+    let w = map .ensures ∙ mask-whole (words (start .args .maxima .now)) (lent-canonical 1 (start .args .variables) (start .args .monomial .now) .0
+    (sym (is-canonical .ensures) ∙ not-false _ (if2 .left)) .1) in
+    rw (
+      sym (maxima-good .ensures) ∙ not-false _ (b7 .before .if1 .left),
+      sym (is-canonical .ensures) ∙ not-false _ (if2 .left),
+      le-leb 4 (length (start .args .out .now)) (omega arith),
+      ← w,
+    ) (refl, c .before .before .put .ensures ∙ put-one (start .args .out .now) (map .result) (omega arith))
 
 pub divisor-index-divmask-mask-spec : {M : Type 1} → statement M
 divisor-index-divmask-mask-spec =

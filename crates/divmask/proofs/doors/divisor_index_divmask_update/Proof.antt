@@ -37,11 +37,25 @@ same-length-2 c = search needs
 -- src/doors.rt:49:9
 returns-2 : tie.Need-returns-2
 unfolding updateNumber updateBytes
-returns-2 c = rw (sym (c .before .before .before .maxima-good .ensures) ∙ not-false _ (c .before .before .if1 .left), sym (c .before .is-canonical .ensures) ∙ not-true _ (c .if2 .taken)) (refl, refl)
+returns-2 c =
+    rw (
+      sym (c .before .before .before .maxima-good .ensures) ∙ not-false _ (c .before .before .if1 .left),
+      sym (c .before .is-canonical .ensures) ∙ not-true _ (c .if2 .taken),
+    ) (refl, refl)
 
 -- src/doors.rt:51:5
 update-requires : tie.Need-update-requires
-update-requires c κs = let g = lent-maxima (c .before .before .before .before .before .before .before .before .args .variables) (c .before .before .before .before .before .before .before .before .args .maxima .now) .0 (sym (c .before .before .before .before .maxima-good .ensures) ∙ not-false _ (c .before .before .before .if1 .left)) in (g .0, (g .1, starts-whole (lent-canonical 1 (c .before .before .before .before .before .before .before .before .args .variables) (c .before .before .before .before .before .before .before .before .args .monomial .now) .0 (sym (c .before .before .is-canonical .ensures) ∙ not-false _ (c .before .if2 .left)) .1)))
+update-requires c κs =
+    let maxima-good = c .before .before .before .before .maxima-good in
+    let start = c .before .before .before .before .before .before .before .before in
+    let g = lent-maxima (start .args .variables) (start .args .maxima .now) .0 (sym (maxima-good .ensures) ∙ not-false _ (c .before .before .before .if1 .left)) in (
+      g .0,
+      (
+        g .1,
+        starts-whole (lent-canonical 1 (start .args .variables) (start .args .monomial .now) .0
+            (sym (c .before .before .is-canonical .ensures) ∙ not-false _ (c .before .if2 .left)) .1),
+      ),
+    )
 
 -- src/doors.rt:40:1
 same-length-3 : tie.Need-same-length-3
@@ -50,7 +64,17 @@ same-length-3 c = search needs
 -- src/doors.rt:40:1
 returns-3 : tie.Need-returns-3
 unfolding updateNumber updateBytes
-returns-3 c = rw (sym (c .before .before .before .before .before .before .before .maxima-good .ensures) ∙ not-false _ (c .before .before .before .before .before .before .if1 .left), sym (c .before .before .before .before .before .is-canonical .ensures) ∙ not-false _ (c .before .before .before .before .if2 .left)) (refl, rw (first-whole (lent-canonical 1 (c .before .before .before .before .before .before .before .before .before .before .before .args .variables) (c .before .before .before .before .before .before .before .before .before .before .before .args .monomial .now) .0 (sym (c .before .before .before .before .before .is-canonical .ensures) ∙ not-false _ (c .before .before .before .before .if2 .left)) .1)) at (c .before .before .update .ensures))
+returns-3 c =
+    let if2 = c .before .before .before .before .if2 in
+    let is-canonical = c .before .before .before .before .before .is-canonical in
+    let if1 = c .before .before .before .before .before .before .if1 in
+    let b7 = c .before .before .before .before .before .before .before in
+    let start = b7 .before .before .before .before in
+    rw (sym (b7 .maxima-good .ensures) ∙ not-false _ (if1 .left), sym (is-canonical .ensures) ∙ not-false _ (if2 .left)) (
+      refl,
+      rw (first-whole (lent-canonical 1 (start .args .variables) (start .args .monomial .now) .0
+          (sym (is-canonical .ensures) ∙ not-false _ (if2 .left)) .1)) at (c .before .before .update .ensures),
+    )
 
 pub divisor-index-divmask-update-spec : {M : Type 1} → statement M
 divisor-index-divmask-update-spec =

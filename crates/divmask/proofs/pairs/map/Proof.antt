@@ -1,3 +1,4 @@
+use mathlib.Core.List.{List}
 use borrow.Author.Needs.{needs}
 use Rattle.monomial.proofs.Firsts.{seen, first-bytes, first-canonical}
 use native.Mathlib.Omega.{arith}
@@ -7,11 +8,11 @@ use Rattle.words.specs.Words.{words}
 use Rattle.words.proofs.Fields.{is-end-true, is-end-false}
 use Rattle.words.proofs.Laws.{length-words}
 use Rattle.monomial.proofs.Walks.{within}
-use Rattle.divmask.proofs.Masks.{mask-small, Mapping, begin, mapped, step, bits-are, stepped}
+use Rattle.divmask.proofs.Masks.{mask-small, Mapping, begin, mapped, step, bits-are, stepped, Step, Stepped}
 use Rattle.divmask.proofs.Vectors.{vector-small, vector-mapped, short-stepped}
 use Rattle.divmask.specs.Mask.{bitCounts}
 use Rattle.monomial.specs.Monomial.{pow, first}
-use Prim.Native.Nat.{_-_}
+use Prim.Native.Nat.{_-_, ℕ}
 use Rattle.divmask.proofs.pairs.map.Statement.{statement}
 use Rattle.divmask.proofs.pairs.map.Tie as tie
 use Rattle.divmask.proofs.pairs.map.Reads as reads
@@ -31,6 +32,46 @@ Inv-loop maxima variables monomial whole extra mask₀ vector₀ i₀ mask vecto
 abbrev μ-loop : tie.MeasureT-loop
 μ-loop maxima variables monomial whole extra mask₀ vector₀ i₀ mask vector i = length (first 1 (words monomial)) - i
 
+-- helpers
+abbrev A : tie.At-loop Inv-loop μ-loop → List ℕ
+A c = first 1 (words (c .before .before .before .args .monomial .now))
+
+abbrev M : tie.At-loop Inv-loop μ-loop → ℕ
+M c = c .before .before .before .args .variables
+
+-- the walk after a field, from bit t on, is added to the mask
+abbrev Added : tie.At-loop Inv-loop μ-loop → ℕ → ℕ → Type 0
+Added c t f = Stepped (M c) (words (c .before .before .before .args .maxima .now)) (A c) (c .loop .i) (c .loop .mask) t f
+
+-- to the vector
+abbrev AddedShort : tie.At-loop Inv-loop μ-loop → ℕ → ℕ → Type 0
+AddedShort c t f = Stepped (M c) (bitCounts (M c)) (A c) (c .loop .i) (c .loop .vector) t f
+
+-- what is known of a variable's word
+abbrev Known : tie.At-loop Inv-loop μ-loop → ℕ → Type 0
+Known c w = Step (M c) (words (c .before .before .before .args .maxima .now)) (A c) (c .loop .i) (c .loop .mask) w
+
+variable : (c : tie.Else1 Inv-loop μ-loop) → Known (c .before .before .before) (c .before .before .get .result)
+variable c =
+    let loop = c .before .before .before .loop in
+    step (loop .inv .0) (seen _ (loop .inv .0 .ra) (c .before .before .get .ensures)) (is-end-false _ (c .before .is-end .ensures) (c .if1 .left))
+
+stepped-at : (c : tie.After-field Inv-loop μ-loop) → Added (c .before .before .before .before .before .before .before .before .before) (c .before .first-bit .result) (c .field .result)
+stepped-at c =
+    let b = c .before .before .before .before .before .before in
+    let loop = b .before .before .before .loop in
+    stepped (loop .inv .0) (seen _ (loop .inv .0 .ra) (b .before .before .get .ensures)) (is-end-false _ (b .before .is-end .ensures) (b .if1 .left))
+    (c .before .before .before .before .before .id .ensures) (c .before .before .before .before .power .ensures) (c .before .before .before .get2 .ensures) (c .before .before .bits-of .ensures) (c .field .ensures) (c .before .first-bit .ensures)
+
+short-at : (c : tie.After-short-field Inv-loop μ-loop) → AddedShort (c .before .before .before .before .before .before .before .before .before .before) (c .before .before .first-bit .result) (c .short-field .result)
+short-at c =
+    let b = c .before .before .before .before .before .before .before in
+    let loop = b .before .before .before .loop in
+    short-stepped (loop .inv .1) (seen _ (loop .inv .0 .ra) (b .before .before .get .ensures)) (is-end-false _ (b .before .is-end .ensures) (b .if1 .left))
+    (c .before .before .before .before .before .before .id .ensures) (c .before .before .before .before .before .power .ensures) (c .before .before .before .bits-of .ensures) (c .short-field .ensures) (c .before .before .first-bit .ensures)
+
+-- end of helpers
+
 -- src/pairs.rt:32:17
 div-whole : tie.Need-div-whole Inv-loop μ-loop
 div-whole c = omega (arith, c .before .before .pre .0 .some)
@@ -41,7 +82,11 @@ rem-extra c = omega (arith, c .before .before .pre .0 .some)
 
 -- src/pairs.rt:37:5
 loop-holds : tie.Need-loop-holds Inv-loop μ-loop
-loop-holds c = (begin (words (c .before .before .args .maxima .now)) (c .before .before .pre .0 .few) (first-canonical (omega arith) (c .before .before .pre .1)), begin (bitCounts (c .before .before .args .variables)) (c .before .before .pre .0 .few) (first-canonical (omega arith) (c .before .before .pre .1)))
+loop-holds c =
+    let start = c .before .before in (
+      begin (words (start .args .maxima .now)) (start .pre .0 .few) (first-canonical (omega arith) (start .pre .1)),
+      begin (bitCounts (start .args .variables)) (start .pre .0 .few) (first-canonical (omega arith) (start .pre .1)),
+    )
 
 -- src/pairs.rt:38:13
 get-requires : tie.Need-get-requires Inv-loop μ-loop
@@ -53,15 +98,39 @@ is-end-requires c κs = search needs
 
 -- src/pairs.rt:40:27
 mul-result : tie.Need-mul-result Inv-loop μ-loop
-mul-result c = omega (arith, vector-mapped (c .before .before .before .loop .inv .1) (seen _ (c .before .before .before .loop .inv .0 .ra) (c .before .before .get .ensures)) (is-end-true _ (c .before .is-end .ensures) (c .if1 .taken)), vector-small (c .before .before .before .before .before .before .args .variables) (pow 1 (first 1 (words (c .before .before .before .before .before .before .args .monomial .now)))))
+mul-result c =
+    let loop = c .before .before .before .loop in
+    let start = c .before .before .before .before .before .before in
+    omega (
+      arith,
+      vector-mapped (loop .inv .1) (seen _ (loop .inv .0 .ra) (c .before .before .get .ensures))
+          (is-end-true _ (c .before .is-end .ensures) (c .if1 .taken)),
+      vector-small (start .args .variables) (pow 1 (first 1 (words (start .args .monomial .now)))),
+    )
 
 -- src/pairs.rt:40:20
 add-result : tie.Need-add-result Inv-loop μ-loop
-add-result c = omega (arith, mapped (c .before .before .before .loop .inv .0) (seen _ (c .before .before .before .loop .inv .0 .ra) (c .before .before .get .ensures)) (is-end-true _ (c .before .is-end .ensures) (c .if1 .taken)), mask-small (c .before .before .before .before .before .before .args .variables) (words (c .before .before .before .before .before .before .args .maxima .now)) (pow 1 (first 1 (words (c .before .before .before .before .before .before .args .monomial .now)))), vector-mapped (c .before .before .before .loop .inv .1) (seen _ (c .before .before .before .loop .inv .0 .ra) (c .before .before .get .ensures)) (is-end-true _ (c .before .is-end .ensures) (c .if1 .taken)), vector-small (c .before .before .before .before .before .before .args .variables) (pow 1 (first 1 (words (c .before .before .before .before .before .before .args .monomial .now)))))
+add-result c =
+    let get = c .before .before .get in
+    let loop = c .before .before .before .loop in
+    let start = c .before .before .before .before .before .before in
+    omega (
+      arith,
+      mapped (loop .inv .0) (seen _ (loop .inv .0 .ra) (get .ensures)) (is-end-true _ (c .before .is-end .ensures) (c .if1 .taken)),
+      mask-small (start .args .variables) (words (start .args .maxima .now)) (pow 1 (first 1 (words (start .args .monomial .now)))),
+      vector-mapped (loop .inv .1) (seen _ (loop .inv .0 .ra) (get .ensures)) (is-end-true _ (c .before .is-end .ensures) (c .if1 .taken)),
+      vector-small (start .args .variables) (pow 1 (first 1 (words (start .args .monomial .now)))),
+    )
 
 -- src/pairs.rt:40:13
 returns : tie.Need-returns Inv-loop μ-loop
-returns c = rw (mapped (c .before .before .before .loop .inv .0) (seen _ (c .before .before .before .loop .inv .0 .ra) (c .before .before .get .ensures)) (is-end-true _ (c .before .is-end .ensures) (c .if1 .taken)), vector-mapped (c .before .before .before .loop .inv .1) (seen _ (c .before .before .before .loop .inv .0 .ra) (c .before .before .get .ensures)) (is-end-true _ (c .before .is-end .ensures) (c .if1 .taken)))
+returns c =
+    let get = c .before .before .get in
+    let loop = c .before .before .before .loop in
+    rw (
+      mapped (loop .inv .0) (seen _ (loop .inv .0 .ra) (get .ensures)) (is-end-true _ (c .before .is-end .ensures) (c .if1 .taken)),
+      vector-mapped (loop .inv .1) (seen _ (loop .inv .0 .ra) (get .ensures)) (is-end-true _ (c .before .is-end .ensures) (c .if1 .taken)),
+    )
 
 -- src/pairs.rt:42:13
 id-requires : tie.Need-id-requires Inv-loop μ-loop
@@ -77,7 +146,9 @@ cast-get c = omega arith
 
 -- src/pairs.rt:44:13
 get-requires-2 : tie.Need-get-requires-2 Inv-loop μ-loop
-get-requires-2 c κs = omega (arith, step (c .before .before .before .before .before .loop .inv .0) (seen _ (c .before .before .before .before .before .loop .inv .0 .ra) (c .before .before .before .before .get .ensures)) (is-end-false _ (c .before .before .before .is-end .ensures) (c .before .before .if1 .left)) .known, c .before .id .ensures, length-words (c .before .before .before .before .before .before .before .before .args .maxima .now), c .before .before .before .before .before .before .before .before .pre .0 .one-each)
+get-requires-2 c κs =
+    let start = c .before .before .before .before .before .before .before .before in
+    omega (arith, variable (c .before .before) .known, c .before .id .ensures, length-words (start .args .maxima .now), start .pre .0 .one-each)
 
 -- src/pairs.rt:45:13
 bits-of-requires : tie.Need-bits-of-requires Inv-loop μ-loop
@@ -85,11 +156,38 @@ bits-of-requires c κs = div-le-self 32 (c .before .before .before .before .befo
 
 -- src/pairs.rt:46:13
 first-bit-requires : tie.Need-first-bit-requires Inv-loop μ-loop
-first-bit-requires c κs = (div-le-self 32 (c .before .before .before .before .before .before .before .before .before .before .args .variables), omega (arith, step (c .before .before .before .before .before .before .before .loop .inv .0) (seen _ (c .before .before .before .before .before .before .before .loop .inv .0 .ra) (c .before .before .before .before .before .before .get .ensures)) (is-end-false _ (c .before .before .before .before .before .is-end .ensures) (c .before .before .before .before .if1 .left)) .known, c .before .before .before .id .ensures, c .before .before .before .before .before .before .before .before .before .before .pre .0 .few))
+first-bit-requires c κs =
+    let start = c .before .before .before .before .before .before .before .before .before .before in (
+      div-le-self 32 (start .args .variables),
+      omega (
+        arith,
+        variable (c .before .before .before .before) .known,
+        c .before .before .before .id .ensures,
+        start .pre .0 .few,
+      ),
+    )
 
 -- src/pairs.rt:47:17
 field-requires : tie.Need-field-requires Inv-loop μ-loop
-field-requires c κs = let k = step (c .before .before .before .before .before .before .before .before .loop .inv .0) (seen _ (c .before .before .before .before .before .before .before .before .loop .inv .0 .ra) (c .before .before .before .before .before .before .before .get .ensures)) (is-end-false _ (c .before .before .before .before .before .before .is-end .ensures) (c .before .before .before .before .before .if1 .left)) in let e = bits-are (c .before .before .before .before .before .before .before .before .before .before .before .args .variables) (c .before .before .before .before .id .result) (c .before .bits-of .result) (c .before .bits-of .ensures) in let p = (c .before .before .before .before .before .before .before .before .before .before .before .pre .0) in let v = (c .before .before .before .before .id .result) in ((omega (arith, rw (c .before .before .before .before .id .ensures) at e, k .few), (omega (arith, c .before .before .get2 .ensures, (p .low) v (omega (arith, k .known, c .before .before .before .before .id .ensures))), omega (arith, c .before .before .get2 .ensures, (p .high) v (omega (arith, k .known, c .before .before .before .before .id .ensures))))), (omega (arith, c .before .before .before .power .ensures, k .low), omega (arith, c .before .before .before .power .ensures, k .high)))
+field-requires c κs =
+    let get2 = c .before .before .get2 in
+    let power = c .before .before .before .power in
+    let before = c .before .before .before .before .before in
+    let id = c .before .before .before .before .id in
+    let start = c .before .before .before .before .before .before .before .before .before .before .before in
+    let k = variable before in
+    let e = bits-are (start .args .variables) (id .result) (c .before .bits-of .result) (c .before .bits-of .ensures) in
+    let p = (start .pre .0) in
+    let v = (id .result) in (
+      (
+        omega (arith, rw (id .ensures) at e, k .few),
+        (
+          omega (arith, get2 .ensures, (p .low) v (omega (arith, k .known, id .ensures))),
+          omega (arith, get2 .ensures, (p .high) v (omega (arith, k .known, id .ensures))),
+        ),
+      ),
+      (omega (arith, power .ensures, k .low), omega (arith, power .ensures, k .high)),
+    )
 
 -- src/pairs.rt:47:42
 cast-mask : tie.Need-cast-mask Inv-loop μ-loop
@@ -97,15 +195,22 @@ cast-mask c = omega arith
 
 -- src/pairs.rt:47:17
 shl-mask : tie.Need-shl-mask Inv-loop μ-loop
-shl-mask c = omega (arith, stepped (c .before .before .before .before .before .before .before .before .before .loop .inv .0) (seen _ (c .before .before .before .before .before .before .before .before .before .loop .inv .0 .ra) (c .before .before .before .before .before .before .before .before .get .ensures)) (is-end-false _ (c .before .before .before .before .before .before .before .is-end .ensures) (c .before .before .before .before .before .before .if1 .left)) (c .before .before .before .before .before .id .ensures) (c .before .before .before .before .power .ensures) (c .before .before .before .get2 .ensures) (c .before .before .bits-of .ensures) (c .field .ensures) (c .before .first-bit .ensures) .shift)
+shl-mask c = omega (arith, stepped-at (c) .shift)
 
 -- src/pairs.rt:47:9
 add-mask : tie.Need-add-mask Inv-loop μ-loop
-add-mask c = omega (arith, stepped (c .before .before .before .before .before .before .before .before .before .loop .inv .0) (seen _ (c .before .before .before .before .before .before .before .before .before .loop .inv .0 .ra) (c .before .before .before .before .before .before .before .before .get .ensures)) (is-end-false _ (c .before .before .before .before .before .before .before .is-end .ensures) (c .before .before .before .before .before .before .if1 .left)) (c .before .before .before .before .before .id .ensures) (c .before .before .before .before .power .ensures) (c .before .before .before .get2 .ensures) (c .before .before .bits-of .ensures) (c .field .ensures) (c .before .first-bit .ensures) .fits)
+add-mask c = omega (arith, stepped-at (c) .fits)
 
 -- src/pairs.rt:48:19
 short-field-requires : tie.Need-short-field-requires Inv-loop μ-loop
-short-field-requires c κs = let k = step (c .before .before .before .before .before .before .before .before .before .loop .inv .0) (seen _ (c .before .before .before .before .before .before .before .before .before .loop .inv .0 .ra) (c .before .before .before .before .before .before .before .before .get .ensures)) (is-end-false _ (c .before .before .before .before .before .before .before .is-end .ensures) (c .before .before .before .before .before .before .if1 .left)) in let e = bits-are (c .before .before .before .before .before .before .before .before .before .before .before .before .args .variables) (c .before .before .before .before .before .id .result) (c .before .before .bits-of .result) (c .before .before .bits-of .ensures) in omega (arith, rw (c .before .before .before .before .before .id .ensures) at e, k .few)
+short-field-requires c κs =
+    let bits-of = c .before .before .bits-of in
+    let before = c .before .before .before .before .before .before in
+    let id = c .before .before .before .before .before .id in
+    let start = c .before .before .before .before .before .before .before .before .before .before .before .before in
+    let k = variable before in
+    let e = bits-are (start .args .variables) (id .result) (bits-of .result) (bits-of .ensures) in
+    omega (arith, rw (id .ensures) at e, k .few)
 
 -- src/pairs.rt:48:40
 cast-vector : tie.Need-cast-vector Inv-loop μ-loop
@@ -113,15 +218,18 @@ cast-vector c = omega arith
 
 -- src/pairs.rt:48:19
 shl-vector : tie.Need-shl-vector Inv-loop μ-loop
-shl-vector c = omega (arith, short-stepped (c .before .before .before .before .before .before .before .before .before .before .loop .inv .1) (seen _ (c .before .before .before .before .before .before .before .before .before .before .loop .inv .0 .ra) (c .before .before .before .before .before .before .before .before .before .get .ensures)) (is-end-false _ (c .before .before .before .before .before .before .before .before .is-end .ensures) (c .before .before .before .before .before .before .before .if1 .left)) (c .before .before .before .before .before .before .id .ensures) (c .before .before .before .before .before .power .ensures) (c .before .before .before .bits-of .ensures) (c .short-field .ensures) (c .before .before .first-bit .ensures) .shift)
+shl-vector c = omega (arith, short-at (c) .shift)
 
 -- src/pairs.rt:48:9
 add-vector : tie.Need-add-vector Inv-loop μ-loop
-add-vector c = omega (arith, short-stepped (c .before .before .before .before .before .before .before .before .before .before .loop .inv .1) (seen _ (c .before .before .before .before .before .before .before .before .before .before .loop .inv .0 .ra) (c .before .before .before .before .before .before .before .before .before .get .ensures)) (is-end-false _ (c .before .before .before .before .before .before .before .before .is-end .ensures) (c .before .before .before .before .before .before .before .if1 .left)) (c .before .before .before .before .before .before .id .ensures) (c .before .before .before .before .before .power .ensures) (c .before .before .before .bits-of .ensures) (c .short-field .ensures) (c .before .before .first-bit .ensures) .fits)
+add-vector c = omega (arith, short-at (c) .fits)
 
 -- src/pairs.rt:49:9
 add-i : tie.Need-add-i Inv-loop μ-loop
-add-i c = omega (arith, first-bytes 1 (c .before .before .before .before .before .before .before .before .before .before .before .before .before .args .monomial .now), within (c .before .before .before .before .before .before .before .before .before .before .loop .inv .0 .ra))
+add-i c =
+    let b10 = c .before .before .before .before .before .before .before .before .before .before in
+    let start = b10 .before .before .before in
+    omega (arith, first-bytes 1 (start .args .monomial .now), within (b10 .loop .inv .0 .ra))
 
 -- src/pairs.rt:37:5
 loop-less : tie.Need-loop-less Inv-loop μ-loop
@@ -129,7 +237,7 @@ loop-less c = omega (arith, within (c .before .before .before .before .before .b
 
 -- src/pairs.rt:37:5
 loop-again : tie.Need-loop-again Inv-loop μ-loop
-loop-again c = (stepped (c .before .before .before .before .before .before .before .before .before .before .loop .inv .0) (seen _ (c .before .before .before .before .before .before .before .before .before .before .loop .inv .0 .ra) (c .before .before .before .before .before .before .before .before .before .get .ensures)) (is-end-false _ (c .before .before .before .before .before .before .before .before .is-end .ensures) (c .before .before .before .before .before .before .before .if1 .left)) (c .before .before .before .before .before .before .id .ensures) (c .before .before .before .before .before .power .ensures) (c .before .before .before .before .get2 .ensures) (c .before .before .before .bits-of .ensures) (c .before .field .ensures) (c .before .before .first-bit .ensures) .rest, short-stepped (c .before .before .before .before .before .before .before .before .before .before .loop .inv .1) (seen _ (c .before .before .before .before .before .before .before .before .before .before .loop .inv .0 .ra) (c .before .before .before .before .before .before .before .before .before .get .ensures)) (is-end-false _ (c .before .before .before .before .before .before .before .before .is-end .ensures) (c .before .before .before .before .before .before .before .if1 .left)) (c .before .before .before .before .before .before .id .ensures) (c .before .before .before .before .before .power .ensures) (c .before .before .before .bits-of .ensures) (c .short-field .ensures) (c .before .before .first-bit .ensures) .rest)
+loop-again c = (stepped-at (c .before) .rest, short-at (c) .rest)
 
 pub map-spec : {M : Type 1} → statement M
 map-spec =

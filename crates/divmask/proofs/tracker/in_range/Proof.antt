@@ -29,11 +29,21 @@ get-requires c κs = search needs
 
 -- src/tracker.rt:16:13
 returns : tie.Need-returns Inv-loop μ-loop
-returns c = sym (c .before .before .before .loop .inv ∙ rw (word-and-rest (words (c .before .before .before .before .before .args .s .now)) (c .before .before .before .loop .i) (c .before .get .result) (omega (arith, length-words (c .before .before .before .before .before .args .s .now))) (c .before .get .ensures)) (range-low (c .before .get .result) _ (c .if1 .taken)))
+returns c =
+    let get = c .before .get in
+    let loop = c .before .before .before .loop in
+    let start = c .before .before .before .before .before in
+    sym (loop .inv ∙ rw (word-and-rest (words (start .args .s .now)) (loop .i) (get .result) (omega (arith, length-words (start .args .s .now))) (get .ensures))
+    (range-low (get .result) _ (c .if1 .taken)))
 
 -- src/tracker.rt:19:13
 returns-2 : tie.Need-returns-2 Inv-loop μ-loop
-returns-2 c = sym (c .before .before .before .before .loop .inv ∙ rw (word-and-rest (words (c .before .before .before .before .before .before .args .s .now)) (c .before .before .before .before .loop .i) (c .before .before .get .result) (omega (arith, length-words (c .before .before .before .before .before .before .args .s .now))) (c .before .before .get .ensures)) (range-high (c .before .before .get .result) _ (omega arith) (c .if2 .taken)))
+returns-2 c =
+    let get = c .before .before .get in
+    let loop = c .before .before .before .before .loop in
+    let start = c .before .before .before .before .before .before in
+    sym (loop .inv ∙ rw (word-and-rest (words (start .args .s .now)) (loop .i) (get .result) (omega (arith, length-words (start .args .s .now))) (get .ensures))
+    (range-high (get .result) _ (omega arith) (c .if2 .taken)))
 
 -- src/tracker.rt:21:9
 add-i : tie.Need-add-i Inv-loop μ-loop
@@ -45,11 +55,19 @@ loop-less c = search needs
 
 -- src/tracker.rt:13:5
 loop-again : tie.Need-loop-again Inv-loop μ-loop
-loop-again c = c .before .before .before .before .loop .inv ∙ rw (word-and-rest (words (c .before .before .before .before .before .before .args .s .now)) (c .before .before .before .before .loop .i) (c .before .before .get .result) (omega (arith, length-words (c .before .before .before .before .before .before .args .s .now))) (c .before .before .get .ensures)) (range-in (c .before .before .get .result) _ (omega arith) (omega arith))
+loop-again c =
+    let get = c .before .before .get in
+    let loop = c .before .before .before .before .loop in
+    let start = c .before .before .before .before .before .before in
+    loop .inv ∙ rw (word-and-rest (words (start .args .s .now)) (loop .i) (get .result) (omega (arith, length-words (start .args .s .now))) (get .ensures))
+    (range-in (get .result) _ (omega arith) (omega arith))
 
 -- src/tracker.rt:8:1
 returns-3 : tie.Need-returns-3 Inv-loop μ-loop
-returns-3 c = sym (c .before .loop .inv ∙ rw (drop-of-length-le (words (c .before .before .before .args .s .now)) {i = (c .before .loop .i)} (omega (arith, length-words (c .before .before .before .args .s .now)))) range-nil)
+returns-3 c =
+    let start = c .before .before .before in
+    sym (c .before .loop .inv ∙ rw (drop-of-length-le (words (start .args .s .now)) {i = (c .before .loop .i)}
+    (omega (arith, length-words (start .args .s .now)))) range-nil)
 
 pub in-range-spec : {M : Type 1} → statement M
 in-range-spec =

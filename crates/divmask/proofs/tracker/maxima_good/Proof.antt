@@ -29,7 +29,12 @@ mul-if2 c = omega (arith, variables-fit (c .before .before .before .args .variab
 -- src/tracker.rt:36:9
 returns-2 : tie.Need-returns-2
 unfolding maximaLent
-returns-2 c = simp (sym (c .before .before .variables-fit .ensures) ∙ not-false _ (c .before .if1 .left), ne-eqb (length (c .before .before .before .before .args .maxima .now)) (4 * (c .before .before .before .before .args .variables)) (c .if2 .taken))
+returns-2 c =
+    let start = c .before .before .before .before in
+    simp (
+      sym (c .before .before .variables-fit .ensures) ∙ not-false _ (c .before .if1 .left),
+      ne-eqb (length (start .args .maxima .now)) (4 * (start .args .variables)) (c .if2 .taken),
+    )
 
 -- src/tracker.rt:38:5
 in-range-requires : tie.Need-in-range-requires
@@ -38,7 +43,13 @@ in-range-requires c κs = search needs
 -- src/tracker.rt:29:1
 returns-3 : tie.Need-returns-3
 unfolding maximaLent
-returns-3 c = simp (sym (c .before .before .before .variables-fit .ensures) ∙ not-false _ (c .before .before .if1 .left), eq-eqb (length (c .before .before .before .before .before .args .maxima .now)) (4 * (c .before .before .before .before .before .args .variables)) (c .before .if2 .left), c .in-range .ensures)
+returns-3 c =
+    let start = c .before .before .before .before .before in
+    simp (
+      sym (c .before .before .before .variables-fit .ensures) ∙ not-false _ (c .before .before .if1 .left),
+      eq-eqb (length (start .args .maxima .now)) (4 * (start .args .variables)) (c .before .if2 .left),
+      c .in-range .ensures,
+    )
 
 pub maxima-good-spec : {M : Type 1} → statement M
 maxima-good-spec =

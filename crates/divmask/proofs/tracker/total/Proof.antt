@@ -28,7 +28,15 @@ get-requires c κs = omega (arith, length-words (c .before .before .before .args
 
 -- src/tracker.rt:73:9
 add-sum : tie.Need-add-sum Inv-loop μ-loop
-add-sum c = omega (arith, total-step (words (c .before .before .before .before .args .maxima .now)) (c .before .before .loop .i) (c .before .before .loop .sum) (c .get .result) (c .before .before .loop .inv) (omega (arith, length-words (c .before .before .before .before .args .maxima .now), c .before .before .before .before .pre .one-each)) (c .get .ensures), total-high (c .before .before .before .before .args .variables) (words (c .before .before .before .before .args .maxima .now)) (c .before .before .before .before .pre))
+add-sum c =
+    let loop = c .before .before .loop in
+    let start = c .before .before .before .before in
+    omega (
+      arith,
+      total-step (words (start .args .maxima .now)) (loop .i) (loop .sum) (c .get .result) (loop .inv)
+          (omega (arith, length-words (start .args .maxima .now), start .pre .one-each)) (c .get .ensures),
+      total-high (start .args .variables) (words (start .args .maxima .now)) (start .pre),
+    )
 
 -- src/tracker.rt:74:9
 add-i : tie.Need-add-i Inv-loop μ-loop
@@ -40,11 +48,18 @@ loop-less c = omega arith
 
 -- src/tracker.rt:72:5
 loop-again : tie.Need-loop-again Inv-loop μ-loop
-loop-again c = total-step (words (c .before .before .before .before .args .maxima .now)) (c .before .before .loop .i) (c .before .before .loop .sum) (c .get .result) (c .before .before .loop .inv) (omega (arith, length-words (c .before .before .before .before .args .maxima .now), c .before .before .before .before .pre .one-each)) (c .get .ensures)
+loop-again c =
+    let loop = c .before .before .loop in
+    let start = c .before .before .before .before in
+    total-step (words (start .args .maxima .now)) (loop .i) (loop .sum) (c .get .result) (loop .inv)
+    (omega (arith, length-words (start .args .maxima .now), start .pre .one-each)) (c .get .ensures)
 
 -- src/tracker.rt:65:1
 returns : tie.Need-returns Inv-loop μ-loop
-returns c = total-all (words (c .before .before .before .args .maxima .now)) (c .before .loop .i) (c .before .loop .sum) (c .before .loop .inv) (omega (arith, length-words (c .before .before .before .args .maxima .now), c .before .before .before .pre .one-each))
+returns c =
+    let loop = c .before .loop in
+    let start = c .before .before .before in
+    total-all (words (start .args .maxima .now)) (loop .i) (loop .sum) (loop .inv) (omega (arith, length-words (start .args .maxima .now), start .pre .one-each))
 
 pub total-spec : {M : Type 1} → statement M
 total-spec =

@@ -27,7 +27,10 @@ abbrev μ-loop : tie.MeasureT-loop
 
 -- src/tracker.rt:52:5
 loop-holds : tie.Need-loop-holds Inv-loop μ-loop
-loop-holds c = begin (c .before .before .args .maxima .now) (first-canonical (omega arith) (c .before .before .pre .1 .1)) (c .before .before .pre .1 .0) (c .before .before .pre .0) (λ k. omega (arith, (c .before .slice-known .given) k))
+loop-holds c =
+    let start = c .before .before in
+    begin (start .args .maxima .now) (first-canonical (omega arith) (start .pre .1 .1)) (start .pre .1 .0) (start .pre .0)
+    (λ k. omega (arith, (c .before .slice-known .given) k))
 
 -- src/tracker.rt:53:13
 get-requires : tie.Need-get-requires Inv-loop μ-loop
@@ -43,7 +46,9 @@ same-length c = c .before .before .before .loop .inv .kept
 
 -- src/tracker.rt:55:13
 returns : tie.Need-returns Inv-loop μ-loop
-returns c = at-end (c .before .before .before .loop .inv) (seen _ (c .before .before .before .loop .inv .ra) (c .before .before .get .ensures)) (is-end-true _ (c .before .is-end .ensures) (c .if1 .taken))
+returns c =
+    let loop = c .before .before .before .loop in
+    at-end (loop .inv) (seen _ (loop .inv .ra) (c .before .before .get .ensures)) (is-end-true _ (c .before .is-end .ensures) (c .if1 .taken))
 
 -- src/tracker.rt:57:17
 id-requires : tie.Need-id-requires Inv-loop μ-loop
@@ -59,7 +64,17 @@ power-requires c κs = search needs
 
 -- src/tracker.rt:59:17
 get-requires-2 : tie.Need-get-requires-2 Inv-loop μ-loop
-get-requires-2 c κs = omega (arith, variable (c .before .before .before .before .before .before .loop .inv) (seen _ (c .before .before .before .before .before .before .loop .inv .ra) (c .before .before .before .before .before .get .ensures)) (is-end-false _ (c .before .before .before .before .is-end .ensures) (c .before .before .before .if1 .left)) .known, c .before .before .id .ensures, c .before .before .before .before .before .before .loop .inv .kept, c .before .before .before .before .before .before .loop .inv .whole)
+get-requires-2 c κs =
+    let is-end = c .before .before .before .before .is-end in
+    let get = c .before .before .before .before .before .get in
+    let loop = c .before .before .before .before .before .before .loop in
+    omega (
+      arith,
+      variable (loop .inv) (seen _ (loop .inv .ra) (get .ensures)) (is-end-false _ (is-end .ensures) (c .before .before .before .if1 .left)) .known,
+      c .before .before .id .ensures,
+      loop .inv .kept,
+      loop .inv .whole,
+    )
 
 -- src/tracker.rt:60:13
 same-length-2 : tie.Need-same-length-2 Inv-loop μ-loop
@@ -67,15 +82,36 @@ same-length-2 c = c .before .before .before .before .before .before .before .bef
 
 -- src/tracker.rt:60:13
 returns-2 : tie.Need-returns-2 Inv-loop μ-loop
-returns-2 c = not-above (c .before .before .before .before .before .before .before .before .loop .inv) (seen _ (c .before .before .before .before .before .before .before .before .loop .inv .ra) (c .before .before .before .before .before .before .before .get .ensures)) (is-end-false _ (c .before .before .before .before .before .before .is-end .ensures) (c .before .before .before .before .before .if1 .left)) (omega (arith, rw (c .before .before .before .before .id .ensures) at (c .before .get2 .ensures), c .before .before .before .power .ensures))
+returns-2 c =
+    let id = c .before .before .before .before .id in
+    let if1 = c .before .before .before .before .before .if1 in
+    let is-end = c .before .before .before .before .before .before .is-end in
+    let b7 = c .before .before .before .before .before .before .before in
+    let loop = b7 .before .loop in
+    not-above (loop .inv) (seen _ (loop .inv .ra) (b7 .get .ensures)) (is-end-false _ (is-end .ensures) (if1 .left))
+    (omega (arith, rw (id .ensures) at (c .before .get2 .ensures), c .before .before .before .power .ensures))
 
 -- src/tracker.rt:62:9
 put-requires : tie.Need-put-requires Inv-loop μ-loop
-put-requires c κs = omega (arith, variable (c .before .before .before .before .before .before .before .before .before .loop .inv) (seen _ (c .before .before .before .before .before .before .before .before .before .loop .inv .ra) (c .before .before .before .before .before .before .before .before .get .ensures)) (is-end-false _ (c .before .before .before .before .before .before .before .is-end .ensures) (c .before .before .before .before .before .before .if1 .left)) .known, c .before .before .before .before .before .id .ensures, c .before .before .before .before .before .before .before .before .before .loop .inv .kept, c .before .before .before .before .before .before .before .before .before .loop .inv .whole)
+put-requires c κs =
+    let id = c .before .before .before .before .before .id in
+    let if1 = c .before .before .before .before .before .before .if1 in
+    let b7 = c .before .before .before .before .before .before .before in
+    let loop = b7 .before .before .loop in
+    omega (
+      arith,
+      variable (loop .inv) (seen _ (loop .inv .ra) (b7 .before .get .ensures)) (is-end-false _ (b7 .is-end .ensures) (if1 .left)) .known,
+      id .ensures,
+      loop .inv .kept,
+      loop .inv .whole,
+    )
 
 -- src/tracker.rt:63:9
 add-i : tie.Need-add-i Inv-loop μ-loop
-add-i c = omega (arith, first-bytes 1 (c .before .before .before .before .before .before .before .before .before .before .before .before .before .before .before .args .monomial .now), within (c .before .before .before .before .before .before .before .before .before .before .before .before .loop .inv .ra))
+add-i c =
+    let b12 = c .before .before .before .before .before .before .before .before .before .before .before .before in
+    let start = b12 .before .before .before in
+    omega (arith, first-bytes 1 (start .args .monomial .now), within (b12 .loop .inv .ra))
 
 -- src/tracker.rt:52:5
 loop-less : tie.Need-loop-less Inv-loop μ-loop
@@ -83,7 +119,18 @@ loop-less c = omega (arith, within (c .before .before .before .before .before .b
 
 -- src/tracker.rt:52:5
 loop-again : tie.Need-loop-again Inv-loop μ-loop
-loop-again c = raises (c .before .before .before .before .before .before .before .before .before .before .before .before .loop .inv) (seen _ (c .before .before .before .before .before .before .before .before .before .before .before .before .loop .inv .ra) (c .before .before .before .before .before .before .before .before .before .before .before .get .ensures)) (is-end-false _ (c .before .before .before .before .before .before .before .before .before .before .is-end .ensures) (c .before .before .before .before .before .before .before .before .before .if1 .left)) (omega (arith, rw (c .before .before .before .before .before .before .before .before .id .ensures) at (c .before .before .before .before .before .get2 .ensures), c .before .before .before .before .before .before .before .power .ensures)) (rw (c .before .before .before .before .before .before .before .before .id .ensures, c .before .before .before .before .before .before .before .power .ensures) at (c .before .before .put .ensures)) (λ k. omega (arith, (c .slice-known2 .given) k))
+loop-again c =
+    let get2 = c .before .before .before .before .before .get2 in
+    let b7 = c .before .before .before .before .before .before .before in
+    let power = b7 .power in
+    let id = b7 .before .id in
+    let if1 = b7 .before .before .if1 in
+    let is-end = b7 .before .before .before .is-end in
+    let get = b7 .before .before .before .before .get in
+    let loop = b7 .before .before .before .before .before .loop in
+    raises (loop .inv) (seen _ (loop .inv .ra) (get .ensures)) (is-end-false _ (is-end .ensures) (if1 .left))
+    (omega (arith, rw (id .ensures) at (get2 .ensures), power .ensures)) (rw (id .ensures, power .ensures) at (c .before .before .put .ensures))
+    (λ k. omega (arith, (c .slice-known2 .given) k))
 
 pub update-spec : {M : Type 1} → statement M
 update-spec =

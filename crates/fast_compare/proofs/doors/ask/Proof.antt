@@ -27,7 +27,9 @@ same-length c = search needs
 
 -- src/doors.rt:33:9
 returns : tie.Need-returns
-returns c = asking-unsound (c .before .before .before .before .before .args .index) (c .before .before .before .before .before .args .ratio .now) (c .before .before .before .before .before .args .image .now) (failed _ (c .before .sound .ensures) (c .if1 .taken))
+returns c =
+    let start = c .before .before .before .before .before in
+    asking-unsound (start .args .index) (start .args .ratio .now) (start .args .image .now) (failed _ (c .before .sound .ensures) (c .if1 .taken))
 
 -- src/doors.rt:36:9
 same-length-2 : tie.Need-same-length-2
@@ -35,11 +37,17 @@ same-length-2 c = search needs
 
 -- src/doors.rt:36:9
 returns-2 : tie.Need-returns-2
-returns-2 c = asking-bad (c .before .before .before .before .before .before .args .index) (c .before .before .before .before .before .before .args .ratio .now) (c .before .before .before .before .before .before .args .image .now) (λ j. (c .before .before .before .before .before .slice-known .given) j .fits) (passed _ (c .before .before .sound .ensures) (c .before .if1 .left)) (λ st i. large-index _ (c .before .before .before .before .before .before .args .index) (c .before .before .before .before .before .before .args .ratio .now) (omega arith))
+returns-2 c =
+    let slice-known = c .before .before .before .before .before .slice-known in
+    let start = c .before .before .before .before .before .before in
+    asking-bad (start .args .index) (start .args .ratio .now) (start .args .image .now) (λ j. (slice-known .given) j .fits)
+    (passed _ (c .before .before .sound .ensures) (c .before .if1 .left)) (λ st i. large-index _ (start .args .index) (start .args .ratio .now) (omega arith))
 
 -- src/doors.rt:38:9
 get-requires : tie.Need-get-requires
-get-requires c κs = omega (arith, head (c .before .before .before .before .before .before .before .args .image .now) (passed _ (c .before .before .before .sound .ensures) (c .before .before .if1 .left)) .room)
+get-requires c κs =
+    let start = c .before .before .before .before .before .before .before in
+    omega (arith, head (start .args .image .now) (passed _ (c .before .before .before .sound .ensures) (c .before .before .if1 .left)) .room)
 
 -- src/doors.rt:39:9
 is-canonical-requires : tie.Need-is-canonical-requires
@@ -51,11 +59,25 @@ same-length-3 c = search needs
 
 -- src/doors.rt:40:9
 returns-3 : tie.Need-returns-3
-returns-3 c = asking-bad (c .before .before .before .before .before .before .before .before .before .before .args .index) (c .before .before .before .before .before .before .before .before .before .before .args .ratio .now) (c .before .before .before .before .before .before .before .before .before .before .args .image .now) (λ j. (c .before .before .before .before .before .before .before .before .before .slice-known .given) j .fits) (passed _ (c .before .before .before .before .before .before .sound .ensures) (c .before .before .before .before .before .if1 .left)) (λ st i. bad-ratio (st .variables) (c .before .before .before .before .before .before .before .before .before .before .args .index) (c .before .before .before .before .before .before .before .before .before .before .args .ratio .now) (rw (← vars-of (c .before .before .before .before .before .before .before .before .before .before .args .image .now) st i, ← (c .before .before .get .ensures)) (sym (c .before .is-canonical .ensures) ∙ not-true _ (c .if3 .taken))))
+returns-3 c =
+    let if1 = c .before .before .before .before .before .if1 in
+    let sound = c .before .before .before .before .before .before .sound in
+    let b9 = c .before .before .before .before .before .before .before .before .before in
+    let start = b9 .before in
+    asking-bad (start .args .index) (start .args .ratio .now) (start .args .image .now) (λ j. (b9 .slice-known .given) j .fits)
+    (passed _ (sound .ensures) (if1 .left)) (λ st i. bad-ratio (st .variables) (start .args .index) (start .args .ratio .now)
+    (rw (← vars-of (start .args .image .now) st i, ← (c .before .before .get .ensures)) (sym (c .before .is-canonical .ensures) ∙ not-true _ (c .if3 .taken))))
 
 -- src/doors.rt:42:9
 get-comparer-requires : tie.Need-get-comparer-requires
-get-comparer-requires c κs = (passed _ (c .before .before .before .before .before .before .before .sound .ensures) (c .before .before .before .before .before .before .if1 .left), lent-good (getD (words (c .before .before .before .before .before .before .before .before .before .before .before .args .image .now)) 1 0) (c .before .before .before .before .before .before .before .before .before .before .before .args .index) (c .before .before .before .before .before .before .before .before .before .before .before .args .ratio .now) (omega arith) (rw (← (c .before .before .before .get .ensures)) (sym (c .before .before .is-canonical .ensures) ∙ not-false _ (c .before .if3 .left))) .1)
+get-comparer-requires c κs =
+    let if1 = c .before .before .before .before .before .before .if1 in
+    let b7 = c .before .before .before .before .before .before .before in
+    let start = b7 .before .before .before .before in (
+      passed _ (b7 .sound .ensures) (if1 .left),
+      lent-good (getD (words (start .args .image .now)) 1 0) (start .args .index) (start .args .ratio .now)
+          (omega arith) (rw (← (c .before .before .before .get .ensures)) (sym (c .before .before .is-canonical .ensures) ∙ not-false _ (c .before .if3 .left))) .1,
+    )
 
 -- src/doors.rt:43:5
 told-requires : tie.Need-told-requires
@@ -67,7 +89,19 @@ same-length-4 c = search needs
 
 -- src/doors.rt:29:1
 returns-4 : tie.Need-returns-4
-returns-4 c = asking-given (c .before .before .before .before .before .before .before .before .before .before .before .before .before .before .before .args .index) (c .before .before .before .before .before .before .before .before .before .before .before .before .before .before .before .args .ratio .now) (c .before .before .before .before .before .before .before .before .before .before .before .before .before .before .before .args .image .now) (λ j. (c .before .before .before .before .before .before .before .before .before .before .before .before .before .before .slice-known .given) j .fits) (passed _ (c .before .before .before .before .before .before .before .before .before .before .before .sound .ensures) (c .before .before .before .before .before .before .before .before .before .before .if1 .left)) (λ st i. lent-good (st .variables) (c .before .before .before .before .before .before .before .before .before .before .before .before .before .before .before .args .index) (c .before .before .before .before .before .before .before .before .before .before .before .before .before .before .before .args .ratio .now) (omega arith) (rw (← vars-of (c .before .before .before .before .before .before .before .before .before .before .before .before .before .before .before .args .image .now) st i, ← (c .before .before .before .before .before .before .before .get .ensures)) (sym (c .before .before .before .before .before .before .is-canonical .ensures) ∙ not-false _ (c .before .before .before .before .before .if3 .left))) .0) (c .before .before .before .get-comparer .result) (c .before .before .before .get-comparer .last .0) (c .before .before .before .get-comparer .ensures) (c .told .result) (c .told .ensures)
+returns-4 c =
+    let get-comparer = c .before .before .before .get-comparer in
+    let if3 = c .before .before .before .before .before .if3 in
+    let is-canonical = c .before .before .before .before .before .before .is-canonical in
+    let b7 = c .before .before .before .before .before .before .before in
+    let if1 = b7 .before .before .before .if1 in
+    let sound = b7 .before .before .before .before .sound in
+    let b14 = b7 .before .before .before .before .before .before .before in
+    let start = b14 .before in
+    asking-given (start .args .index) (start .args .ratio .now) (start .args .image .now) (λ j. (b14 .slice-known .given) j .fits)
+    (passed _ (sound .ensures) (if1 .left)) (λ st i. lent-good (st .variables) (start .args .index) (start .args .ratio .now) (omega arith)
+    (rw (← vars-of (start .args .image .now) st i, ← (b7 .get .ensures)) (sym (is-canonical .ensures) ∙ not-false _ (if3 .left))) .0) (get-comparer .result)
+    (get-comparer .last .0) (get-comparer .ensures) (c .told .result) (c .told .ensures)
 
 pub ask-spec : {M : Type 1} → statement M
 ask-spec =

@@ -21,7 +21,12 @@ same-length c = search needs
 
 -- src/doors.rt:89:1
 returns : tie.Need-returns
-returns c = replied (c .before .before .before .before .before .before .before .args .index) (c .before .before .before .before .before .before .before .args .ratio .now) (c .before .before .before .ask .result) (c .before .before .before .before .before .before .before .args .image .now) (c .before .before .before .ask .last .0) (c .number .result) (c .before .before .before .ask .ensures) (c .number .ensures .0) (c .number .ensures .1)
+returns c =
+    let number = c .number in
+    let ask = c .before .before .before .ask in
+    let start = c .before .before .before .before .before .before .before in
+    replied (start .args .index) (start .args .ratio .now) (ask .result) (start .args .image .now) (ask .last .0) (number .result) (ask .ensures)
+    (number .ensures .0) (number .ensures .1)
 
 pub divisor-index-fast-compare-get-comparer-spec : {M : Type 1} → statement M
 divisor-index-fast-compare-get-comparer-spec =

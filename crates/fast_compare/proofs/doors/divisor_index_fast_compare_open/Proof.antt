@@ -17,7 +17,9 @@ sizes-fit-requires c κs = search needs
 
 -- src/doors.rt:79:9
 returns : tie.Need-returns
-returns c = open-unasked (c .before .before .before .args .variables) (c .before .before .before .args .capacity) (c .before .before .before .args .image .now) (failed _ (sizes-asked _ _ (c .before .sizes-fit .ensures)) (c .if1 .taken))
+returns c =
+    let start = c .before .before .before in
+    open-unasked (start .args .variables) (start .args .capacity) (start .args .image .now) (failed _ (sizes-asked _ _ (c .before .sizes-fit .ensures)) (c .if1 .taken))
 
 -- src/doors.rt:81:22
 length-requires : tie.Need-length-requires
@@ -25,11 +27,16 @@ length-requires c κs = let a = passed _ (sizes-asked _ _ (c .before .sizes-fit 
 
 -- src/doors.rt:82:9
 returns-2 : tie.Need-returns-2
-returns-2 c = open-short (c .before .before .before .before .before .args .variables) (c .before .before .before .before .before .args .capacity) (c .before .before .before .before .before .args .image .now) (passed _ (sizes-asked _ _ (c .before .before .before .sizes-fit .ensures)) (c .before .before .if1 .left)) (omega (arith, c .before .length .ensures))
+returns-2 c =
+    let start = c .before .before .before .before .before in
+    open-short (start .args .variables) (start .args .capacity) (start .args .image .now)
+    (passed _ (sizes-asked _ _ (c .before .before .before .sizes-fit .ensures)) (c .before .before .if1 .left)) (omega (arith, c .before .length .ensures))
 
 -- src/doors.rt:84:5
 open-requires : tie.Need-open-requires
-open-requires c κs = (passed _ (sizes-asked _ _ (c .before .before .before .before .sizes-fit .ensures)) (c .before .before .before .if1 .left), omega (arith, c .before .before .length .ensures))
+open-requires c κs =
+    let sizes-fit = c .before .before .before .before .sizes-fit in
+    (passed _ (sizes-asked _ _ (sizes-fit .ensures)) (c .before .before .before .if1 .left), omega (arith, c .before .before .length .ensures))
 
 -- src/doors.rt:72:1
 same-length : tie.Need-same-length
@@ -37,7 +44,13 @@ same-length c = search needs
 
 -- src/doors.rt:72:1
 returns-3 : tie.Need-returns-3
-returns-3 c = open-served (c .before .before .before .before .before .before .before .before .before .args .variables) (c .before .before .before .before .before .before .before .before .before .args .capacity) (c .before .before .before .before .before .before .before .before .before .args .image .now) _ (passed _ (sizes-asked _ _ (c .before .before .before .before .before .before .before .sizes-fit .ensures)) (c .before .before .before .before .before .before .if1 .left)) (omega (arith, c .before .before .before .before .before .length .ensures)) (c .before .before .«open» .ensures)
+returns-3 c =
+    let length = c .before .before .before .before .before .length in
+    let if1 = c .before .before .before .before .before .before .if1 in
+    let b7 = c .before .before .before .before .before .before .before in
+    let start = b7 .before .before in
+    open-served (start .args .variables) (start .args .capacity) (start .args .image .now) _ (passed _ (sizes-asked _ _ (b7 .sizes-fit .ensures)) (if1 .left))
+    (omega (arith, length .ensures)) (c .before .before .«open» .ensures)
 
 pub divisor-index-fast-compare-open-spec : {M : Type 1} → statement M
 divisor-index-fast-compare-open-spec =

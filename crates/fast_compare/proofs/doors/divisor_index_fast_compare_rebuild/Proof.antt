@@ -30,7 +30,11 @@ same-length-2 c = search needs
 
 -- src/doors.rt:98:1
 returns-2 : tie.Need-returns-2
-returns-2 c = rebuilt-served (c .before .before .before .before .before .before .before .before .args .image .now) _ (passed _ (c .before .before .before .before .before .sound .ensures) (c .before .before .before .before .if1 .left)) (c .before .before .rebuild .ensures)
+returns-2 c =
+    let if1 = c .before .before .before .before .if1 in
+    let sound = c .before .before .before .before .before .sound in
+    let start = c .before .before .before .before .before .before .before .before in
+    rebuilt-served (start .args .image .now) _ (passed _ (sound .ensures) (if1 .left)) (c .before .before .rebuild .ensures)
 
 pub divisor-index-fast-compare-rebuild-spec : {M : Type 1} → statement M
 divisor-index-fast-compare-rebuild-spec =

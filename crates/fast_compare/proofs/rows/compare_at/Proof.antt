@@ -41,11 +41,23 @@ payload-requires c κs = search needs
 
 -- src/rows.rt:21:9
 returns : tie.Need-returns
-returns c = λ m s. let W = words (c .before .before .before .before .before .args .map .now) in let a = (c .before .before .before .before .before .args .at) in let q = valueOf (c .before .before .before .before .before .args .index) (first 2 (words (c .before .before .before .before .before .args .ratio .now))) in let x = value-index W m a in cmp-less (valueAt W m a) q (omega (arith, x, c .before .before .get .ensures, c .before .payload .ensures))
+returns c =
+    let start = c .before .before .before .before .before in
+    λ m s. let W = words (start .args .map .now) in
+    let a = (start .args .at) in
+    let q = valueOf (start .args .index) (first 2 (words (start .args .ratio .now))) in
+    let x = value-index W m a in
+    cmp-less (valueAt W m a) q (omega (arith, x, c .before .before .get .ensures, c .before .payload .ensures))
 
 -- src/rows.rt:24:9
 returns-2 : tie.Need-returns-2
-returns-2 c = λ m s. let W = words (c .before .before .before .before .before .before .args .map .now) in let a = (c .before .before .before .before .before .before .args .at) in let q = valueOf (c .before .before .before .before .before .before .args .index) (first 2 (words (c .before .before .before .before .before .before .args .ratio .now))) in let x = value-index W m a in cmp-greater (valueAt W m a) q (omega (arith, x, c .before .before .before .get .ensures, c .before .before .payload .ensures))
+returns-2 c =
+    let start = c .before .before .before .before .before .before in
+    λ m s. let W = words (start .args .map .now) in
+    let a = (start .args .at) in
+    let q = valueOf (start .args .index) (first 2 (words (start .args .ratio .now))) in
+    let x = value-index W m a in
+    cmp-greater (valueAt W m a) q (omega (arith, x, c .before .before .before .get .ensures, c .before .before .payload .ensures))
 
 -- src/rows.rt:26:18
 add-a : tie.Need-add-a
@@ -69,12 +81,22 @@ part-ord-end c = search needs
 
 -- src/rows.rt:27:5
 ord-requires : tie.Need-ord-requires
-ord-requires c κs = ((omega arith, omega arith), (ratio-starts (c .before .before .before .before .before .before .before .args .map .now) (c .before .before .before .before .before .before .before .pre .0 .vars) ((c .before .before .before .before .before .before .before .args .at) + 1) (c .before .before .before .before .before .before .before .pre .0 .some), c .before .before .before .before .before .before .before .pre .1))
+ord-requires c κs =
+    let start = c .before .before .before .before .before .before .before in
+    ((omega arith, omega arith), (ratio-starts (start .args .map .now) (start .pre .0 .vars) ((start .args .at) + 1) (start .pre .0 .some), start .pre .1))
 
 -- src/rows.rt:14:1
 returns-3 : tie.Need-returns-3
-returns-3 c = λ m s. let W = words (c .before .before .before .before .before .before .before .before .args .map .now) in let a = (c .before .before .before .before .before .before .before .before .args .at) in let q = valueOf (c .before .before .before .before .before .before .before .before .args .index) (first 2 (words (c .before .before .before .before .before .before .before .before .args .ratio .now))) in let x = value-index W m a in
-    (c .ord .ensures) ∙ rw (ratio-first (c .before .before .before .before .before .before .before .before .args .map .now) m (a + 1) s) (ap (λ r. order 2 r (q .ratio)) (sym (value-ratio W m a)) ∙ cmp-ratio (valueAt W m a) q (omega (arith, x, c .before .before .before .before .before .get .ensures, c .before .before .before .before .payload .ensures)))
+returns-3 c =
+    let payload = c .before .before .before .before .payload in
+    let get = c .before .before .before .before .before .get in
+    let start = c .before .before .before .before .before .before .before .before in
+    λ m s. let W = words (start .args .map .now) in
+    let a = (start .args .at) in
+    let q = valueOf (start .args .index) (first 2 (words (start .args .ratio .now))) in
+    let x = value-index W m a in
+    (c .ord .ensures) ∙ rw (ratio-first (start .args .map .now) m (a + 1) s)
+    (ap (λ r. order 2 r (q .ratio)) (sym (value-ratio W m a)) ∙ cmp-ratio (valueAt W m a) q (omega (arith, x, get .ensures, payload .ensures)))
 
 pub compare-at-spec : {M : Type 1} → statement M
 compare-at-spec =

@@ -67,7 +67,10 @@ part-compare-at-end c = search needs
 
 -- src/rows.rt:40:9
 compare-at-requires : tie.Need-compare-at-requires
-compare-at-requires c κs = let s = (c .before .before .before .before) in let h : HasRatio (words (s .args .map .now)) (s .args .a + 1) = record { vars = s .args .variables; few = omega arith; some = s .pre .1 .0 .some } in (h, ratio-starts (s .args .map .now) (s .args .variables) (s .args .b + 1) (s .pre .1 .1 .0 .some))
+compare-at-requires c κs =
+    let s = (c .before .before .before .before) in
+    let h : HasRatio (words (s .args .map .now)) (s .args .a + 1) = record { vars = s .args .variables; few = omega arith; some = s .pre .1 .0 .some } in
+    (h, ratio-starts (s .args .map .now) (s .args .variables) (s .args .b + 1) (s .pre .1 .1 .0 .some))
 
 -- src/rows.rt:42:46
 enum-told : tie.Need-enum-told
@@ -107,7 +110,15 @@ enum-told-3 c = search needs
 
 -- src/rows.rt:31:1
 returns : tie.Need-returns
-returns c = (λ z. record { values = sym (compared (c .before .before .before .before)) ∙ c .before .before .enum-told .given .1; labels = omega (arith, ltb-true (c .before .get2 .result) (c .get3 .result) z, c .before .get2 .ensures, c .get3 .ensures) }, λ h. lt-ltb (c .before .get2 .result) (c .get3 .result) (omega (arith, h .labels, c .before .get2 .ensures, c .get3 .ensures)))
+returns c =
+    let get3 = c .get3 in
+    let get2 = c .before .get2 in (
+      λ z. record {
+        values = sym (compared (c .before .before .before .before)) ∙ c .before .before .enum-told .given .1;
+        labels = omega (arith, ltb-true (get2 .result) (get3 .result) z, get2 .ensures, get3 .ensures);
+      },
+      λ h. lt-ltb (get2 .result) (get3 .result) (omega (arith, h .labels, get2 .ensures, get3 .ensures)),
+    )
 
 -- src/rows.rt:31:1
 returns-2 : tie.Need-returns-2

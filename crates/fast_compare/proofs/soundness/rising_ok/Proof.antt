@@ -59,11 +59,25 @@ add-rises c = search needs
 
 -- src/soundness.rt:71:45
 mul-rises : tie.Need-mul-rises Inv-loop μ-loop
-mul-rises c = omega (arith, row-in (words (c .before .before .before .before .before .args .map .now)) (c .before .before .before .before .before .args .variables) (c .before .before .before .before .before .args .n) (length (c .before .before .before .before .before .args .map .now)) (c .before .get .result) (c .before .before .before .before .before .pre .0 .0) (c .before .before .before .before .before .pre .0 .1) (c .before .before .before .before .before .pre .1 .0 .1) (c .before .before .before .before .before .pre .1 .1 .0) (omega (arith, c .before .get .ensures, (c .before .before .before .before .before .pre .1 .1 .1) ((c .before .before .before .loop .i) - 1) (omega arith))) .few)
+mul-rises c =
+    let start = c .before .before .before .before .before in
+    omega (
+      arith,
+      row-in (words (start .args .map .now)) (start .args .variables) (start .args .n) (length (start .args .map .now)) (c .before .get .result)
+          (start .pre .0 .0) (start .pre .0 .1) (start .pre .1 .0 .1) (start .pre .1 .1 .0)
+          (omega (arith, c .before .get .ensures, (start .pre .1 .1 .1) ((c .before .before .before .loop .i) - 1) (omega arith))) .few,
+    )
 
 -- src/soundness.rt:71:41
 add-rises-2 : tie.Need-add-rises-2 Inv-loop μ-loop
-add-rises-2 c = omega (arith, row-in (words (c .before .before .before .before .before .args .map .now)) (c .before .before .before .before .before .args .variables) (c .before .before .before .before .before .args .n) (length (c .before .before .before .before .before .args .map .now)) (c .before .get .result) (c .before .before .before .before .before .pre .0 .0) (c .before .before .before .before .before .pre .0 .1) (c .before .before .before .before .before .pre .1 .0 .1) (c .before .before .before .before .before .pre .1 .1 .0) (omega (arith, c .before .get .ensures, (c .before .before .before .before .before .pre .1 .1 .1) ((c .before .before .before .loop .i) - 1) (omega arith))) .few)
+add-rises-2 c =
+    let start = c .before .before .before .before .before in
+    omega (
+      arith,
+      row-in (words (start .args .map .now)) (start .args .variables) (start .args .n) (length (start .args .map .now)) (c .before .get .result)
+          (start .pre .0 .0) (start .pre .0 .1) (start .pre .1 .0 .1) (start .pre .1 .1 .0)
+          (omega (arith, c .before .get .ensures, (start .pre .1 .1 .1) ((c .before .before .before .loop .i) - 1) (omega arith))) .few,
+    )
 
 -- src/soundness.rt:71:75
 add-rises-3 : tie.Need-add-rises-3 Inv-loop μ-loop
@@ -71,22 +85,46 @@ add-rises-3 c = search needs
 
 -- src/soundness.rt:71:70
 mul-rises-2 : tie.Need-mul-rises-2 Inv-loop μ-loop
-mul-rises-2 c = omega (arith, row-in (words (c .before .before .before .before .before .args .map .now)) (c .before .before .before .before .before .args .variables) (c .before .before .before .before .before .args .n) (length (c .before .before .before .before .before .args .map .now)) (c .get2 .result) (c .before .before .before .before .before .pre .0 .0) (c .before .before .before .before .before .pre .0 .1) (c .before .before .before .before .before .pre .1 .0 .1) (c .before .before .before .before .before .pre .1 .1 .0) (omega (arith, c .get2 .ensures, (c .before .before .before .before .before .pre .1 .1 .1) (c .before .before .before .loop .i) (omega arith))) .few)
+mul-rises-2 c =
+    let start = c .before .before .before .before .before in
+    omega (
+      arith,
+      row-in (words (start .args .map .now)) (start .args .variables) (start .args .n) (length (start .args .map .now)) (c .get2 .result)
+          (start .pre .0 .0) (start .pre .0 .1) (start .pre .1 .0 .1) (start .pre .1 .1 .0)
+          (omega (arith, c .get2 .ensures, (start .pre .1 .1 .1) (c .before .before .before .loop .i) (omega arith))) .few,
+    )
 
 -- src/soundness.rt:71:66
 add-rises-4 : tie.Need-add-rises-4 Inv-loop μ-loop
-add-rises-4 c = omega (arith, row-in (words (c .before .before .before .before .before .args .map .now)) (c .before .before .before .before .before .args .variables) (c .before .before .before .before .before .args .n) (length (c .before .before .before .before .before .args .map .now)) (c .get2 .result) (c .before .before .before .before .before .pre .0 .0) (c .before .before .before .before .before .pre .0 .1) (c .before .before .before .before .before .pre .1 .0 .1) (c .before .before .before .before .before .pre .1 .1 .0) (omega (arith, c .get2 .ensures, (c .before .before .before .before .before .pre .1 .1 .1) (c .before .before .before .loop .i) (omega arith))) .few)
+add-rises-4 c =
+    let start = c .before .before .before .before .before in
+    omega (
+      arith,
+      row-in (words (start .args .map .now)) (start .args .variables) (start .args .n) (length (start .args .map .now)) (c .get2 .result)
+          (start .pre .0 .0) (start .pre .0 .1) (start .pre .1 .0 .1) (start .pre .1 .1 .0)
+          (omega (arith, c .get2 .ensures, (start .pre .1 .1 .1) (c .before .before .before .loop .i) (omega arith))) .few,
+    )
 
 -- src/soundness.rt:71:13
 rises-requires : tie.Need-rises-requires Inv-loop μ-loop
-rises-requires c κs = let a = row-in (words (c .before .before .before .before .before .args .map .now)) (c .before .before .before .before .before .args .variables) (c .before .before .before .before .before .args .n) (length (c .before .before .before .before .before .args .map .now)) (c .before .get .result) (c .before .before .before .before .before .pre .0 .0) (c .before .before .before .before .before .pre .0 .1) (c .before .before .before .before .before .pre .1 .0 .1) (c .before .before .before .before .before .pre .1 .1 .0) (omega (arith, c .before .get .ensures, (c .before .before .before .before .before .pre .1 .1 .1) ((c .before .before .before .loop .i) - 1) (omega arith))) in
-    let b = row-in (words (c .before .before .before .before .before .args .map .now)) (c .before .before .before .before .before .args .variables) (c .before .before .before .before .before .args .n) (length (c .before .before .before .before .before .args .map .now)) (c .get2 .result) (c .before .before .before .before .before .pre .0 .0) (c .before .before .before .before .before .pre .0 .1) (c .before .before .before .before .before .pre .1 .0 .1) (c .before .before .before .before .before .pre .1 .1 .0) (omega (arith, c .get2 .ensures, (c .before .before .before .before .before .pre .1 .1 .1) (c .before .before .before .loop .i) (omega arith))) in
+rises-requires c κs =
+    let loop = c .before .before .before .loop in
+    let start = c .before .before .before .before .before in
+    let a = row-in (words (start .args .map .now)) (start .args .variables) (start .args .n) (length (start .args .map .now)) (c .before .get .result)
+    (start .pre .0 .0) (start .pre .0 .1) (start .pre .1 .0 .1) (start .pre .1 .1 .0)
+    (omega (arith, c .before .get .ensures, (start .pre .1 .1 .1) ((loop .i) - 1) (omega arith))) in
+    let b = row-in (words (start .args .map .now)) (start .args .variables) (start .args .n) (length (start .args .map .now)) (c .get2 .result)
+    (start .pre .0 .0) (start .pre .0 .1) (start .pre .1 .0 .1) (start .pre .1 .1 .0)
+    (omega (arith, c .get2 .ensures, (start .pre .1 .1 .1) (loop .i) (omega arith))) in
     (omega arith, (a .ok, (b .ok, (a .fits, b .fits))))
 
 -- src/soundness.rt:72:13
 returns : tie.Need-returns Inv-loop μ-loop
-returns c = let e : suc ((c .before .before .before .before .before .loop .i) - 1) ≡ (c .before .before .before .before .before .loop .i) = omega arith in
-    refuse (λ h. failed _ (c .before .rises .ensures) (c .if1 .taken) (rw (c .before .before .before .get .ensures, c .before .before .get2 .ensures) (rw e at (h ((c .before .before .before .before .before .loop .i) - 1) (omega arith)))))
+returns c =
+    let loop = c .before .before .before .before .before .loop in
+    let e : suc ((loop .i) - 1) ≡ (loop .i) = omega arith in
+    refuse (λ h. failed _ (c .before .rises .ensures) (c .if1 .taken) (rw (c .before .before .before .get .ensures, c .before .before .get2 .ensures)
+    (rw e at (h ((loop .i) - 1) (omega arith)))))
 
 -- src/soundness.rt:74:9
 add-i : tie.Need-add-i Inv-loop μ-loop
@@ -98,9 +136,13 @@ loop-less c = search needs
 
 -- src/soundness.rt:68:5
 loop-again : tie.Need-loop-again Inv-loop μ-loop
-loop-again c = let e : suc ((c .before .before .before .before .before .loop .i) - 1) ≡ (c .before .before .before .before .before .loop .i) = omega arith in
-    let z : Up (words (c .before .before .before .before .before .before .before .args .map .now)) (c .before .before .before .before .before .before .before .args .variables) (c .before .before .before .before .before .before .before .args .at) ((c .before .before .before .before .before .loop .i) - 1) = rw (e, ← (c .before .before .before .get .ensures), ← (c .before .before .get2 .ensures)) (passed _ (c .before .rises .ensures) (c .if1 .left)) in
-    ((omega arith, omega arith), pairs-more (Up (words (c .before .before .before .before .before .before .before .args .map .now)) (c .before .before .before .before .before .before .before .args .variables) (c .before .before .before .before .before .before .before .args .at)) (c .before .before .before .before .before .loop .i) (c .before .before .before .before .before .loop .inv .0 .0) (c .before .before .before .before .before .loop .inv .1) z)
+loop-again c =
+    let loop = c .before .before .before .before .before .loop in
+    let start = c .before .before .before .before .before .before .before in
+    let e : suc ((loop .i) - 1) ≡ (loop .i) = omega arith in
+    let z : Up (words (start .args .map .now)) (start .args .variables) (start .args .at)
+    ((loop .i) - 1) = rw (e, ← (c .before .before .before .get .ensures), ← (c .before .before .get2 .ensures)) (passed _ (c .before .rises .ensures) (c .if1 .left)) in
+    ((omega arith, omega arith), pairs-more (Up (words (start .args .map .now)) (start .args .variables) (start .args .at)) (loop .i) (loop .inv .0 .0) (loop .inv .1) z)
 
 -- src/soundness.rt:60:1
 returns-2 : tie.Need-returns-2 Inv-loop μ-loop

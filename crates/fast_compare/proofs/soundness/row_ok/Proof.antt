@@ -45,27 +45,73 @@ returns-2 c = refuse (λ h. h .some (sym (c .before .canonical-words .ensures) �
 
 -- src/soundness.rt:25:32
 add-is-blank : tie.Need-add-is-blank
-add-is-blank c = omega (arith, ratio-within (words (c .before .before .before .before .before .before .args .map .now)) (c .before .before .before .before .before .before .args .variables) ((c .before .before .before .before .before .before .args .at) + 1) (omega arith) (λ z. (c .if2 .left) (c .before .canonical-words .ensures ∙ z)) .0, c .before .canonical-words .ensures)
+add-is-blank c =
+    let start = c .before .before .before .before .before .before in
+    omega (
+      arith,
+      ratio-within (words (start .args .map .now)) (start .args .variables) ((start .args .at) + 1) (omega arith)
+          (λ z. (c .if2 .left) (c .before .canonical-words .ensures ∙ z)) .0,
+      c .before .canonical-words .ensures,
+    )
 
 -- src/soundness.rt:25:32
 add-is-blank-2 : tie.Need-add-is-blank-2
-add-is-blank-2 c = omega (arith, ratio-within (words (c .before .before .before .before .before .before .args .map .now)) (c .before .before .before .before .before .before .args .variables) ((c .before .before .before .before .before .before .args .at) + 1) (omega arith) (λ z. (c .if2 .left) (c .before .canonical-words .ensures ∙ z)) .0, c .before .canonical-words .ensures)
+add-is-blank-2 c =
+    let start = c .before .before .before .before .before .before in
+    omega (
+      arith,
+      ratio-within (words (start .args .map .now)) (start .args .variables) ((start .args .at) + 1) (omega arith)
+          (λ z. (c .if2 .left) (c .before .canonical-words .ensures ∙ z)) .0,
+      c .before .canonical-words .ensures,
+    )
 
 -- src/soundness.rt:25:44
 add-is-blank-3 : tie.Need-add-is-blank-3
-add-is-blank-3 c = omega (arith, ratio-within (words (c .before .before .before .before .before .before .args .map .now)) (c .before .before .before .before .before .before .args .variables) ((c .before .before .before .before .before .before .args .at) + 1) (omega arith) (λ z. (c .if2 .left) (c .before .canonical-words .ensures ∙ z)) .0, c .before .canonical-words .ensures)
+add-is-blank-3 c =
+    let start = c .before .before .before .before .before .before in
+    omega (
+      arith,
+      ratio-within (words (start .args .map .now)) (start .args .variables) ((start .args .at) + 1) (omega arith)
+          (λ z. (c .if2 .left) (c .before .canonical-words .ensures ∙ z)) .0,
+      c .before .canonical-words .ensures,
+    )
 
 -- src/soundness.rt:25:44
 sub-is-blank : tie.Need-sub-is-blank
-sub-is-blank c = omega (arith, ratio-within (words (c .before .before .before .before .before .before .args .map .now)) (c .before .before .before .before .before .before .args .variables) ((c .before .before .before .before .before .before .args .at) + 1) (omega arith) (λ z. (c .if2 .left) (c .before .canonical-words .ensures ∙ z)) .0, c .before .canonical-words .ensures)
+sub-is-blank c =
+    let start = c .before .before .before .before .before .before in
+    omega (
+      arith,
+      ratio-within (words (start .args .map .now)) (start .args .variables) ((start .args .at) + 1) (omega arith)
+          (λ z. (c .if2 .left) (c .before .canonical-words .ensures ∙ z)) .0,
+      c .before .canonical-words .ensures,
+    )
 
 -- src/soundness.rt:25:5
 is-blank-requires : tie.Need-is-blank-requires
-is-blank-requires c κs = omega (arith, ratio-within (words (c .before .before .before .before .before .before .args .map .now)) (c .before .before .before .before .before .before .args .variables) ((c .before .before .before .before .before .before .args .at) + 1) (omega arith) (λ z. (c .if2 .left) (c .before .canonical-words .ensures ∙ z)) .0, c .before .canonical-words .ensures)
+is-blank-requires c κs =
+    let start = c .before .before .before .before .before .before in
+    omega (
+      arith,
+      ratio-within (words (start .args .map .now)) (start .args .variables) ((start .args .at) + 1) (omega arith)
+          (λ z. (c .if2 .left) (c .before .canonical-words .ensures ∙ z)) .0,
+      c .before .canonical-words .ensures,
+    )
 
 -- src/soundness.rt:12:1
 returns-3 : tie.Need-returns-3
-returns-3 c = (λ z. record { kinded = sym (c .before .before .before .before .kind .ensures ∙ ap kind (c .before .before .before .before .before .get .ensures)) ∙ c .before .before .before .if1 .left; some = λ y. (c .before .if2 .left) (c .before .before .canonical-words .ensures ∙ y); rest = rw (c .before .before .canonical-words .ensures) at ((c .is-blank .ensures .0) z) }, λ h. (c .is-blank .ensures .1) (rw (c .before .before .canonical-words .ensures) (h .rest)))
+returns-3 c =
+    let canonical-words = c .before .before .canonical-words in
+    let the-kind = c .before .before .before .before .kind in
+    let get = c .before .before .before .before .before .get in (
+      λ z. record {
+        kinded = sym (the-kind .ensures ∙ ap kind (get .ensures)) ∙ c .before .before .before .if1 .left;
+        some = λ y. (c .before .if2 .left)
+            (canonical-words .ensures ∙ y);
+        rest = rw (canonical-words .ensures) at ((c .is-blank .ensures .0) z);
+      },
+      λ h. (c .is-blank .ensures .1) (rw (canonical-words .ensures) (h .rest)),
+    )
 
 pub row-ok-spec : {M : Type 1} → statement M
 row-ok-spec =

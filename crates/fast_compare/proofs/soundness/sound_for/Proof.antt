@@ -17,7 +17,10 @@ head-ok-requires c κs = search needs
 
 -- src/soundness.rt:129:9
 returns : tie.Need-returns
-returns c = refuse (λ s. failed _ (c .before .head-ok .ensures) (c .if1 .taken) (sound-for-iff (c .before .before .before .args .map .now) (c .before .before .before .args .variables) (c .before .before .before .args .capacity) (words-small (c .before .before .before .args .map .now) (λ j. (c .before .before .shared-slice-known .given) j .fits)) .1 s .0))
+returns c =
+    let start = c .before .before .before in
+    refuse (λ s. failed _ (c .before .head-ok .ensures) (c .if1 .taken) (sound-for-iff (start .args .map .now) (start .args .variables) (start .args .capacity)
+    (words-small (start .args .map .now) (λ j. (c .before .before .shared-slice-known .given) j .fits)) .1 s .0))
 
 -- src/soundness.rt:131:13
 get-requires : tie.Need-get-requires
@@ -29,12 +32,22 @@ cast-n c = search needs
 
 -- src/soundness.rt:132:5
 tables-ok-requires : tie.Need-tables-ok-requires
-tables-ok-requires c κs = let h = passed _ (c .before .before .head-ok .ensures) (c .before .if1 .left) in ((h .vars-to, (h .cap-to, omega (arith, h .few, c .get .ensures))), h .room)
+tables-ok-requires c κs =
+    let h = passed _ (c .before .before .head-ok .ensures) (c .before .if1 .left) in
+    ((h .vars-to, (h .cap-to, omega (arith, h .few, c .get .ensures))), h .room)
 
 -- src/soundness.rt:125:1
 returns-2 : tie.Need-returns-2
-returns-2 c = let t = rw (c .before .get .ensures) at (c .tables-ok .ensures) in
-    (λ z. sound-for-iff (c .before .before .before .before .before .args .map .now) (c .before .before .before .before .before .args .variables) (c .before .before .before .before .before .args .capacity) (words-small (c .before .before .before .before .before .args .map .now) (λ j. (c .before .before .before .before .shared-slice-known .given) j .fits)) .0 (passed _ (c .before .before .before .head-ok .ensures) (c .before .before .if1 .left), t .0 z), λ s. t .1 (sound-for-iff (c .before .before .before .before .before .args .map .now) (c .before .before .before .before .before .args .variables) (c .before .before .before .before .before .args .capacity) (words-small (c .before .before .before .before .before .args .map .now) (λ j. (c .before .before .before .before .shared-slice-known .given) j .fits)) .1 s .1))
+returns-2 c =
+    let shared-slice-known = c .before .before .before .before .shared-slice-known in
+    let start = c .before .before .before .before .before in
+    let t = rw (c .before .get .ensures) at (c .tables-ok .ensures) in (
+      λ z. sound-for-iff (start .args .map .now) (start .args .variables) (start .args .capacity)
+          (words-small (start .args .map .now) (λ j. (shared-slice-known .given) j .fits)) .0
+          (passed _ (c .before .before .before .head-ok .ensures) (c .before .before .if1 .left), t .0 z),
+      λ s. t .1 (sound-for-iff (start .args .map .now) (start .args .variables) (start .args .capacity)
+          (words-small (start .args .map .now) (λ j. (shared-slice-known .given) j .fits)) .1 s .1),
+    )
 
 pub sound-for-spec : {M : Type 1} → statement M
 sound-for-spec =

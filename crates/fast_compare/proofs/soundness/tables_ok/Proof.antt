@@ -19,11 +19,21 @@ add-row c = search needs
 
 -- src/soundness.rt:86:21
 mul-order : tie.Need-mul-order
-mul-order c = omega (arith, rows-small (c .before .args .variables) (c .before .args .capacity) (omega arith) (omega arith), split-rows (c .before .args .n) (c .before .args .capacity) ((c .before .args .variables) + 3) (omega arith))
+mul-order c =
+    omega (
+      arith,
+      rows-small (c .before .args .variables) (c .before .args .capacity) (omega arith) (omega arith),
+      split-rows (c .before .args .n) (c .before .args .capacity) ((c .before .args .variables) + 3) (omega arith),
+    )
 
 -- src/soundness.rt:86:17
 add-order : tie.Need-add-order
-add-order c = omega (arith, rows-small (c .before .args .variables) (c .before .args .capacity) (omega arith) (omega arith), split-rows (c .before .args .n) (c .before .args .capacity) ((c .before .args .variables) + 3) (omega arith))
+add-order c =
+    omega (
+      arith,
+      rows-small (c .before .args .variables) (c .before .args .capacity) (omega arith) (omega arith),
+      split-rows (c .before .args .n) (c .before .args .capacity) ((c .before .args .variables) + 3) (omega arith),
+    )
 
 -- src/soundness.rt:87:9
 rows-ok-requires : tie.Need-rows-ok-requires
@@ -35,11 +45,23 @@ returns c = refuse (λ h. failed _ (c .before .rows-ok .ensures) (c .if1 .taken)
 
 -- src/soundness.rt:90:40
 mul-is-blank : tie.Need-mul-is-blank
-mul-is-blank c = omega (arith, rows-small (c .before .before .before .args .variables) (c .before .before .before .args .capacity) (omega arith) (omega arith), split-rows (c .before .before .before .args .n) (c .before .before .before .args .capacity) ((c .before .before .before .args .variables) + 3) (omega arith))
+mul-is-blank c =
+    let start = c .before .before .before in
+    omega (
+      arith,
+      rows-small (start .args .variables) (start .args .capacity) (omega arith) (omega arith),
+      split-rows (start .args .n) (start .args .capacity) ((start .args .variables) + 3) (omega arith),
+    )
 
 -- src/soundness.rt:90:36
 add-is-blank : tie.Need-add-is-blank
-add-is-blank c = omega (arith, rows-small (c .before .before .before .args .variables) (c .before .before .before .args .capacity) (omega arith) (omega arith), split-rows (c .before .before .before .args .n) (c .before .before .before .args .capacity) ((c .before .before .before .args .variables) + 3) (omega arith))
+add-is-blank c =
+    let start = c .before .before .before in
+    omega (
+      arith,
+      rows-small (start .args .variables) (start .args .capacity) (omega arith) (omega arith),
+      split-rows (start .args .n) (start .args .capacity) ((start .args .variables) + 3) (omega arith),
+    )
 
 -- src/soundness.rt:90:50
 sub-is-blank : tie.Need-sub-is-blank
@@ -47,11 +69,19 @@ sub-is-blank c = search needs
 
 -- src/soundness.rt:90:49
 mul-is-blank-2 : tie.Need-mul-is-blank-2
-mul-is-blank-2 c = omega (arith, rows-small (c .before .before .before .args .variables) (c .before .before .before .args .capacity) (omega arith) (omega arith), split-rows (c .before .before .before .args .n) (c .before .before .before .args .capacity) ((c .before .before .before .args .variables) + 3) (omega arith))
+mul-is-blank-2 c =
+    let start = c .before .before .before in
+    omega (
+      arith,
+      rows-small (start .args .variables) (start .args .capacity) (omega arith) (omega arith),
+      split-rows (start .args .n) (start .args .capacity) ((start .args .variables) + 3) (omega arith),
+    )
 
 -- src/soundness.rt:90:9
 is-blank-requires : tie.Need-is-blank-requires
-is-blank-requires c κs = omega (arith, split-rows (c .before .before .before .args .n) (c .before .before .before .args .capacity) ((c .before .before .before .args .variables) + 3) (omega arith))
+is-blank-requires c κs =
+    let start = c .before .before .before in
+    omega (arith, split-rows (start .args .n) (start .args .capacity) ((start .args .variables) + 3) (omega arith))
 
 -- src/soundness.rt:91:9
 returns-2 : tie.Need-returns-2
@@ -67,7 +97,23 @@ returns-3 c = refuse (λ h. failed _ (c .before .numbers-ok .ensures) (c .if3 .t
 
 -- src/soundness.rt:96:9
 rising-ok-requires : tie.Need-rising-ok-requires
-rising-ok-requires c κs = ((omega arith, omega arith), ((omega arith, omega (arith, split-rows (c .before .before .before .before .before .before .before .args .n) (c .before .before .before .before .before .before .before .args .capacity) ((c .before .before .before .before .before .before .before .args .variables) + 3) (omega arith))), (passed _ (c .before .before .before .before .before .rows-ok .ensures) (c .before .before .before .before .if1 .left), passed _ (c .before .numbers-ok .ensures) (c .if3 .left))))
+rising-ok-requires c κs =
+    let if1 = c .before .before .before .before .if1 in
+    let rows-ok = c .before .before .before .before .before .rows-ok in
+    let start = c .before .before .before .before .before .before .before in (
+      (omega arith, omega arith),
+      (
+        (
+          omega arith,
+          omega (
+            arith,
+            split-rows (start .args .n) (start .args .capacity) ((start .args .variables) + 3)
+                (omega arith),
+          ),
+        ),
+        (passed _ (rows-ok .ensures) (if1 .left), passed _ (c .before .numbers-ok .ensures) (c .if3 .left)),
+      ),
+    )
 
 -- src/soundness.rt:97:9
 returns-4 : tie.Need-returns-4
@@ -75,7 +121,13 @@ returns-4 c = refuse (λ h. failed _ (c .before .rising-ok .ensures) (c .if4 .ta
 
 -- src/soundness.rt:99:32
 add-is-blank-2 : tie.Need-add-is-blank-2
-add-is-blank-2 c = omega (arith, rows-small (c .before .before .before .before .before .before .before .before .before .args .variables) (c .before .before .before .before .before .before .before .before .before .args .capacity) (omega arith) (omega arith), split-rows (c .before .before .before .before .before .before .before .before .before .args .n) (c .before .before .before .before .before .before .before .before .before .args .capacity) ((c .before .before .before .before .before .before .before .before .before .args .variables) + 3) (omega arith))
+add-is-blank-2 c =
+    let start = c .before .before .before .before .before .before .before .before .before in
+    omega (
+      arith,
+      rows-small (start .args .variables) (start .args .capacity) (omega arith) (omega arith),
+      split-rows (start .args .n) (start .args .capacity) ((start .args .variables) + 3) (omega arith),
+    )
 
 -- src/soundness.rt:99:43
 sub-is-blank-2 : tie.Need-sub-is-blank-2
@@ -87,15 +139,23 @@ is-blank-requires-2 c κs = search needs
 
 -- src/soundness.rt:80:1
 returns-5 : tie.Need-returns-5
-returns-5 c = (
-  λ z. record {
-    rows = passed _ (c .before .before .before .before .before .before .before .before .rows-ok .ensures) (c .before .before .before .before .before .before .before .if1 .left);
-    rows-rest = passed _ (c .before .before .before .before .before .before .is-blank .ensures) (c .before .before .before .before .before .if2 .left);
-    order = record { inside = passed _ (c .before .before .before .before .numbers-ok .ensures) (c .before .before .before .if3 .left); up = passed _ (c .before .before .rising-ok .ensures) (c .before .if4 .left) };
-    order-rest = (c .is-blank2 .ensures .0) z;
-  },
-  λ h. (c .is-blank2 .ensures .1) (h .order-rest),
-)
+returns-5 c =
+    let numbers-ok = c .before .before .before .before .numbers-ok in
+    let if2 = c .before .before .before .before .before .if2 in
+    let is-blank = c .before .before .before .before .before .before .is-blank in
+    let b7 = c .before .before .before .before .before .before .before in (
+      λ z. record {
+        rows = passed _ (b7 .before .rows-ok .ensures) (b7 .if1 .left);
+        rows-rest = passed _ (is-blank .ensures) (if2 .left);
+        order = record {
+          inside = passed _ (numbers-ok .ensures) (c .before .before .before .if3 .left);
+          up = passed _ (c .before .before .rising-ok .ensures)
+              (c .before .if4 .left);
+        };
+        order-rest = (c .is-blank2 .ensures .0) z;
+      },
+      λ h. (c .is-blank2 .ensures .1) (h .order-rest),
+    )
 
 pub tables-ok-spec : {M : Type 1} → statement M
 tables-ok-spec =

@@ -31,7 +31,11 @@ cmp-requires c κs = search needs
 -- src/monomial_ordering.rt:63:9
 returns : tie.Need-returns
 unfolding differing
-returns c = rw (lt-ltb (upperHalf (c .before .before .before .before .before .args .x)) (upperHalf (c .before .before .before .before .before .args .y)) (omega (arith, c .before .before .before .before .upper-half .ensures, c .before .before .before .upper-half2 .ensures))) (c .cmp .ensures ∙ rw (c .before .power .ensures))
+returns c =
+    let upper-half = c .before .before .before .before .upper-half in
+    let start = c .before .before .before .before .before in
+    rw (lt-ltb (upperHalf (start .args .x)) (upperHalf (start .args .y)) (omega (arith, upper-half .ensures, c .before .before .before .upper-half2 .ensures)))
+    (c .cmp .ensures ∙ rw (c .before .power .ensures))
 
 -- src/monomial_ordering.rt:66:20
 power-requires-2 : tie.Need-power-requires-2
@@ -44,7 +48,15 @@ cmp-requires-2 c κs = search needs
 -- src/monomial_ordering.rt:66:9
 returns-2 : tie.Need-returns-2
 unfolding differing
-returns-2 c = rw (le-ltb (upperHalf (c .before .before .before .before .before .before .args .x)) (upperHalf (c .before .before .before .before .before .before .args .y)) (omega (arith, c .before .before .before .before .before .upper-half .ensures, c .before .before .before .before .upper-half2 .ensures)), lt-ltb (upperHalf (c .before .before .before .before .before .before .args .y)) (upperHalf (c .before .before .before .before .before .before .args .x)) (omega (arith, c .before .before .before .before .before .upper-half .ensures, c .before .before .before .before .upper-half2 .ensures))) (c .cmp2 .ensures ∙ rw (c .before .power2 .ensures))
+returns-2 c =
+    let upper-half2 = c .before .before .before .before .upper-half2 in
+    let upper-half = c .before .before .before .before .before .upper-half in
+    let start = c .before .before .before .before .before .before in
+    rw (
+      le-ltb (upperHalf (start .args .x)) (upperHalf (start .args .y)) (omega (arith, upper-half .ensures, upper-half2 .ensures)),
+      lt-ltb (upperHalf (start .args .y)) (upperHalf (start .args .x)) (omega (arith, upper-half .ensures, upper-half2 .ensures)),
+    )
+    (c .cmp2 .ensures ∙ rw (c .before .power2 .ensures))
 
 -- src/monomial_ordering.rt:68:9
 power-requires-3 : tie.Need-power-requires-3
@@ -61,7 +73,15 @@ cmp-requires-3 c κs = search needs
 -- src/monomial_ordering.rt:57:1
 returns-3 : tie.Need-returns-3
 unfolding differing
-returns-3 c = rw (le-ltb (upperHalf (c .before .before .before .before .before .before .before .args .x)) (upperHalf (c .before .before .before .before .before .before .before .args .y)) (omega (arith, c .before .before .before .before .before .before .upper-half .ensures, c .before .before .before .before .before .upper-half2 .ensures)), le-ltb (upperHalf (c .before .before .before .before .before .before .before .args .y)) (upperHalf (c .before .before .before .before .before .before .before .args .x)) (omega (arith, c .before .before .before .before .before .before .upper-half .ensures, c .before .before .before .before .before .upper-half2 .ensures))) (c .cmp3 .ensures ∙ rw (c .before .before .power3 .ensures, c .before .power4 .ensures))
+returns-3 c =
+    let upper-half2 = c .before .before .before .before .before .upper-half2 in
+    let upper-half = c .before .before .before .before .before .before .upper-half in
+    let start = c .before .before .before .before .before .before .before in
+    rw (
+      le-ltb (upperHalf (start .args .x)) (upperHalf (start .args .y)) (omega (arith, upper-half .ensures, upper-half2 .ensures)),
+      le-ltb (upperHalf (start .args .y)) (upperHalf (start .args .x)) (omega (arith, upper-half .ensures, upper-half2 .ensures)),
+    )
+    (c .cmp3 .ensures ∙ rw (c .before .before .power3 .ensures, c .before .power4 .ensures))
 
 pub differ-spec : {M : Type 1} → statement M
 differ-spec =

@@ -32,11 +32,17 @@ mul-absent c = search needs
 
 -- src/monomial_ordering.rt:77:5
 loop-holds : tie.Need-loop-holds Inv-loop μ-loop
-loop-holds c = match-begin (c .before .before .pre .0 .0) (begins (c .before .before .pre .0 .0) (c .before .before .pre .1 .0)) (begins (c .before .before .pre .0 .0) (c .before .before .pre .1 .1 .0)) (c .before .before .pre .1 .1 .1 .0) (c .before .before .pre .1 .1 .1 .1)
+loop-holds c =
+    let start = c .before .before in
+    match-begin (start .pre .0 .0) (begins (start .pre .0 .0) (start .pre .1 .0)) (begins (start .pre .0 .0) (start .pre .1 .1 .0)) (start .pre .1 .1 .1 .0)
+    (start .pre .1 .1 .1 .1)
 
 -- src/monomial_ordering.rt:80:17
 returns : tie.Need-returns Inv-loop μ-loop
-returns c = all-equal (c .before .before .before .before .before .pre .0 .0) (begins (c .before .before .before .before .before .pre .0 .0) (c .before .before .before .before .before .pre .1 .0)) (begins (c .before .before .before .before .before .pre .0 .0) (c .before .before .before .before .before .pre .1 .1 .0)) (c .before .before .loop .inv) (c .before .if1 .taken) (c .if2 .taken)
+returns c =
+    let start = c .before .before .before .before .before in
+    all-equal (start .pre .0 .0) (begins (start .pre .0 .0) (start .pre .1 .0)) (begins (start .pre .0 .0) (start .pre .1 .1 .0)) (c .before .before .loop .inv)
+    (c .before .if1 .taken) (c .if2 .taken)
 
 -- src/monomial_ordering.rt:82:51
 sub-get : tie.Need-sub-get Inv-loop μ-loop
@@ -44,7 +50,9 @@ sub-get c = search needs
 
 -- src/monomial_ordering.rt:82:37
 get-requires : tie.Need-get-requires Inv-loop μ-loop
-get-requires c κs = omega (arith, c .before .before .loop .inv .jb, first-bytes (c .before .before .before .before .before .args .kind) (c .before .before .before .before .before .args .b .now))
+get-requires c κs =
+    let start = c .before .before .before .before .before in
+    omega (arith, c .before .before .loop .inv .jb, first-bytes (start .args .kind) (start .args .b .now))
 
 -- src/monomial_ordering.rt:82:24
 power-requires : tie.Need-power-requires Inv-loop μ-loop
@@ -56,7 +64,13 @@ cmp-requires c κs = search needs
 
 -- src/monomial_ordering.rt:82:13
 returns-2 : tie.Need-returns-2 Inv-loop μ-loop
-returns-2 c = c .cmp .ensures ∙ rw (c .before .power .ensures) (right-alone (c .before .before .before .before .before .before .before .before .pre .0 .0) (begins (c .before .before .before .before .before .before .before .before .pre .0 .0) (c .before .before .before .before .before .before .before .before .pre .1 .0)) (begins (c .before .before .before .before .before .before .before .before .pre .0 .0) (c .before .before .before .before .before .before .before .before .pre .1 .1 .0)) (c .before .before .before .before .before .loop .inv) (c .before .before .before .before .if1 .taken) (omega arith) (read (c .before .before .before .before .before .before .before .before .args .kind) _ ((c .before .before .before .before .before .loop .n) - 1) (omega (arith, c .before .before .before .before .before .loop .inv .jb)) (c .before .before .get .ensures)))
+returns-2 c =
+    let if1 = c .before .before .before .before .if1 in
+    let loop = c .before .before .before .before .before .loop in
+    let start = c .before .before .before .before .before .before .before .before in
+    c .cmp .ensures ∙ rw (c .before .power .ensures) (right-alone (start .pre .0 .0) (begins (start .pre .0 .0) (start .pre .1 .0))
+    (begins (start .pre .0 .0) (start .pre .1 .1 .0)) (loop .inv) (if1 .taken) (omega arith)
+    (read (start .args .kind) _ ((loop .n) - 1) (omega (arith, loop .inv .jb)) (c .before .before .get .ensures)))
 
 -- src/monomial_ordering.rt:84:31
 sub-get-2 : tie.Need-sub-get-2 Inv-loop μ-loop
@@ -64,7 +78,9 @@ sub-get-2 c = search needs
 
 -- src/monomial_ordering.rt:84:13
 get-requires-2 : tie.Need-get-requires-2 Inv-loop μ-loop
-get-requires-2 c κs = omega (arith, c .before .loop .inv .ia, first-bytes (c .before .before .before .before .args .kind) (c .before .before .before .before .args .a .now))
+get-requires-2 c κs =
+    let start = c .before .before .before .before in
+    omega (arith, c .before .loop .inv .ia, first-bytes (start .args .kind) (start .args .a .now))
 
 -- src/monomial_ordering.rt:86:32
 power-requires-2 : tie.Need-power-requires-2 Inv-loop μ-loop
@@ -76,7 +92,12 @@ cmp-requires-2 c κs = search needs
 
 -- src/monomial_ordering.rt:86:13
 returns-3 : tie.Need-returns-3 Inv-loop μ-loop
-returns-3 c = c .cmp2 .ensures ∙ rw (c .before .power2 .ensures) (left-alone (c .before .before .before .before .before .before .before .before .pre .0 .0) (begins (c .before .before .before .before .before .before .before .before .pre .0 .0) (c .before .before .before .before .before .before .before .before .pre .1 .0)) (begins (c .before .before .before .before .before .before .before .before .pre .0 .0) (c .before .before .before .before .before .before .before .before .pre .1 .1 .0)) (c .before .before .before .before .before .loop .inv) (c .before .before .if3 .taken) (omega arith) (read (c .before .before .before .before .before .before .before .before .args .kind) _ ((c .before .before .before .before .before .loop .m) - 1) (omega (arith, c .before .before .before .before .before .loop .inv .ia)) (c .before .before .before .get2 .ensures)))
+returns-3 c =
+    let loop = c .before .before .before .before .before .loop in
+    let start = c .before .before .before .before .before .before .before .before in
+    c .cmp2 .ensures ∙ rw (c .before .power2 .ensures) (left-alone (start .pre .0 .0) (begins (start .pre .0 .0) (start .pre .1 .0))
+    (begins (start .pre .0 .0) (start .pre .1 .1 .0)) (loop .inv) (c .before .before .if3 .taken) (omega arith)
+    (read (start .args .kind) _ ((loop .m) - 1) (omega (arith, loop .inv .ia)) (c .before .before .before .get2 .ensures)))
 
 -- src/monomial_ordering.rt:88:31
 sub-get-3 : tie.Need-sub-get-3 Inv-loop μ-loop
@@ -84,7 +105,9 @@ sub-get-3 c = search needs
 
 -- src/monomial_ordering.rt:88:13
 get-requires-3 : tie.Need-get-requires-3 Inv-loop μ-loop
-get-requires-3 c κs = omega (arith, c .before .before .before .loop .inv .jb, first-bytes (c .before .before .before .before .before .before .args .kind) (c .before .before .before .before .before .before .args .b .now))
+get-requires-3 c κs =
+    let start = c .before .before .before .before .before .before in
+    omega (arith, c .before .before .before .loop .inv .jb, first-bytes (start .args .kind) (start .args .b .now))
 
 -- src/monomial_ordering.rt:90:13
 differ-requires : tie.Need-differ-requires Inv-loop μ-loop
@@ -92,7 +115,13 @@ differ-requires c κs = search needs
 
 -- src/monomial_ordering.rt:90:13
 returns-4 : tie.Need-returns-4 Inv-loop μ-loop
-returns-4 c = c .differ .ensures ∙ differs (c .before .before .before .before .before .before .before .before .before .pre .0 .0) (begins (c .before .before .before .before .before .before .before .before .before .pre .0 .0) (c .before .before .before .before .before .before .before .before .before .pre .1 .0)) (begins (c .before .before .before .before .before .before .before .before .before .pre .0 .0) (c .before .before .before .before .before .before .before .before .before .pre .1 .1 .0)) (c .before .before .before .before .before .before .loop .inv) (omega arith) (omega arith) (read (c .before .before .before .before .before .before .before .before .before .args .kind) _ ((c .before .before .before .before .before .before .loop .m) - 1) (omega (arith, c .before .before .before .before .before .before .loop .inv .ia)) (c .before .before .before .before .get2 .ensures)) (read (c .before .before .before .before .before .before .before .before .before .args .kind) _ ((c .before .before .before .before .before .before .loop .n) - 1) (omega (arith, c .before .before .before .before .before .before .loop .inv .jb)) (c .before .before .get3 .ensures)) (c .before .if4 .taken)
+returns-4 c =
+    let get2 = c .before .before .before .before .get2 in
+    let loop = c .before .before .before .before .before .before .loop in
+    let start = c .before .before .before .before .before .before .before .before .before in
+    c .differ .ensures ∙ differs (start .pre .0 .0) (begins (start .pre .0 .0) (start .pre .1 .0)) (begins (start .pre .0 .0) (start .pre .1 .1 .0)) (loop .inv)
+    (omega arith) (omega arith) (read (start .args .kind) _ ((loop .m) - 1) (omega (arith, loop .inv .ia)) (get2 .ensures))
+    (read (start .args .kind) _ ((loop .n) - 1) (omega (arith, loop .inv .jb)) (c .before .before .get3 .ensures)) (c .before .if4 .taken)
 
 -- src/monomial_ordering.rt:92:9
 sub-m : tie.Need-sub-m Inv-loop μ-loop
@@ -108,7 +137,12 @@ loop-less c = omega arith
 
 -- src/monomial_ordering.rt:77:5
 loop-again : tie.Need-loop-again Inv-loop μ-loop
-loop-again c = matches (c .before .before .before .before .before .before .before .before .pre .0 .0) (begins (c .before .before .before .before .before .before .before .before .pre .0 .0) (c .before .before .before .before .before .before .before .before .pre .1 .0)) (begins (c .before .before .before .before .before .before .before .before .pre .0 .0) (c .before .before .before .before .before .before .before .before .pre .1 .1 .0)) (c .before .before .before .before .before .loop .inv) (omega arith) (omega arith) (read (c .before .before .before .before .before .before .before .before .args .kind) _ ((c .before .before .before .before .before .loop .m) - 1) (omega (arith, c .before .before .before .before .before .loop .inv .ia)) (c .before .before .before .get2 .ensures)) (read (c .before .before .before .before .before .before .before .before .args .kind) _ ((c .before .before .before .before .before .loop .n) - 1) (omega (arith, c .before .before .before .before .before .loop .inv .jb)) (c .before .get3 .ensures)) (omega arith)
+loop-again c =
+    let loop = c .before .before .before .before .before .loop in
+    let start = c .before .before .before .before .before .before .before .before in
+    matches (start .pre .0 .0) (begins (start .pre .0 .0) (start .pre .1 .0)) (begins (start .pre .0 .0) (start .pre .1 .1 .0)) (loop .inv) (omega arith)
+    (omega arith) (read (start .args .kind) _ ((loop .m) - 1) (omega (arith, loop .inv .ia)) (c .before .before .before .get2 .ensures))
+    (read (start .args .kind) _ ((loop .n) - 1) (omega (arith, loop .inv .jb)) (c .before .get3 .ensures)) (omega arith)
 
 pub revlex-spec : {M : Type 1} → statement M
 revlex-spec =

@@ -44,23 +44,56 @@ is-end-requires c κs = search needs
 
 -- src/monomial_ordering.rt:47:36
 cast-t9 : tie.Need-cast-t9 Inv-loop μ-loop
-cast-t9 c = omega (arith, totalled (c .before .before .before .before .before .pre .0 .0) (c .before .before .before .before .before .pre .0 .1) (c .before .before .before .loop .inv) (seen _ (c .before .before .before .loop .inv .ra) (c .before .before .get .ensures)) (first-canonical (c .before .before .before .before .before .pre .0 .0) (c .before .before .before .before .before .pre .1)) (is-end-true _ (c .before .is-end .ensures) (c .if1 .taken)) .few)
+cast-t9 c =
+    let loop = c .before .before .before .loop in
+    let start = c .before .before .before .before .before in
+    omega (
+      arith,
+      totalled (start .pre .0 .0) (start .pre .0 .1) (loop .inv) (seen _ (loop .inv .ra) (c .before .before .get .ensures))
+          (first-canonical (start .pre .0 .0) (start .pre .1)) (is-end-true _ (c .before .is-end .ensures) (c .if1 .taken)) .few,
+    )
 
 -- src/monomial_ordering.rt:47:29
 sub-t10 : tie.Need-sub-t10 Inv-loop μ-loop
-sub-t10 c = omega (arith, totalled (c .before .before .before .before .before .pre .0 .0) (c .before .before .before .before .before .pre .0 .1) (c .before .before .before .loop .inv) (seen _ (c .before .before .before .loop .inv .ra) (c .before .before .get .ensures)) (first-canonical (c .before .before .before .before .before .pre .0 .0) (c .before .before .before .before .before .pre .1)) (is-end-true _ (c .before .is-end .ensures) (c .if1 .taken)) .few)
+sub-t10 c =
+    let loop = c .before .before .before .loop in
+    let start = c .before .before .before .before .before in
+    omega (
+      arith,
+      totalled (start .pre .0 .0) (start .pre .0 .1) (loop .inv) (seen _ (loop .inv .ra) (c .before .before .get .ensures))
+          (first-canonical (start .pre .0 .0) (start .pre .1)) (is-end-true _ (c .before .is-end .ensures) (c .if1 .taken)) .few,
+    )
 
 -- src/monomial_ordering.rt:47:28
 mul-t11 : tie.Need-mul-t11 Inv-loop μ-loop
-mul-t11 c = omega (arith, totalled (c .before .before .before .before .before .pre .0 .0) (c .before .before .before .before .before .pre .0 .1) (c .before .before .before .loop .inv) (seen _ (c .before .before .before .loop .inv .ra) (c .before .before .get .ensures)) (first-canonical (c .before .before .before .before .before .pre .0 .0) (c .before .before .before .before .before .pre .1)) (is-end-true _ (c .before .is-end .ensures) (c .if1 .taken)) .fits)
+mul-t11 c =
+    let loop = c .before .before .before .loop in
+    let start = c .before .before .before .before .before in
+    omega (
+      arith,
+      totalled (start .pre .0 .0) (start .pre .0 .1) (loop .inv) (seen _ (loop .inv .ra) (c .before .before .get .ensures))
+          (first-canonical (start .pre .0 .0) (start .pre .1)) (is-end-true _ (c .before .is-end .ensures) (c .if1 .taken)) .fits,
+    )
 
 -- src/monomial_ordering.rt:47:22
 add-t12 : tie.Need-add-t12 Inv-loop μ-loop
-add-t12 c = omega (arith, totalled (c .before .before .before .before .before .pre .0 .0) (c .before .before .before .before .before .pre .0 .1) (c .before .before .before .loop .inv) (seen _ (c .before .before .before .loop .inv .ra) (c .before .before .get .ensures)) (first-canonical (c .before .before .before .before .before .pre .0 .0) (c .before .before .before .before .before .pre .1)) (is-end-true _ (c .before .is-end .ensures) (c .if1 .taken)) .fits)
+add-t12 c =
+    let loop = c .before .before .before .loop in
+    let start = c .before .before .before .before .before in
+    omega (
+      arith,
+      totalled (start .pre .0 .0) (start .pre .0 .1) (loop .inv) (seen _ (loop .inv .ra) (c .before .before .get .ensures))
+          (first-canonical (start .pre .0 .0) (start .pre .1)) (is-end-true _ (c .before .is-end .ensures) (c .if1 .taken)) .fits,
+    )
 
 -- src/monomial_ordering.rt:46:13
 returns : tie.Need-returns Inv-loop μ-loop
-returns c = let t = totalled (c .before .before .before .before .before .pre .0 .0) (c .before .before .before .before .before .pre .0 .1) (c .before .before .before .loop .inv) (seen _ (c .before .before .before .loop .inv .ra) (c .before .before .get .ensures)) (first-canonical (c .before .before .before .before .before .pre .0 .0) (c .before .before .before .before .before .pre .1)) (is-end-true _ (c .before .is-end .ensures) (c .if1 .taken)) in (t .is, t .last)
+returns c =
+    let loop = c .before .before .before .loop in
+    let start = c .before .before .before .before .before in
+    let t = totalled (start .pre .0 .0) (start .pre .0 .1) (loop .inv) (seen _ (loop .inv .ra) (c .before .before .get .ensures))
+    (first-canonical (start .pre .0 .0) (start .pre .1)) (is-end-true _ (c .before .is-end .ensures) (c .if1 .taken)) in
+    (t .is, t .last)
 
 -- src/monomial_ordering.rt:51:16
 power-requires : tie.Need-power-requires Inv-loop μ-loop
@@ -68,11 +101,22 @@ power-requires c κs = search needs
 
 -- src/monomial_ordering.rt:51:9
 add-sum : tie.Need-add-sum Inv-loop μ-loop
-add-sum c = omega (arith, c .power .ensures, counted (c .before .before .before .before .before .before .pre .0 .0) (c .before .before .before .before .before .before .pre .0 .1) (c .before .before .before .before .loop .inv) (seen _ (c .before .before .before .before .loop .inv .ra) (c .before .before .before .get .ensures)) (is-end-false _ (c .before .before .is-end .ensures) (c .before .if1 .left)) .small)
+add-sum c =
+    let loop = c .before .before .before .before .loop in
+    let start = c .before .before .before .before .before .before in
+    omega (
+      arith,
+      c .power .ensures,
+      counted (start .pre .0 .0) (start .pre .0 .1) (loop .inv)
+          (seen _ (loop .inv .ra) (c .before .before .before .get .ensures)) (is-end-false _ (c .before .before .is-end .ensures) (c .before .if1 .left)) .small,
+    )
 
 -- src/monomial_ordering.rt:52:9
 add-i : tie.Need-add-i Inv-loop μ-loop
-add-i c = omega (arith, within (c .before .before .before .before .loop .inv .ra), first-bytes (c .before .before .before .before .before .before .args .kind) (c .before .before .before .before .before .before .args .s .now))
+add-i c =
+    let loop = c .before .before .before .before .loop in
+    let start = c .before .before .before .before .before .before in
+    omega (arith, within (loop .inv .ra), first-bytes (start .args .kind) (start .args .s .now))
 
 -- src/monomial_ordering.rt:43:5
 loop-less : tie.Need-loop-less Inv-loop μ-loop
@@ -80,7 +124,11 @@ loop-less c = omega (arith, within (c .before .before .before .before .loop .inv
 
 -- src/monomial_ordering.rt:43:5
 loop-again : tie.Need-loop-again Inv-loop μ-loop
-loop-again c = rw (c .power .ensures) (counted (c .before .before .before .before .before .before .pre .0 .0) (c .before .before .before .before .before .before .pre .0 .1) (c .before .before .before .before .loop .inv) (seen _ (c .before .before .before .before .loop .inv .ra) (c .before .before .before .get .ensures)) (is-end-false _ (c .before .before .is-end .ensures) (c .before .if1 .left)) .more)
+loop-again c =
+    let loop = c .before .before .before .before .loop in
+    let start = c .before .before .before .before .before .before in
+    rw (c .power .ensures) (counted (start .pre .0 .0) (start .pre .0 .1) (loop .inv) (seen _ (loop .inv .ra) (c .before .before .before .get .ensures))
+    (is-end-false _ (c .before .before .is-end .ensures) (c .before .if1 .left)) .more)
 
 pub total-of-spec : {M : Type 1} → statement M
 total-of-spec =

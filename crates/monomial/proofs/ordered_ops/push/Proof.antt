@@ -35,7 +35,10 @@ same-length c = search needs
 
 -- src/ordered_ops.rt:71:1
 returns : tie.Need-returns
-returns c = (rw (eq-eqb (c .before .before .before .before .before .before .before .args .p) (32768 * ((c .before .before .before .before .before .before .before .args .kind) - 1)) (c .if1 .taken)), c .before .before .before .put .ensures ∙ rw (c .before .before .before .before .var-word .ensures))
+returns c =
+    let var-word = c .before .before .before .before .var-word in
+    let start = c .before .before .before .before .before .before .before in
+    (rw (eq-eqb (start .args .p) (32768 * ((start .args .kind) - 1)) (c .if1 .taken)), c .before .before .before .put .ensures ∙ rw (var-word .ensures))
 
 -- src/ordered_ops.rt:71:1
 same-length-2 : tie.Need-same-length-2
@@ -43,7 +46,10 @@ same-length-2 c = search needs
 
 -- src/ordered_ops.rt:71:1
 returns-2 : tie.Need-returns-2
-returns-2 c = (rw (ne-eqb (c .before .before .before .before .before .before .before .args .p) (32768 * ((c .before .before .before .before .before .before .before .args .kind) - 1)) (c .if1 .left)), c .before .before .before .put .ensures ∙ rw (c .before .before .before .before .var-word .ensures))
+returns-2 c =
+    let var-word = c .before .before .before .before .var-word in
+    let start = c .before .before .before .before .before .before .before in
+    (rw (ne-eqb (start .args .p) (32768 * ((start .args .kind) - 1)) (c .if1 .left)), c .before .before .before .put .ensures ∙ rw (var-word .ensures))
 
 pub push-spec : {M : Type 1} → statement M
 push-spec =

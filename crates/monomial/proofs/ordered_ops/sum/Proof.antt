@@ -34,15 +34,21 @@ kind-of-requires c κs = search needs
 
 -- src/ordered_ops.rt:128:5
 loop-holds : tie.Need-loop-holds Inv-loop μ-loop
-loop-holds c = begin (c .before .before .before .before .args .op) (c .before .before .before .before .args .out .now) (begins (omega arith) (c .before .before .before .before .pre .0)) (begins (omega arith) (c .before .before .before .before .pre .1 .0))
+loop-holds c =
+    let start = c .before .before .before .before in
+    begin (start .args .op) (start .args .out .now) (begins (omega arith) (start .pre .0)) (begins (omega arith) (start .pre .1 .0))
 
 -- src/ordered_ops.rt:129:13
 get-requires : tie.Need-get-requires Inv-loop μ-loop
-get-requires c κs = omega (arith, fits (c .loop .inv) (c .before .before .before .before .before .pre .1 .1), first-bytes 1 (c .before .before .before .before .before .args .a .now))
+get-requires c κs =
+    let start = c .before .before .before .before .before in
+    omega (arith, fits (c .loop .inv) (start .pre .1 .1), first-bytes 1 (start .args .a .now))
 
 -- src/ordered_ops.rt:130:13
 get-requires-2 : tie.Need-get-requires-2 Inv-loop μ-loop
-get-requires-2 c κs = omega (arith, fits (c .before .loop .inv) (c .before .before .before .before .before .before .pre .1 .1), first-bytes 1 (c .before .before .before .before .before .before .args .b .now))
+get-requires-2 c κs =
+    let start = c .before .before .before .before .before .before in
+    omega (arith, fits (c .before .loop .inv) (start .pre .1 .1), first-bytes 1 (start .args .b .now))
 
 -- src/ordered_ops.rt:131:13
 upper-requires : tie.Need-upper-requires Inv-loop μ-loop
@@ -50,15 +56,31 @@ upper-requires c κs = search needs
 
 -- src/ordered_ops.rt:133:13
 finish-requires : tie.Need-finish-requires Inv-loop μ-loop
-finish-requires c κs = let f = fits (c .before .before .before .before .before .loop .inv) (c .before .before .before .before .before .before .before .before .before .before .pre .1 .1) in (f .few, omega (arith, f))
+finish-requires c κs =
+    let loop = c .before .before .before .before .before .loop in
+    let start = c .before .before .before .before .before .before .before .before .before .before in
+    let f = fits (loop .inv) (start .pre .1 .1) in
+    (f .few, omega (arith, f))
 
 -- src/ordered_ops.rt:133:13
 same-length : tie.Need-same-length Inv-loop μ-loop
-same-length c = c .before .before .finish .kept .0 ∙ fits (c .before .before .before .before .before .before .before .before .loop .inv) (c .before .before .before .before .before .before .before .before .before .before .before .before .before .pre .1 .1) .kept
+same-length c =
+    let b8 = c .before .before .before .before .before .before .before .before in
+    let start = b8 .before .before .before .before .before in
+    c .before .before .finish .kept .0 ∙ fits (b8 .loop .inv) (start .pre .1 .1) .kept
 
 -- src/ordered_ops.rt:133:13
 returns : tie.Need-returns Inv-loop μ-loop
-returns c = let f = finished (c .before .before .before .before .before .before .before .before .loop .inv) (c .before .before .before .before .before .before .before .before .before .before .before .before .before .pre .1 .1) (seen _ (c .before .before .before .before .before .before .before .before .loop .inv .ra) (c .before .before .before .before .before .before .before .get .ensures)) (seen _ (c .before .before .before .before .before .before .before .before .loop .inv .rb) (c .before .before .before .before .before .before .get2 .ensures)) (c .before .before .before .before .before .upper .ensures) (c .before .before .before .before .if1 .taken) in (c .before .before .finish .ensures .0 ∙ f .0, c .before .before .finish .ensures .1 ∙ f .1)
+returns c =
+    let finish = c .before .before .finish in
+    let if1 = c .before .before .before .before .if1 in
+    let upper = c .before .before .before .before .before .upper in
+    let get2 = c .before .before .before .before .before .before .get2 in
+    let b7 = c .before .before .before .before .before .before .before in
+    let loop = b7 .before .loop in
+    let start = b7 .before .before .before .before .before .before in
+    let f = finished (loop .inv) (start .pre .1 .1) (seen _ (loop .inv .ra) (b7 .get .ensures)) (seen _ (loop .inv .rb) (get2 .ensures)) (upper .ensures) (if1 .taken) in
+    (finish .ensures .0 ∙ f .0, finish .ensures .1 ∙ f .1)
 
 -- src/ordered_ops.rt:135:26
 power-at-requires : tie.Need-power-at-requires Inv-loop μ-loop
@@ -70,27 +92,86 @@ power-at-requires-2 c κs = search needs
 
 -- src/ordered_ops.rt:135:13
 meet-requires : tie.Need-meet-requires Inv-loop μ-loop
-meet-requires c κs = let p = powered (c .before .before .before .before .before .before .loop .inv) (c .before .before .before .before .before .before .before .before .before .before .before .pre .1 .1) (seen _ (c .before .before .before .before .before .before .loop .inv .ra) (c .before .before .before .before .before .get .ensures)) (seen _ (c .before .before .before .before .before .before .loop .inv .rb) (c .before .before .before .before .get2 .ensures)) (c .before .before .before .upper .ensures) (c .before .before .if1 .left) (first-canonical (omega arith) (c .before .before .before .before .before .before .before .before .before .before .before .pre .0)) (first-canonical (omega arith) (c .before .before .before .before .before .before .before .before .before .before .before .pre .1 .0)) in (rw (c .before .power-at .ensures) (p .a-small), rw (c .power-at2 .ensures) (p .b-small))
+meet-requires c κs =
+    let get2 = c .before .before .before .before .get2 in
+    let get = c .before .before .before .before .before .get in
+    let loop = c .before .before .before .before .before .before .loop in
+    let start = c .before .before .before .before .before .before .before .before .before .before .before in
+    let p = powered (loop .inv) (start .pre .1 .1) (seen _ (loop .inv .ra) (get .ensures)) (seen _ (loop .inv .rb) (get2 .ensures))
+    (c .before .before .before .upper .ensures) (c .before .before .if1 .left) (first-canonical (omega arith) (start .pre .0))
+    (first-canonical (omega arith) (start .pre .1 .0)) in
+    (rw (c .before .power-at .ensures) (p .a-small), rw (c .power-at2 .ensures) (p .b-small))
 
 -- src/ordered_ops.rt:136:9
 push-requires : tie.Need-push-requires Inv-loop μ-loop
-push-requires c κs = let p = powered (c .before .before .before .before .before .before .before .before .loop .inv) (c .before .before .before .before .before .before .before .before .before .before .before .before .before .pre .1 .1) (seen _ (c .before .before .before .before .before .before .before .before .loop .inv .ra) (c .before .before .before .before .before .before .before .get .ensures)) (seen _ (c .before .before .before .before .before .before .before .before .loop .inv .rb) (c .before .before .before .before .before .before .get2 .ensures)) (c .before .before .before .before .before .upper .ensures) (c .before .before .before .before .if1 .left) (first-canonical (omega arith) (c .before .before .before .before .before .before .before .before .before .before .before .before .before .pre .0)) (first-canonical (omega arith) (c .before .before .before .before .before .before .before .before .before .before .before .before .before .pre .1 .0)) in let f = fits (c .before .before .before .before .before .before .before .before .loop .inv) (c .before .before .before .before .before .before .before .before .before .before .before .before .before .pre .1 .1) in let k = kind-small (c .before .before .before .before .before .before .before .before .before .before .before .before .before .args .op) in ((omega (arith, c .before .before .before .before .before .before .before .before .before .kind-of .ensures), (omega (arith, c .before .before .before .before .before .before .before .before .before .kind-of .ensures), (omega arith, rw (c .before .meet .ensures, c .before .before .before .power-at .ensures, c .before .before .power-at2 .ensures) (p .p-small)))), (f .few, omega (arith, f)))
+push-requires c κs =
+    let if1 = c .before .before .before .before .if1 in
+    let upper = c .before .before .before .before .before .upper in
+    let get2 = c .before .before .before .before .before .before .get2 in
+    let b7 = c .before .before .before .before .before .before .before in
+    let loop = b7 .before .loop in
+    let kind-of = b7 .before .before .kind-of in
+    let start = b7 .before .before .before .before .before .before in
+    let p = powered (loop .inv) (start .pre .1 .1) (seen _ (loop .inv .ra) (b7 .get .ensures)) (seen _ (loop .inv .rb) (get2 .ensures)) (upper .ensures)
+    (if1 .left) (first-canonical (omega arith) (start .pre .0)) (first-canonical (omega arith) (start .pre .1 .0)) in
+    let f = fits (loop .inv) (start .pre .1 .1) in
+    let k = kind-small (start .args .op) in (
+      (
+        omega (arith, kind-of .ensures),
+        (
+          omega (arith, kind-of .ensures),
+          (
+            omega arith,
+            rw (c .before .meet .ensures, c .before .before .before .power-at .ensures, c .before .before .power-at2 .ensures) (p .p-small),
+          ),
+        ),
+      ),
+      (f .few, omega (arith, f)),
+    )
 
 -- src/ordered_ops.rt:137:9
 step-requires : tie.Need-step-requires Inv-loop μ-loop
-step-requires c κs = omega (arith, fits (c .before .before .before .before .before .before .before .before .before .before .before .loop .inv) (c .before .before .before .before .before .before .before .before .before .before .before .before .before .before .before .before .pre .1 .1), first-bytes 1 (c .before .before .before .before .before .before .before .before .before .before .before .before .before .before .before .before .args .a .now))
+step-requires c κs =
+    let b11 = c .before .before .before .before .before .before .before .before .before .before .before in
+    let start = b11 .before .before .before .before .before in
+    omega (arith, fits (b11 .loop .inv) (start .pre .1 .1), first-bytes 1 (start .args .a .now))
 
 -- src/ordered_ops.rt:138:9
 step-requires-2 : tie.Need-step-requires-2 Inv-loop μ-loop
-step-requires-2 c κs = omega (arith, fits (c .before .before .before .before .before .before .before .before .before .before .before .before .loop .inv) (c .before .before .before .before .before .before .before .before .before .before .before .before .before .before .before .before .before .pre .1 .1), first-bytes 1 (c .before .before .before .before .before .before .before .before .before .before .before .before .before .before .before .before .before .args .b .now))
+step-requires-2 c κs =
+    let b12 = c .before .before .before .before .before .before .before .before .before .before .before .before in
+    let start = b12 .before .before .before .before .before in
+    omega (arith, fits (b12 .loop .inv) (start .pre .1 .1), first-bytes 1 (start .args .b .now))
 
 -- src/ordered_ops.rt:128:5
 loop-less : tie.Need-loop-less Inv-loop μ-loop
-loop-less c = let f = fits (c .before .before .before .before .before .before .before .before .before .before .before .before .before .loop .inv) (c .before .before .before .before .before .before .before .before .before .before .before .before .before .before .before .before .before .before .pre .1 .1) in rw (c .before .step .ensures, c .step2 .ensures) (falls (c .before .before .before .before .before .before .before .before .before .before .before .before .get .result) (c .before .before .before .before .before .before .before .before .before .before .before .get2 .result) (c .before .before .before .before .before .before .before .before .before .before .upper .result) (c .before .before .before .before .before .before .before .before .before .before .before .before .before .loop .i) (c .before .before .before .before .before .before .before .before .before .before .before .before .before .loop .j) _ _ (c .before .before .before .before .before .before .before .before .before .before .upper .ensures) (f .ia) (f .jb))
+loop-less c =
+    let b10 = c .before .before .before .before .before .before .before .before .before .before in
+    let upper = b10 .upper in
+    let get = b10 .before .before .get in
+    let loop = b10 .before .before .before .loop in
+    let start = b10 .before .before .before .before .before .before .before .before in
+    let f = fits (loop .inv) (start .pre .1 .1) in
+    rw (c .before .step .ensures, c .step2 .ensures) (falls (get .result) (b10 .before .get2 .result) (upper .result) (loop .i) (loop .j) _ _ (upper .ensures)
+    (f .ia) (f .jb))
 
 -- src/ordered_ops.rt:128:5
 loop-again : tie.Need-loop-again Inv-loop μ-loop
-loop-again c = let d = rw (c .before .before .before .before .before .before .before .before .power-at .ensures, c .before .before .before .before .before .before .before .power-at2 .ensures) at (c .before .before .before .before .before .before .meet .ensures) in rw (c .before .step .ensures, c .step2 .ensures) (again (c .before .before .before .before .before .before .before .before .before .before .before .before .before .loop .inv) (c .before .before .before .before .before .before .before .before .before .before .before .before .before .before .before .before .before .before .pre .1 .1) (seen _ (c .before .before .before .before .before .before .before .before .before .before .before .before .before .loop .inv .ra) (c .before .before .before .before .before .before .before .before .before .before .before .before .get .ensures)) (seen _ (c .before .before .before .before .before .before .before .before .before .before .before .before .before .loop .inv .rb) (c .before .before .before .before .before .before .before .before .before .before .before .get2 .ensures)) (c .before .before .before .before .before .before .before .before .before .before .upper .ensures) (c .before .before .before .before .before .before .before .before .before .if1 .left) d (rw (c .before .before .before .before .before .before .before .before .before .before .before .before .before .before .kind-of .ensures) at (c .before .before .before .before .push .ensures .0)) (rw (c .before .before .before .before .before .before .before .before .before .before .before .before .before .before .kind-of .ensures) at (c .before .before .before .before .push .ensures .1)))
+loop-again c =
+    let push = c .before .before .before .before .push in
+    let meet = c .before .before .before .before .before .before .meet in
+    let b7 = c .before .before .before .before .before .before .before in
+    let if1 = b7 .before .before .if1 in
+    let upper = b7 .before .before .before .upper in
+    let get2 = b7 .before .before .before .before .get2 in
+    let get = b7 .before .before .before .before .before .get in
+    let loop = b7 .before .before .before .before .before .before .loop in
+    let b14 = b7 .before .before .before .before .before .before .before in
+    let kind-of = b14 .kind-of in
+    let start = b14 .before .before .before .before in
+    let d = rw (b7 .before .power-at .ensures, b7 .power-at2 .ensures) at (meet .ensures) in
+    rw (c .before .step .ensures, c .step2 .ensures) (again (loop .inv) (start .pre .1 .1) (seen _ (loop .inv .ra) (get .ensures))
+    (seen _ (loop .inv .rb) (get2 .ensures)) (upper .ensures) (if1 .left) d (rw (kind-of .ensures) at (push .ensures .0)) (rw (kind-of .ensures) at (push .ensures .1)))
 
 pub sum-spec : {M : Type 1} → statement M
 sum-spec =

@@ -41,7 +41,13 @@ loop-less c = search needs
 
 -- src/runs.rt:19:5
 loop-again : tie.Need-loop-again Inv-loop μ-loop
-loop-again c = (omega arith, bits-more (words (c .before .before .before .before .args .s .now)) (c .before .before .before .before .args .at) (c .before .before .loop .i) (c .before .before .loop .bits) (c .get .result) (omega (arith, length-words (c .before .before .before .before .args .s .now))) (c .get .ensures) (c .before .before .loop .inv .1))
+loop-again c =
+    let loop = c .before .before .loop in
+    let start = c .before .before .before .before in (
+      omega arith,
+      bits-more (words (start .args .s .now)) (start .args .at) (loop .i) (loop .bits) (c .get .result)
+          (omega (arith, length-words (start .args .s .now))) (c .get .ensures) (loop .inv .1),
+    )
 
 -- src/runs.rt:13:1
 returns : tie.Need-returns Inv-loop μ-loop

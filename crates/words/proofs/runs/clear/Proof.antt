@@ -40,7 +40,11 @@ loop-less c = search needs
 
 -- src/runs.rt:32:5
 loop-again : tie.Need-loop-again Inv-loop μ-loop
-loop-again c = (omega arith, (c .before .before .put .ensures ∙ clear-more (c .before .before .before .before .before .before .before .args .s .now) (c .before .before .before .before .before .loop .s) (c .before .before .before .before .before .before .before .args .at) (c .before .before .before .before .before .loop .i) (c .before .before .before .before .before .loop .inv .1 .0) (omega arith), c .before .before .put .kept .0 ∙ c .before .before .before .before .before .loop .inv .1 .1))
+loop-again c =
+    let put = c .before .before .put in
+    let loop = c .before .before .before .before .before .loop in
+    let start = c .before .before .before .before .before .before .before in
+    (omega arith, (put .ensures ∙ clear-more (start .args .s .now) (loop .s) (start .args .at) (loop .i) (loop .inv .1 .0) (omega arith), put .kept .0 ∙ loop .inv .1 .1))
 
 -- src/runs.rt:27:1
 same-length : tie.Need-same-length Inv-loop μ-loop

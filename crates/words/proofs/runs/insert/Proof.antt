@@ -28,9 +28,14 @@ same-length c = search needs
 
 -- src/runs.rt:67:1
 returns : tie.Need-returns
-returns c = let W = words (c .before .before .before .before .before .before .before .before .before .args .s .now) in
-    let l : length (part W (c .before .before .before .before .before .before .before .before .before .args .at) ((c .before .before .before .before .before .before .before .before .before .args .end) - (c .before .before .before .before .before .before .before .before .before .args .at))) ≡ (c .before .before .before .before .before .before .before .before .before .args .end) - (c .before .before .before .before .before .before .before .before .before .args .at) = length-part W (c .before .before .before .before .before .before .before .before .before .args .at) ((c .before .before .before .before .before .before .before .before .before .args .end) - (c .before .before .before .before .before .before .before .before .before .args .at)) (omega (arith, length-words (c .before .before .before .before .before .before .before .before .before .args .s .now))) in
-    (c .before .before .put .ensures) ∙ rw (c .before .before .before .before .before .before .move-up .ensures) (pasteW-cons (c .before .before .before .before .before .before .before .before .before .args .s .now) (c .before .before .before .before .before .before .before .before .before .args .at) (part W (c .before .before .before .before .before .before .before .before .before .args .at) ((c .before .before .before .before .before .before .before .before .before .args .end) - (c .before .before .before .before .before .before .before .before .before .args .at))) (c .before .before .before .before .before .before .before .before .before .args .w) (omega arith))
+returns c =
+    let move-up = c .before .before .before .before .before .before .move-up in
+    let start = c .before .before .before .before .before .before .before .before .before in
+    let W = words (start .args .s .now) in
+    let l : length (part W (start .args .at) ((start .args .end) - (start .args .at))) ≡ (start .args .end) - (start .args .at) = length-part W
+    (start .args .at) ((start .args .end) - (start .args .at)) (omega (arith, length-words (start .args .s .now))) in
+    (c .before .before .put .ensures) ∙ rw (move-up .ensures) (pasteW-cons (start .args .s .now) (start .args .at)
+    (part W (start .args .at) ((start .args .end) - (start .args .at))) (start .args .w) (omega arith))
 
 pub insert-spec : {M : Type 1} → statement M
 insert-spec = tie.close (tie.spec move-up-requires put-requires same-length returns)

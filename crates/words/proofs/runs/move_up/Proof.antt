@@ -45,10 +45,24 @@ loop-less c = search needs
 
 -- src/runs.rt:59:5
 loop-again : tie.Need-loop-again Inv-loop μ-loop
-loop-again c = let i = (c .before .before .before .before .before .before .before .loop .i) - 1 in
-    let e : (c .before .before .before .before .before .before .before .loop .i) ≡ i + 1 = omega arith in
-    let now : (c .before .before .before .before .before .before .before .loop .s) ≡ pasteW (c .before .before .before .before .before .before .before .before .before .args .s .now) (i + 1 + (c .before .before .before .before .before .before .before .before .before .args .by)) (part (words (c .before .before .before .before .before .before .before .before .before .args .s .now)) (i + 1) ((c .before .before .before .before .before .before .before .before .before .args .end) - (i + 1))) = c .before .before .before .before .before .before .before .loop .inv .1 .0 ∙ ap (λ (n : ℕ). pasteW (c .before .before .before .before .before .before .before .before .before .args .s .now) (n + (c .before .before .before .before .before .before .before .before .before .args .by)) (part (words (c .before .before .before .before .before .before .before .before .before .args .s .now)) n ((c .before .before .before .before .before .before .before .before .before .args .end) - n))) e in
-    ((omega arith, omega arith), (c .before .before .put .ensures ∙ up-more (c .before .before .before .before .before .before .before .before .before .args .s .now) (c .before .before .before .before .before .before .before .loop .s) i (c .before .before .before .before .before .before .before .before .before .args .end) (c .before .before .before .before .before .before .before .before .before .args .by) (c .before .before .before .before .get .result) (omega arith) (omega arith) now (c .before .before .before .before .get .ensures), c .before .before .put .kept .0 ∙ c .before .before .before .before .before .before .before .loop .inv .1 .1))
+loop-again c =
+    let put = c .before .before .put in
+    let get = c .before .before .before .before .get in
+    let b7 = c .before .before .before .before .before .before .before in
+    let loop = b7 .loop in
+    let start = b7 .before .before in
+    let i = (loop .i) - 1 in
+    let e : (loop .i) ≡ i + 1 = omega arith in
+    let now : (loop .s) ≡ pasteW (start .args .s .now) (i + 1 + (start .args .by))
+    (part (words (start .args .s .now)) (i + 1) ((start .args .end) - (i + 1))) = loop .inv .1 .0 ∙
+    ap (λ (n : ℕ). pasteW (start .args .s .now) (n + (start .args .by)) (part (words (start .args .s .now)) n ((start .args .end) - n))) e in (
+      (omega arith, omega arith),
+      (
+        put .ensures ∙ up-more (start .args .s .now) (loop .s) i (start .args .end) (start .args .by) (get .result) (omega arith)
+            (omega arith) now (get .ensures),
+        put .kept .0 ∙ loop .inv .1 .1,
+      ),
+    )
 
 -- src/runs.rt:53:1
 same-length : tie.Need-same-length Inv-loop μ-loop

@@ -46,11 +46,28 @@ loop-less c = search needs
 
 -- src/runs.rt:45:5
 loop-again : tie.Need-loop-again Inv-loop μ-loop
-loop-again c = let xs = words (c .before .before .before .before .before .before .before .before .before .args .row .now) in
-    let i = (c .before .before .before .before .before .before .loop .i) in
-    let len : i < length xs = omega (arith, length-words (c .before .before .before .before .before .before .before .before .before .args .row .now)) in
-    let el : (c .before .before .before .before .before .before .before .before .before .args .at) + i ≡ (c .before .before .before .before .before .before .before .before .before .args .at) + length (take i xs) = rw (length-take-le i xs (omega arith)) in
-    (omega arith, (c .before .before .put .ensures ∙ rw (c .before .before .before .before .before .before .loop .inv .1 .0, c .before .before .before .before .get .ensures, pasteW-snoc (c .before .before .before .before .before .before .before .before .before .args .s .now) (c .before .before .before .before .before .before .before .before .before .args .at) (take i xs) ((c .before .before .before .before .before .before .before .before .before .args .at) + i) (getD xs i 0) el (omega arith), add-one, take-suc xs i 0 len), c .before .before .put .kept .0 ∙ c .before .before .before .before .before .before .loop .inv .1 .1))
+loop-again c =
+    let put = c .before .before .put in
+    let get = c .before .before .before .before .get in
+    let loop = c .before .before .before .before .before .before .loop in
+    let start = c .before .before .before .before .before .before .before .before .before in
+    let xs = words (start .args .row .now) in
+    let i = (loop .i) in
+    let len : i < length xs = omega (arith, length-words (start .args .row .now)) in
+    let el : (start .args .at) + i ≡ (start .args .at) + length (take i xs) = rw (length-take-le i xs (omega arith)) in (
+      omega arith,
+      (
+        put .ensures ∙ rw (
+          loop .inv .1 .0,
+          get .ensures,
+          pasteW-snoc (start .args .s .now) (start .args .at) (take i xs) ((start .args .at) + i)
+              (getD xs i 0) el (omega arith),
+          add-one,
+          take-suc xs i 0 len,
+        ),
+        put .kept .0 ∙ loop .inv .1 .1,
+      ),
+    )
 
 -- src/runs.rt:39:1
 same-length : tie.Need-same-length Inv-loop μ-loop
@@ -58,7 +75,10 @@ same-length c = search needs
 
 -- src/runs.rt:39:1
 returns : tie.Need-returns Inv-loop μ-loop
-returns c = c .before .loop .inv .1 .0 ∙ ap (pasteW (c .before .before .before .before .args .s .now) (c .before .before .before .before .args .at)) (take-all (c .before .loop .i) (words (c .before .before .before .before .args .row .now)) (omega (arith, length-words (c .before .before .before .before .args .row .now))))
+returns c =
+    let start = c .before .before .before .before in
+    c .before .loop .inv .1 .0 ∙ ap (pasteW (start .args .s .now) (start .args .at))
+    (take-all (c .before .loop .i) (words (start .args .row .now)) (omega (arith, length-words (start .args .row .now))))
 
 pub paste-spec : {M : Type 1} → statement M
 paste-spec =
