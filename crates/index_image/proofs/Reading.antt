@@ -10,7 +10,7 @@ use Rattle.words.specs.Words.{words, bytes, putW, pasteW}
 use Rattle.words.specs.Tables.{part}
 use Rattle.words.proofs.Laws.{Bytes, Words, length-words, length-bytes, words-take, words-part, words-bytes, pasteW-front, putW-paste}
 use Rattle.words.proofs.Tables.{length-part, part-nil, part-one, part-snoc, paste-own}
-use Rattle.monomial.specs.Monomial.{front, found, Canonical}
+use Rattle.monomial.specs.Monomial.{front, found, Canonical, Starts, first}
 use Rattle.monomial.specs.Operations.{result, divides}
 use Rattle.monomial.specs.declared.ordered_ops.Op.the-variants.{Gcd}
 use Rattle.monomial.proofs.Canon.{front-short}
@@ -20,7 +20,9 @@ use Rattle.index_image.specs.declared.Shape.{Shape}
 use Rattle.index_image.specs.Shape as at
 use Rattle.index_image.specs.Layout.{gcdOf}
 use Rattle.index_image.specs.Walk.{lmLength, lmIn, power, label, Ready}
-use Rattle.index_image.specs.Rows.{monomialIn, Taken}
+use Rattle.index_image.specs.Rows.{monomialIn, Taken, Begins}
+use Rattle.monomial.proofs.Firsts.{first-part}
+use Rattle.index_image.proofs.Slots.{rest, rest-words}
 use Rattle.index_image.proofs.Gcds.{lm-is, lm-canonical, lm-powers, Powers, image-powers, gcd-none, gcd-one, gcd-more, gcd-words, gcd-canonical}
 
 -- ---- monomials
@@ -32,6 +34,13 @@ taken bs m g r e =
       is = ap words e ∙ words-part bs g n (4 * n) refl;
       long = ap length e ∙ simp (length-take, length-drop) (omega (arith, front-short 1 m 0 (drop g (words bs)), length-drop g (words bs), length-words bs));
     }
+
+pub begins : (bs : List ℕ) (m g x : ℕ) → x ≡ 4 * g → (front 1 m 0 (drop g (words bs)) ≡ 0 → ⊥) → Begins m (rest bs x) (monomialIn (words bs) m g)
+unfolding monomialIn
+begins bs m g x e h =
+    let st : Starts 1 m (drop g (words bs)) = record { some = h } in
+    let w : words (rest bs x) ≡ drop g (words bs) = rest-words bs x g e in
+    record { starts = rw w st; is = ap (first 1) w ∙ first-part (words bs) g st }
 
 -- the words that were pasted at the front
 pub front-pasted : (bs ws : List ℕ) (r : ℕ) → Words ws → r ≡ length ws → words (take (4 * r) (pasteW bs 0 ws)) ≡ ws

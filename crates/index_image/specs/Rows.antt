@@ -5,7 +5,7 @@ use Prim.Native.Nat.{ℕ, _+_, _*_}
 use lib.ListN.{length, getD, drop}
 use Rattle.words.specs.Words.{words}
 use Rattle.words.specs.Tables.{part}
-use Rattle.monomial.specs.Monomial.{front, pow}
+use Rattle.monomial.specs.Monomial.{front, Starts, first, pow}
 use Rattle.divmask.specs.Mask.{mask}
 use Rattle.index_image.specs.Layout.{slot}
 use Rattle.index_image.specs.Shape as at
@@ -20,6 +20,11 @@ monomialIn W m g = part W g (front 1 m 0 (drop g W))
 pub record Taken (bs ws : List ℕ) : Type 0 where
   pub is : words bs ≡ ws
   pub long : length bs ≡ 4 * length ws
+
+-- the bytes begin with the words ws of a canonical monomial in m variables
+pub record Begins (m : ℕ) (bs ws : List ℕ) : Type 0 where
+  pub starts : Starts 1 m (words bs)
+  pub is : first 1 (words bs) ≡ ws
 
 -- the entries at places lo up to lo + c of the permutation
 abbrev pub entriesFrom : List ℕ → Shape → ℕ → ℕ → List ℕ

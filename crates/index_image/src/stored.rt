@@ -6,7 +6,7 @@ ghost use Prim.Native.Nat.{_+_, _*_, _<_, _≤_};
 ghost use lib.ListN.{length, drop};
 ghost use Rattle.words.specs.Words.{words, pasteW};
 ghost use Rattle.words.specs.Tables.{part};
-ghost use Rattle.monomial.specs.Monomial.{Canonical, front};
+ghost use Rattle.monomial.specs.Monomial.{Canonical, Starts, first, front};
 ghost use Rattle.monomial.specs.Operations.{result};
 ghost use Rattle.monomial.specs.declared.ordered_ops.Op.the-variants.{Gcd};
 ghost use Rattle.index_image.specs.Layout.{gcdOf};
@@ -21,6 +21,16 @@ pub fn monomial_in(image: &[u8], s: Shape, g: usize) -> &[u8]
     ensures { λ r. ⌜ row.Taken (now r) (row.monomialIn (words (now (image .entry))) (s .variables) g) ⌝ }
 {
     monomial::known_at(image, g)
+}
+
+// The part of the image that begins with the canonical monomial at word g, whatever follows it there.
+pub fn monomial_from(image: &[u8], s: Shape, g: usize) -> &[u8]
+    requires { ⌜ (front 1 (s .variables) 0 (drop g (words (now image))) ≡ 0 → ⊥) ⌝ }
+    requires { ⌜ 4 * g ≤ length (now image) ⌝ }
+    ensures { λ r. ⌜ row.Begins (s .variables) (now r) (row.monomialIn (words (now (image .entry))) (s .variables) g) ⌝ }
+{
+    let a = 4 * g;
+    &image[a..]
 }
 
 // The label of the ratio of the entry at place e.
@@ -39,14 +49,15 @@ pub fn label_in(image: &[u8], s: Shape, e: usize) -> u64
     ) as u64
 }
 
-// Replaces the monomial in the first n words by its gcd with another, and returns its length in words.
+// Replaces the monomial in the first n words by its gcd with the one that another slice begins with, and returns its length in words.
 fn make_gcd(acc: &mut [u8], n: usize, other: &[u8]) -> usize
     requires { ⌜ length (now acc) ≡ 260 ⌝ }
     requires { ⌜ n ≤ 65 ⌝ }
     requires { ⌜ Canonical 1 64 (part (words (now acc)) 0 n) ⌝ }
-    requires { ⌜ Canonical 1 64 (words (now other)) ⌝ }
-    ensures { λ r. ⌜ r ≡ length (result Gcd (part (words (now (acc .entry))) 0 n) (words (now (other .entry)))) ⌝ }
-    ensures { λ _. ⌜ now (acc .exit) ≡ pasteW (now (acc .entry)) 0 (result Gcd (part (words (now (acc .entry))) 0 n) (words (now (other .entry)))) ⌝ }
+    requires { ⌜ Starts 1 4096 (words (now other)) ⌝ }
+    requires { ⌜ Canonical 1 64 (first 1 (words (now other))) ⌝ }
+    ensures { λ r. ⌜ r ≡ length (result Gcd (part (words (now (acc .entry))) 0 n) (first 1 (words (now (other .entry))))) ⌝ }
+    ensures { λ _. ⌜ now (acc .exit) ≡ pasteW (now (acc .entry)) 0 (result Gcd (part (words (now (acc .entry))) 0 n) (first 1 (words (now (other .entry))))) ⌝ }
 {
     let mut made = [0u8; 260];
     let e = 4 * n;
@@ -61,9 +72,10 @@ fn meet(acc: &mut [u8], n: usize, other: &[u8]) -> usize
     requires { ⌜ length (now acc) ≡ 260 ⌝ }
     requires { ⌜ n ≤ 65 ⌝ }
     requires { ⌜ Canonical 1 64 (part (words (now acc)) 0 n) ⌝ }
-    requires { ⌜ Canonical 1 64 (words (now other)) ⌝ }
-    ensures { λ r. ⌜ r ≡ length (result Gcd (part (words (now (acc .entry))) 0 n) (words (now (other .entry)))) ⌝ }
-    ensures { λ _. ⌜ now (acc .exit) ≡ pasteW (now (acc .entry)) 0 (result Gcd (part (words (now (acc .entry))) 0 n) (words (now (other .entry)))) ⌝ }
+    requires { ⌜ Starts 1 4096 (words (now other)) ⌝ }
+    requires { ⌜ Canonical 1 64 (first 1 (words (now other))) ⌝ }
+    ensures { λ r. ⌜ r ≡ length (result Gcd (part (words (now (acc .entry))) 0 n) (first 1 (words (now (other .entry))))) ⌝ }
+    ensures { λ _. ⌜ now (acc .exit) ≡ pasteW (now (acc .entry)) 0 (result Gcd (part (words (now (acc .entry))) 0 n) (first 1 (words (now (other .entry))))) ⌝ }
 {
     let e = 4 * n;
     if monomial::divides(&acc[..e], other) {
@@ -91,7 +103,7 @@ pub fn gcd_of(image: &[u8], s: Shape, lo: usize, c: usize, acc: &mut [u8]) -> us
     let mut i: usize = 1;
     while i < c {
         let e = words::get(image, p + i) as usize;
-        n = meet(acc, n, monomial_in(image, s, s.entry_at(e)));
+        n = meet(acc, n, monomial_from(image, s, s.entry_at(e)));
         i += 1;
     }
     n

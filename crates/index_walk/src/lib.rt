@@ -9,7 +9,7 @@ ghost use mathlib.Core.Logic.{_↔_};
 ghost use Prim.Native.Nat.{ℕ, min, max, _+_, _*_, _<_, _≤_};
 ghost use lib.ListN.{length, getD};
 ghost use Rattle.words.specs.Words.{words, putW};
-ghost use Rattle.monomial.specs.Monomial.{Canonical, pow};
+ghost use Rattle.monomial.specs.Monomial.{Canonical, Starts, first, pow};
 ghost use Rattle.monomial.specs.Operations.{result};
 ghost use Rattle.monomial.specs.declared.ordered_ops.Op.the-variants.{Gcd};
 ghost use Rattle.index_image.specs.Layout.{gcdOf};
@@ -28,12 +28,12 @@ pub struct Limits {
     pub other: u64,
 }
 
-// Whether every power of a monomial is below its bound. Absent variables have power 0, and no bound is 0.
+// Whether every power of the monomial at the front of a slice is below its bound. Absent variables have power 0, and no bound is 0.
 fn powers_below(lm: &[u8], variables: usize, hi: &[u8]) -> bool
     requires { ⌜ variables ≤ 64 ⌝ }
-    requires { ⌜ Canonical 1 variables (words (now lm)) ⌝ }
+    requires { ⌜ Starts 1 variables (words (now lm)) ⌝ }
     requires { ⌜ row.Uppers variables (now hi) ⌝ }
-    ensures { λ r. ⌜ (r ≡ true) ↔ ((v : ℕ) → v < variables → pow 1 (words (now (lm .entry))) v < getD (words (now (hi .entry))) v 0) ⌝ }
+    ensures { λ r. ⌜ (r ≡ true) ↔ ((v : ℕ) → v < variables → pow 1 (first 1 (words (now (lm .entry)))) v < getD (words (now (hi .entry))) v 0) ⌝ }
 {
     let mut i: usize = 0;
     loop {
@@ -56,7 +56,7 @@ fn entry_ok(image: &[u8], s: Shape, hi: &[u8], ll: u64, lh: u64, e: usize) -> bo
     requires { ⌜ e < s .entries ⌝ }
     ensures { λ r. ⌜ (r ≡ true) ↔ row.Inside (words (now (image .entry))) s (words (now (hi .entry))) ll lh e ⌝ }
 {
-    let lm = stored::monomial_in(image, s, s.entry_at(e));
+    let lm = stored::monomial_from(image, s, s.entry_at(e));
     if !powers_below(lm, s.variables, hi) {
         return false;
     }

@@ -1,4 +1,6 @@
 use native.Mathlib.Omega.{arith}
+use Rattle.monomial.specs.Monomial.{first}
+use Rattle.monomial.proofs.Firsts.{starts-wide}
 use borrow.Author.Needs.{needs}
 use mathlib.Core.Path.{_≡_, sym, ap}
 use Prim.Native.Nat.{_+_, _-_, _/_}
@@ -8,7 +10,7 @@ use Rattle.words.proofs.Laws.{length-words}
 use Rattle.index_image.specs.Shape as at
 use Rattle.index_image.specs.Walk.{lmIn}
 use Rattle.index_image.proofs.Gcds.{lm-canonical}
-use Rattle.index_image.proofs.Places.{place-room, place-fits, entry-at-place}
+use Rattle.index_image.proofs.Places.{entry-room, place-room, place-fits, entry-at-place}
 use Rattle.monomial.proofs.Powers.{canonical-length}
 use Rattle.index_image.proofs.Reading.{lm-read, Folding, fold-none, fold-canonical, lm-64, fold-one, fold-more}
 use Rattle.index_image.proofs.stored.gcd_of.Statement.{statement}
@@ -18,6 +20,7 @@ use Rattle.index_image.proofs.stored.gcd_of.Lts as lts
 use Rattle.index_image.proofs.Shape.entry_at.Reads as entry-at-reads
 use Rattle.index_image.proofs.Shape.permutation_at.Reads as permutation-at-reads
 use Rattle.index_image.proofs.stored.meet.Reads as meet-reads
+use Rattle.index_image.proofs.stored.monomial_from.Reads as monomial-from-reads
 use Rattle.index_image.proofs.stored.monomial_in.Reads as monomial-in-reads
 use Rattle.words.proofs.get.Reads as get-reads
 use Rattle.words.proofs.put.Reads as put-reads
@@ -90,12 +93,17 @@ entry-at-requires-2 : tie.Need-entry-at-requires-2 Inv-loop μ-loop
 entry-at-requires-2 c κs = (c .before .before .before .before .before .before .before .before .before .before .before .before .before .before .before .pre .0 .range, omega (arith, (entry-at-place (words (c .before .before .before .before .before .before .before .before .before .before .before .before .before .before .before .args .image .now)) (c .before .before .before .before .before .before .before .before .before .before .before .before .before .before .before .args .s) (c .before .before .before .before .before .before .before .before .before .before .before .before .before .before .before .pre .0) (c .before .before .before .before .before .before .before .before .before .before .before .before .before .before .before .args .lo) (c .before .before .before .loop .i) ((c .before .before .before .before .before .before .before .before .before .before .before .permutation-at .result) + (c .before .before .before .before .before .before .before .before .before .before .before .before .before .before .before .args .lo) + (c .before .before .before .loop .i)) (c .before .get2 .result) (omega (arith, c .before .before .before .before .before .before .before .before .before .before .before .permutation-at .ensures)) (omega (arith, c .before .before .before .before .before .before .before .before .before .before .before .before .before .before .before .pre .1 .0, c .before .before .loop-test .taken)) (c .before .get2 .ensures)) .small, c .before .before .before .before .before .before .before .before .before .before .before .before .before .before .before .pre .0 .range .few))
 
 -- src/stored.rt:144:26
-monomial-in-requires-2 : tie.Need-monomial-in-requires-2 Inv-loop μ-loop
-monomial-in-requires-2 c κs = rw (c .entry-at2 .ensures) ((c .before .before .before .before .before .before .before .before .before .before .before .before .before .before .before .before .pre .0 .lms) (c .before .before .get2 .result) ((entry-at-place (words (c .before .before .before .before .before .before .before .before .before .before .before .before .before .before .before .before .args .image .now)) (c .before .before .before .before .before .before .before .before .before .before .before .before .before .before .before .before .args .s) (c .before .before .before .before .before .before .before .before .before .before .before .before .before .before .before .before .pre .0) (c .before .before .before .before .before .before .before .before .before .before .before .before .before .before .before .before .args .lo) (c .before .before .before .before .loop .i) ((c .before .before .before .before .before .before .before .before .before .before .before .before .permutation-at .result) + (c .before .before .before .before .before .before .before .before .before .before .before .before .before .before .before .before .args .lo) + (c .before .before .before .before .loop .i)) (c .before .before .get2 .result) (omega (arith, c .before .before .before .before .before .before .before .before .before .before .before .before .permutation-at .ensures)) (omega (arith, c .before .before .before .before .before .before .before .before .before .before .before .before .before .before .before .before .pre .1 .0, c .before .before .before .loop-test .taken)) (c .before .before .get2 .ensures)) .small))
+monomial-from-requires : tie.Need-monomial-from-requires Inv-loop μ-loop
+monomial-from-requires c κs =
+    let o = c .before .before .before .before .before .before .before .before .before .before .before .before .before .before .before .before in
+    rw (c .entry-at2 .ensures) (
+      ((c .before .before .before .before .before .before .before .before .before .before .before .before .before .before .before .before .pre .0 .lms) (c .before .before .get2 .result) ((entry-at-place (words (c .before .before .before .before .before .before .before .before .before .before .before .before .before .before .before .before .args .image .now)) (c .before .before .before .before .before .before .before .before .before .before .before .before .before .before .before .before .args .s) (c .before .before .before .before .before .before .before .before .before .before .before .before .before .before .before .before .pre .0) (c .before .before .before .before .before .before .before .before .before .before .before .before .before .before .before .before .args .lo) (c .before .before .before .before .loop .i) ((c .before .before .before .before .before .before .before .before .before .before .before .before .permutation-at .result) + (c .before .before .before .before .before .before .before .before .before .before .before .before .before .before .before .before .args .lo) + (c .before .before .before .before .loop .i)) (c .before .before .get2 .result) (omega (arith, c .before .before .before .before .before .before .before .before .before .before .before .before .permutation-at .ensures)) (omega (arith, c .before .before .before .before .before .before .before .before .before .before .before .before .before .before .before .before .pre .1 .0, c .before .before .before .loop-test .taken)) (c .before .before .get2 .ensures)) .small)),
+      omega (arith, entry-room (o .args .image .now) (o .args .s) (o .pre .0) _ ((entry-at-place (words (c .before .before .before .before .before .before .before .before .before .before .before .before .before .before .before .before .args .image .now)) (c .before .before .before .before .before .before .before .before .before .before .before .before .before .before .before .before .args .s) (c .before .before .before .before .before .before .before .before .before .before .before .before .before .before .before .before .pre .0) (c .before .before .before .before .before .before .before .before .before .before .before .before .before .before .before .before .args .lo) (c .before .before .before .before .loop .i) ((c .before .before .before .before .before .before .before .before .before .before .before .before .permutation-at .result) + (c .before .before .before .before .before .before .before .before .before .before .before .before .before .before .before .before .args .lo) + (c .before .before .before .before .loop .i)) (c .before .before .get2 .result) (omega (arith, c .before .before .before .before .before .before .before .before .before .before .before .before .permutation-at .ensures)) (omega (arith, c .before .before .before .before .before .before .before .before .before .before .before .before .before .before .before .before .pre .1 .0, c .before .before .before .loop-test .taken)) (c .before .before .get2 .ensures)) .small)),
+    )
 
 -- src/stored.rt:144:9
 meet-requires : tie.Need-meet-requires Inv-loop μ-loop
-meet-requires c κs = (c .before .before .before .before .before .loop .inv .room, (c .before .before .before .before .before .loop .inv .few, (fold-canonical (words (c .before .before .before .before .before .before .before .before .before .before .before .before .before .before .before .before .before .args .image .now)) (c .before .before .before .before .before .before .before .before .before .before .before .before .before .before .before .before .before .args .s) (c .before .before .before .before .before .before .before .before .before .before .before .before .before .before .before .before .before .pre .0) (at.permutationAt (c .before .before .before .before .before .before .before .before .before .before .before .before .before .before .before .before .before .args .s) + (c .before .before .before .before .before .before .before .before .before .before .before .before .before .before .before .before .before .args .lo)) (c .before .before .before .before .before .before .before .before .before .before .before .before .before .before .before .before .before .args .c) (c .before .before .before .before .before .loop .acc) (c .before .before .before .before .before .loop .n) (c .before .before .before .before .before .loop .i) (c .before .before .before .before .before .loop .inv), lm-64 (words (c .before .before .before .before .before .before .before .before .before .before .before .before .before .before .before .before .before .args .image .now)) (c .before .before .before .before .before .before .before .before .before .before .before .before .before .before .before .before .before .args .s) (c .before .before .before .before .before .before .before .before .before .before .before .before .before .before .before .before .before .pre .0) (at.permutationAt (c .before .before .before .before .before .before .before .before .before .before .before .before .before .before .before .before .before .args .s) + (c .before .before .before .before .before .before .before .before .before .before .before .before .before .before .before .before .before .args .lo)) (c .before .before .before .before .before .before .before .before .before .before .before .before .before .before .before .before .before .args .c) (omega (arith, place-fits (words (c .before .before .before .before .before .before .before .before .before .before .before .before .before .before .before .before .before .args .image .now)) (c .before .before .before .before .before .before .before .before .before .before .before .before .before .before .before .before .before .args .s) (c .before .before .before .before .before .before .before .before .before .before .before .before .before .before .before .before .before .pre .0) ((c .before .before .before .before .before .before .before .before .before .before .before .before .before .before .before .before .before .args .lo) + (c .before .before .before .before .before .before .before .before .before .before .before .before .before .before .before .before .before .args .c)) (c .before .before .before .before .before .before .before .before .before .before .before .before .before .before .before .before .before .pre .1 .0))) (c .before .before .before .get2 .result) ((c .before .before .before .before .before .before .before .before .before .before .before .before .before .before .before .before .before .pre .0 .lms) (c .before .before .before .get2 .result) ((entry-at-place (words (c .before .before .before .before .before .before .before .before .before .before .before .before .before .before .before .before .before .args .image .now)) (c .before .before .before .before .before .before .before .before .before .before .before .before .before .before .before .before .before .args .s) (c .before .before .before .before .before .before .before .before .before .before .before .before .before .before .before .before .before .pre .0) (c .before .before .before .before .before .before .before .before .before .before .before .before .before .before .before .before .before .args .lo) (c .before .before .before .before .before .loop .i) ((c .before .before .before .before .before .before .before .before .before .before .before .before .before .permutation-at .result) + (c .before .before .before .before .before .before .before .before .before .before .before .before .before .before .before .before .before .args .lo) + (c .before .before .before .before .before .loop .i)) (c .before .before .before .get2 .result) (omega (arith, c .before .before .before .before .before .before .before .before .before .before .before .before .before .permutation-at .ensures)) (omega (arith, c .before .before .before .before .before .before .before .before .before .before .before .before .before .before .before .before .before .pre .1 .0, c .before .before .before .before .loop-test .taken)) (c .before .before .before .get2 .ensures)) .small)) (words (c .monomial-in2 .result .now)) (lm-read (words (c .before .before .before .before .before .before .before .before .before .before .before .before .before .before .before .before .before .args .image .now)) (c .before .before .before .before .before .before .before .before .before .before .before .before .before .before .before .before .before .args .s) (c .before .before .before .get2 .result) (c .before .entry-at2 .result) (words (c .monomial-in2 .result .now)) (c .before .entry-at2 .ensures) (c .monomial-in2 .ensures .is)))))
+meet-requires c κs = (c .before .before .before .before .before .loop .inv .room, (c .before .before .before .before .before .loop .inv .few, (fold-canonical (words (c .before .before .before .before .before .before .before .before .before .before .before .before .before .before .before .before .before .args .image .now)) (c .before .before .before .before .before .before .before .before .before .before .before .before .before .before .before .before .before .args .s) (c .before .before .before .before .before .before .before .before .before .before .before .before .before .before .before .before .before .pre .0) (at.permutationAt (c .before .before .before .before .before .before .before .before .before .before .before .before .before .before .before .before .before .args .s) + (c .before .before .before .before .before .before .before .before .before .before .before .before .before .before .before .before .before .args .lo)) (c .before .before .before .before .before .before .before .before .before .before .before .before .before .before .before .before .before .args .c) (c .before .before .before .before .before .loop .acc) (c .before .before .before .before .before .loop .n) (c .before .before .before .before .before .loop .i) (c .before .before .before .before .before .loop .inv), (starts-wide (c .monomial-from .ensures .starts), lm-64 (words (c .before .before .before .before .before .before .before .before .before .before .before .before .before .before .before .before .before .args .image .now)) (c .before .before .before .before .before .before .before .before .before .before .before .before .before .before .before .before .before .args .s) (c .before .before .before .before .before .before .before .before .before .before .before .before .before .before .before .before .before .pre .0) (at.permutationAt (c .before .before .before .before .before .before .before .before .before .before .before .before .before .before .before .before .before .args .s) + (c .before .before .before .before .before .before .before .before .before .before .before .before .before .before .before .before .before .args .lo)) (c .before .before .before .before .before .before .before .before .before .before .before .before .before .before .before .before .before .args .c) (omega (arith, place-fits (words (c .before .before .before .before .before .before .before .before .before .before .before .before .before .before .before .before .before .args .image .now)) (c .before .before .before .before .before .before .before .before .before .before .before .before .before .before .before .before .before .args .s) (c .before .before .before .before .before .before .before .before .before .before .before .before .before .before .before .before .before .pre .0) ((c .before .before .before .before .before .before .before .before .before .before .before .before .before .before .before .before .before .args .lo) + (c .before .before .before .before .before .before .before .before .before .before .before .before .before .before .before .before .before .args .c)) (c .before .before .before .before .before .before .before .before .before .before .before .before .before .before .before .before .before .pre .1 .0))) (c .before .before .before .get2 .result) ((c .before .before .before .before .before .before .before .before .before .before .before .before .before .before .before .before .before .pre .0 .lms) (c .before .before .before .get2 .result) ((entry-at-place (words (c .before .before .before .before .before .before .before .before .before .before .before .before .before .before .before .before .before .args .image .now)) (c .before .before .before .before .before .before .before .before .before .before .before .before .before .before .before .before .before .args .s) (c .before .before .before .before .before .before .before .before .before .before .before .before .before .before .before .before .before .pre .0) (c .before .before .before .before .before .before .before .before .before .before .before .before .before .before .before .before .before .args .lo) (c .before .before .before .before .before .loop .i) ((c .before .before .before .before .before .before .before .before .before .before .before .before .before .permutation-at .result) + (c .before .before .before .before .before .before .before .before .before .before .before .before .before .before .before .before .before .args .lo) + (c .before .before .before .before .before .loop .i)) (c .before .before .before .get2 .result) (omega (arith, c .before .before .before .before .before .before .before .before .before .before .before .before .before .permutation-at .ensures)) (omega (arith, c .before .before .before .before .before .before .before .before .before .before .before .before .before .before .before .before .before .pre .1 .0, c .before .before .before .before .loop-test .taken)) (c .before .before .before .get2 .ensures)) .small)) (first 1 (words (c .monomial-from .result .now))) (lm-read (words (c .before .before .before .before .before .before .before .before .before .before .before .before .before .before .before .before .before .args .image .now)) (c .before .before .before .before .before .before .before .before .before .before .before .before .before .before .before .before .before .args .s) (c .before .before .before .get2 .result) (c .before .entry-at2 .result) (first 1 (words (c .monomial-from .result .now))) (c .before .entry-at2 .ensures) (c .monomial-from .ensures .is))))))
 
 -- src/stored.rt:145:9
 add-i : tie.Need-add-i Inv-loop μ-loop
@@ -107,7 +115,7 @@ loop-less c = omega (arith, c .before .before .before .before .before .before .b
 
 -- src/stored.rt:142:5
 loop-again : tie.Need-loop-again Inv-loop μ-loop
-loop-again c = fold-more (words (c .before .before .before .before .before .before .before .before .before .before .before .before .before .before .before .before .before .before .before .before .args .image .now)) (c .before .before .before .before .before .before .before .before .before .before .before .before .before .before .before .before .before .before .before .before .args .s) (c .before .before .before .before .before .before .before .before .before .before .before .before .before .before .before .before .before .before .before .before .pre .0) (at.permutationAt (c .before .before .before .before .before .before .before .before .before .before .before .before .before .before .before .before .before .before .before .before .args .s) + (c .before .before .before .before .before .before .before .before .before .before .before .before .before .before .before .before .before .before .before .before .args .lo)) (c .before .before .before .before .before .before .before .before .before .before .before .before .before .before .before .before .before .before .before .before .args .c) (omega (arith, place-fits (words (c .before .before .before .before .before .before .before .before .before .before .before .before .before .before .before .before .before .before .before .before .args .image .now)) (c .before .before .before .before .before .before .before .before .before .before .before .before .before .before .before .before .before .before .before .before .args .s) (c .before .before .before .before .before .before .before .before .before .before .before .before .before .before .before .before .before .before .before .before .pre .0) ((c .before .before .before .before .before .before .before .before .before .before .before .before .before .before .before .before .before .before .before .before .args .lo) + (c .before .before .before .before .before .before .before .before .before .before .before .before .before .before .before .before .before .before .before .before .args .c)) (c .before .before .before .before .before .before .before .before .before .before .before .before .before .before .before .before .before .before .before .before .pre .1 .0))) (c .before .before .before .before .before .before .get2 .result) ((c .before .before .before .before .before .before .before .before .before .before .before .before .before .before .before .before .before .before .before .before .pre .0 .lms) (c .before .before .before .before .before .before .get2 .result) ((entry-at-place (words (c .before .before .before .before .before .before .before .before .before .before .before .before .before .before .before .before .before .before .before .before .args .image .now)) (c .before .before .before .before .before .before .before .before .before .before .before .before .before .before .before .before .before .before .before .before .args .s) (c .before .before .before .before .before .before .before .before .before .before .before .before .before .before .before .before .before .before .before .before .pre .0) (c .before .before .before .before .before .before .before .before .before .before .before .before .before .before .before .before .before .before .before .before .args .lo) (c .before .before .before .before .before .before .before .before .loop .i) ((c .before .before .before .before .before .before .before .before .before .before .before .before .before .before .before .before .permutation-at .result) + (c .before .before .before .before .before .before .before .before .before .before .before .before .before .before .before .before .before .before .before .before .args .lo) + (c .before .before .before .before .before .before .before .before .loop .i)) (c .before .before .before .before .before .before .get2 .result) (omega (arith, c .before .before .before .before .before .before .before .before .before .before .before .before .before .before .before .before .permutation-at .ensures)) (omega (arith, c .before .before .before .before .before .before .before .before .before .before .before .before .before .before .before .before .before .before .before .before .pre .1 .0, c .before .before .before .before .before .before .before .loop-test .taken)) (c .before .before .before .before .before .before .get2 .ensures)) .small)) (c .before .before .before .before .before .before .before .before .loop .acc) (c .before .before .before .before .before .before .before .before .loop .n) (c .before .before .before .before .before .before .before .before .loop .i) (c .before .before .before .before .before .before .before .before .loop .inv) (c .before .before .before .before .before .before .before .loop-test .taken) (rw (c .before .before .before .before .before .before .before .before .before .before .before .before .before .before .before .before .permutation-at .ensures) at (c .before .before .before .before .before .before .get2 .ensures)) (c .before .before .meet .last .0) (words (c .before .before .before .monomial-in2 .result .now)) (c .before .before .meet .result) (omega (arith, c .before .before .meet .kept .0, c .before .before .before .before .before .before .before .before .loop .inv .room)) (lm-read (words (c .before .before .before .before .before .before .before .before .before .before .before .before .before .before .before .before .before .before .before .before .args .image .now)) (c .before .before .before .before .before .before .before .before .before .before .before .before .before .before .before .before .before .before .before .before .args .s) (c .before .before .before .before .before .before .get2 .result) (c .before .before .before .before .entry-at2 .result) (words (c .before .before .before .monomial-in2 .result .now)) (c .before .before .before .before .entry-at2 .ensures) (c .before .before .before .monomial-in2 .ensures .is)) (c .before .before .meet .ensures .0) (c .before .before .meet .ensures .1)
+loop-again c = fold-more (words (c .before .before .before .before .before .before .before .before .before .before .before .before .before .before .before .before .before .before .before .before .args .image .now)) (c .before .before .before .before .before .before .before .before .before .before .before .before .before .before .before .before .before .before .before .before .args .s) (c .before .before .before .before .before .before .before .before .before .before .before .before .before .before .before .before .before .before .before .before .pre .0) (at.permutationAt (c .before .before .before .before .before .before .before .before .before .before .before .before .before .before .before .before .before .before .before .before .args .s) + (c .before .before .before .before .before .before .before .before .before .before .before .before .before .before .before .before .before .before .before .before .args .lo)) (c .before .before .before .before .before .before .before .before .before .before .before .before .before .before .before .before .before .before .before .before .args .c) (omega (arith, place-fits (words (c .before .before .before .before .before .before .before .before .before .before .before .before .before .before .before .before .before .before .before .before .args .image .now)) (c .before .before .before .before .before .before .before .before .before .before .before .before .before .before .before .before .before .before .before .before .args .s) (c .before .before .before .before .before .before .before .before .before .before .before .before .before .before .before .before .before .before .before .before .pre .0) ((c .before .before .before .before .before .before .before .before .before .before .before .before .before .before .before .before .before .before .before .before .args .lo) + (c .before .before .before .before .before .before .before .before .before .before .before .before .before .before .before .before .before .before .before .before .args .c)) (c .before .before .before .before .before .before .before .before .before .before .before .before .before .before .before .before .before .before .before .before .pre .1 .0))) (c .before .before .before .before .before .before .get2 .result) ((c .before .before .before .before .before .before .before .before .before .before .before .before .before .before .before .before .before .before .before .before .pre .0 .lms) (c .before .before .before .before .before .before .get2 .result) ((entry-at-place (words (c .before .before .before .before .before .before .before .before .before .before .before .before .before .before .before .before .before .before .before .before .args .image .now)) (c .before .before .before .before .before .before .before .before .before .before .before .before .before .before .before .before .before .before .before .before .args .s) (c .before .before .before .before .before .before .before .before .before .before .before .before .before .before .before .before .before .before .before .before .pre .0) (c .before .before .before .before .before .before .before .before .before .before .before .before .before .before .before .before .before .before .before .before .args .lo) (c .before .before .before .before .before .before .before .before .loop .i) ((c .before .before .before .before .before .before .before .before .before .before .before .before .before .before .before .before .permutation-at .result) + (c .before .before .before .before .before .before .before .before .before .before .before .before .before .before .before .before .before .before .before .before .args .lo) + (c .before .before .before .before .before .before .before .before .loop .i)) (c .before .before .before .before .before .before .get2 .result) (omega (arith, c .before .before .before .before .before .before .before .before .before .before .before .before .before .before .before .before .permutation-at .ensures)) (omega (arith, c .before .before .before .before .before .before .before .before .before .before .before .before .before .before .before .before .before .before .before .before .pre .1 .0, c .before .before .before .before .before .before .before .loop-test .taken)) (c .before .before .before .before .before .before .get2 .ensures)) .small)) (c .before .before .before .before .before .before .before .before .loop .acc) (c .before .before .before .before .before .before .before .before .loop .n) (c .before .before .before .before .before .before .before .before .loop .i) (c .before .before .before .before .before .before .before .before .loop .inv) (c .before .before .before .before .before .before .before .loop-test .taken) (rw (c .before .before .before .before .before .before .before .before .before .before .before .before .before .before .before .before .permutation-at .ensures) at (c .before .before .before .before .before .before .get2 .ensures)) (c .before .before .meet .last .0) (first 1 (words (c .before .before .before .monomial-from .result .now))) (c .before .before .meet .result) (omega (arith, c .before .before .meet .kept .0, c .before .before .before .before .before .before .before .before .loop .inv .room)) (lm-read (words (c .before .before .before .before .before .before .before .before .before .before .before .before .before .before .before .before .before .before .before .before .args .image .now)) (c .before .before .before .before .before .before .before .before .before .before .before .before .before .before .before .before .before .before .before .before .args .s) (c .before .before .before .before .before .before .get2 .result) (c .before .before .before .before .entry-at2 .result) (first 1 (words (c .before .before .before .monomial-from .result .now))) (c .before .before .before .before .entry-at2 .ensures) (c .before .before .before .monomial-from .ensures .is)) (c .before .before .meet .ensures .0) (c .before .before .meet .ensures .1)
 
 -- src/stored.rt:126:1
 same-length-2 : tie.Need-same-length-2 Inv-loop μ-loop
@@ -138,7 +146,7 @@ gcd-of-spec =
     get-requires-2
     cast-e-2
     entry-at-requires-2
-    monomial-in-requires-2
+    monomial-from-requires
     meet-requires
     add-i
     loop-less

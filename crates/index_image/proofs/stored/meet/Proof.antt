@@ -1,5 +1,6 @@
 use Rattle.words.specs.Words.{words}
 use native.Mathlib.Omega.{arith}
+use Rattle.monomial.specs.Monomial.{first}
 use mathlib.Core.Path.{sym, _∙_}
 use Prim.Native.Nat.{_*_}
 use lib.Seq.{length-take-le}
@@ -27,7 +28,7 @@ slice-aggregate-divides c = sym (length-take-le (4 * (c .before .before .before 
 
 -- src/stored.rt:135:8
 divides-requires : tie.Need-divides-requires
-divides-requires c κs = rw (front-words (c .before .before .before .args .acc .now) (c .before .before .before .args .n)) (starts-wide (starts-whole (c .before .before .before .pre .1 .1 .0)), starts-wide (starts-whole (c .before .before .before .pre .1 .1 .1)))
+divides-requires c κs = rw (front-words (c .before .before .before .args .acc .now) (c .before .before .before .args .n)) (starts-wide (starts-whole (c .before .before .before .pre .1 .1 .0)), c .before .before .before .pre .1 .1 .1 .0)
 
 -- src/stored.rt:136:9
 same-length : tie.Need-same-length
@@ -35,7 +36,7 @@ same-length c = search needs
 
 -- src/stored.rt:136:9
 returns : tie.Need-returns
-returns c = let h = gcd-held (c .before .before .before .before .before .args .acc .now) (c .before .before .before .before .before .args .n) (words (c .before .before .before .before .before .args .other .now)) (λ i. omega (arith, (c .before .before .before .before .slice-known .given) i)) (omega (arith, c .before .before .before .before .before .pre .0, c .before .before .before .before .before .pre .1 .0)) (c .before .before .before .before .before .pre .1 .1 .0) (c .before .before .before .before .before .pre .1 .1 .1) (sym (rw (front-words (c .before .before .before .before .before .args .acc .now) (c .before .before .before .before .before .args .n), first-whole (c .before .before .before .before .before .pre .1 .1 .0), first-whole (c .before .before .before .before .before .pre .1 .1 .1)) at (c .before .divides .ensures)) ∙ c .if1 .taken) in (h .long, h .kept)
+returns c = let h = gcd-held (c .before .before .before .before .before .args .acc .now) (c .before .before .before .before .before .args .n) (first 1 (words (c .before .before .before .before .before .args .other .now))) (λ i. omega (arith, (c .before .before .before .before .slice-known .given) i)) (omega (arith, c .before .before .before .before .before .pre .0, c .before .before .before .before .before .pre .1 .0)) (c .before .before .before .before .before .pre .1 .1 .0) (c .before .before .before .before .before .pre .1 .1 .1 .1) (sym (rw (front-words (c .before .before .before .before .before .args .acc .now) (c .before .before .before .before .before .args .n), first-whole (c .before .before .before .before .before .pre .1 .1 .0)) at (c .before .divides .ensures)) ∙ c .if1 .taken) in (h .long, h .kept)
 
 -- src/stored.rt:138:5
 make-gcd-requires : tie.Need-make-gcd-requires
