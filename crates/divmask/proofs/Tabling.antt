@@ -1,21 +1,25 @@
 -- The table of the bits that small powers set: one pair of it, how it is filled, and the walk of a map that goes by it. Assumes nothing.
-use mathlib.Core.Path.{_≡_, sym, _∙_}
-use mathlib.Core.Bool.{cond}
-use mathlib.Core.List.{List}
+use mathlib.Core.Path.{_≡_, refl, sym, ap, _∙_}
+use mathlib.Core.Bool.{true, false, cond}
+use mathlib.Core.List.{List, _∷_}
 use Prim.Native.Nat.{ℕ, suc, min, max, _+_, _-_, _*_, _/_, _%_, _^_, _≤_, _<_}
 use native.Mathlib.Omega.{arith}
 use native.Mathlib.Nat.{mod-eq-of-lt, lt-of-lt-of-le}
 use native.Mathlib.Decide.{ℕ-discrete}
 use lib.Dec.{ltb}
-use lib.ListN.{length, getD, set, length-set}
+use lib.ListN.{length, getD, take, drop, set, length-take, length-set, drop-of-length-le}
 use lib.Pow.{pow-mono}
-use lib.Seq.{getD-set-same, getD-set-other}
-use Rattle.words.specs.Kinds.{ident, power}
+use lib.Seq.{getD-set-same, getD-set-other, getD-take, getD-drop}
+use Rattle.words.specs.Kinds.{kind, payload, ident, power}
 use Rattle.words.specs.Words.{words, putW}
-use Rattle.words.proofs.Laws.{length-words, length-putW, words-putW}
-use Rattle.monomial.specs.Monomial.{Canonical, pow}
+use Rattle.words.proofs.Laws.{length-words, length-putW, words-putW, word-and-rest}
+use Rattle.words.specs.Tables.{part}
+use Rattle.monomial.specs.Monomial.{Canonical, isVar, front, pow}
+use Rattle.monomial.proofs.Canon.{is-var, front-none, front-end, front-bad-end, front-var, front-bad-var}
+use Rattle.monomial.proofs.Laws.{front-canonical}
+use Rattle.monomial.proofs.Walks.{within}
 use Rattle.divmask.specs.Mask.{bits, firstBit, parts, field, fields, mask, bitCounts, vector}
-use Rattle.divmask.specs.Table.{both, pairAt, Tabled}
+use Rattle.divmask.specs.Table.{both, pairAt, Tabled, Judged}
 use Rattle.divmask.proofs.Places.{first-suc, first-closed, in-all}
 use Rattle.divmask.proofs.Masks.{fields-suc, fields-lt, Mapping, begin, mapped, step, bits-are}
 use Rattle.divmask.proofs.Vectors.{count-at, vector-mapped}
@@ -148,3 +152,72 @@ module _ {m : ℕ} {xs A : List ℕ} {i sum : ℕ} (s : Adding m xs A i sum) {w 
         fits = λ ex. omega (arith, a .fits, b .fits, s .is);
         rest = λ ex. record { low = lo; high = hi; is = omega (arith, s .is); masks = a .rest; vectors = b .rest };
       }
+
+-- ---- one pass that judges and adds up: what is added up counts only where the monomial turns out to be canonical
+pub record Going (m : ℕ) (xs W : List ℕ) (at i bound sum : ℕ) : Type 0 where
+  pub from : at ≤ i
+  pub few : (i - at) + bound ≤ m
+  pub tail : front 1 m 0 (drop at W) ≡ front 1 bound (i - at) (drop i W)
+  pub sums : (front 1 m 0 (drop at W) ≡ 0 → ⊥) → Adding m xs (part W at (front 1 m 0 (drop at W))) (i - at) sum
+
+pub going : (m : ℕ) (xs W : List ℕ) (at : ℕ) → m ≤ 64 → Going m xs W at at m 0
+unfolding part
+going m xs W at h =
+    let z : at - at ≡ 0 = omega arith in
+    record {
+      from = omega arith;
+      few = omega arith;
+      tail = rw z;
+      sums = λ n. rw z (adding xs h (front-canonical 1 m (drop at W) (omega arith) n));
+    }
+
+none-judged : (m : ℕ) (xs W : List ℕ) (at x : ℕ) → front 1 m 0 (drop at W) ≡ 0 → Judged m xs W at (record { words = 0; masks = x })
+none-judged m xs W at x e = record { words = sym e; masks = λ n. absurd (n refl) }
+
+module _ (m : ℕ) (xs W : List ℕ) (most : m ≤ 64) (at i bound sum : ℕ) (g : Going m xs W at i bound sum) where
+  pub ran-out : length W ≤ i → (x : ℕ) → Judged m xs W at (record { words = 0; masks = x })
+  ran-out h x = none-judged m xs W at x (g .tail ∙ rw (drop-of-length-le W h) (front-none 1 bound (i - at)))
+
+  module _ (w : ℕ) (hi : i < length W) (ew : w ≡ getD W i 0) where
+    this : drop i W ≡ w ∷ drop (i + 1) W
+    this = word-and-rest W i w hi ew
+
+    inside : (n : front 1 m 0 (drop at W) ≡ 0 → ⊥) → w ≡ getD (part W at (front 1 m 0 (drop at W))) (i - at) 0
+    unfolding part
+    inside n =
+        let F = front 1 m 0 (drop at W) in
+        let l : i - at < length (take F (drop at W)) = within (g .sums n .masks .ra) in
+        let z : at + (i - at) ≡ i = omega (arith, g .from) in
+        let q : i - at < F = omega (arith, length-take F (drop at W)) in
+        ew ∙ sym (getD-take F (drop at W) (i - at) 0 q ∙ getD-drop at W (i - at) 0 ∙ ap (λ (k : ℕ). getD W k 0) z)
+
+    pub judged : (n : ℕ) → n ≡ i - at → kind w ≡ 0 → payload w ≡ n → Judged m xs W at (record { words = n + 1; masks = sum })
+    judged n en k p =
+        let e : n + 1 ≡ front 1 m 0 (drop at W) = sym (g .tail ∙ rw (this, ← en) (front-end 1 bound n w (drop (i + 1) W) k p)) in
+        record {
+          words = e;
+          masks = λ z. rw e (added (g .sums (λ q. z (e ∙ q))) (inside (λ q. z (e ∙ q))) (omega (arith, g .few)));
+        }
+
+    pub wrong-end : (n x : ℕ) → n ≡ i - at → kind w ≡ 0 → (payload w ≡ n → ⊥) → Judged m xs W at (record { words = 0; masks = x })
+    wrong-end n x en k p = none-judged m xs W at x (g .tail ∙ rw (this, ← en) (front-bad-end 1 bound n w (drop (i + 1) W) k p))
+
+    pub no-power : (x : ℕ) → (kind w ≡ 0 → ⊥) → isVar 1 bound w ≡ false → Judged m xs W at (record { words = 0; masks = x })
+    no-power x k v = none-judged m xs W at x (g .tail ∙ rw this (front-bad-var 1 bound (i - at) w (drop (i + 1) W) k v))
+
+    module _ (k : kind w ≡ 0 → ⊥) (v : isVar 1 bound w ≡ true) where
+      pub known : (ident w < m) × ((1 ≤ power w) × (power w ≤ 32767))
+      known = let u = is-var 1 bound w v in (omega (arith, u .below, g .few), (omega (arith, u .low), omega (arith, u .high)))
+
+      pub go-on : (x y : ℕ) → x ≡ both m xs (ident w) (power w) → y ≡ (sum + x) % 2 ^ 64 → Going m xs W at (i + 1) (ident w) y
+      go-on x y ex ey =
+          let u = is-var 1 bound w v in
+          let z : i + 1 - at ≡ (i - at) + 1 = omega (arith, g .from) in
+          record {
+            from = omega (arith, g .from);
+            few = omega (arith, u .below, g .few, g .from);
+            tail = rw z (g .tail ∙ rw this (front-var 1 bound (i - at) w (drop (i + 1) W) k v));
+            sums = λ n.
+                let s = more (g .sums n) (inside n) (λ q. omega (arith, u .kinded)) x in
+                rw (z, ey ∙ mod-eq-of-lt (s .fits ex)) (s .rest ex);
+          }

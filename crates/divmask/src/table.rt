@@ -4,9 +4,8 @@ ghost use mathlib.Core.Path.{_≡_};
 ghost use Prim.Native.Nat.{_+_, _*_, _/_, _%_, _≤_, _<_};
 ghost use lib.ListN.{length};
 ghost use Rattle.words.specs.Words.{words, putW};
-ghost use Rattle.monomial.specs.Monomial.{Starts, first, pow};
-ghost use Rattle.divmask.specs.Mask.{mask, vector};
-ghost use Rattle.divmask.specs.Table.{both, Tabled};
+ghost use Rattle.monomial.specs.Monomial.{isVar};
+ghost use Rattle.divmask.specs.Table.{both, Tabled, Judged};
 ghost use Rattle.divmask.specs.Tracker.{Maxima};
 
 // The bits that variable v sets in a mask by its power, and in the upper half those in the short exponent vector.
@@ -78,22 +77,62 @@ fn look_up(maxima: &[u8], variables: u32, table: &[u8], limit: u32, v: u32, powe
     words::pairs::get(table, 2 * (16 * v + (power - 1)) as usize)
 }
 
-// The mask of the monomial at the front of a slice, and in the upper half its short exponent vector.
-pub fn map(maxima: &[u8], variables: u32, table: &[u8], limit: u32, monomial: &[u8]) -> u64
+// Whether w is a variable's word of a monomial, its id below the bound.
+fn is_power(w: u32, bound: u32) -> bool
+    ensures { λ r. ⌜ r ≡ isVar 1 bound w ⌝ }
+{
+    if words::kind(w) != 1 {
+        return false;
+    }
+    if bound <= words::id(w) {
+        return false;
+    }
+    let p = words::power(w);
+    if p == 0 {
+        return false;
+    }
+    if 32767 < p {
+        return false;
+    }
+    true
+}
+
+// A monomial in a longer list: how many words it has, 0 where none is canonical, and its mask, with its short exponent vector in the upper half.
+pub struct Slot {
+    pub words: usize,
+    pub masks: u64,
+}
+
+// Judges the monomial at word `at` and makes its masks, in one pass. Where it turns out not to be canonical, the sum so far may have wrapped.
+pub fn judge(maxima: &[u8], variables: u32, table: &[u8], limit: u32, s: &[u8], at: usize) -> Slot
     requires { ⌜ Maxima variables (words (now maxima)) ⌝ }
     requires { ⌜ length (now table) ≡ 8192 ⌝ }
     requires { ⌜ Tabled variables (words (now maxima)) (words (now table)) limit ⌝ }
-    requires { ⌜ Starts 1 variables (words (now monomial)) ⌝ }
-    ensures { λ r. ⌜ r ≡ mask variables (words (now (maxima .entry))) (pow 1 (first 1 (words (now (monomial .entry))))) + 4294967296 * vector variables (pow 1 (first 1 (words (now (monomial .entry))))) ⌝ }
+    ensures { λ r. ⌜ Judged variables (words (now (maxima .entry))) (words (now (s .entry))) at r ⌝ }
 {
+    let end = s.len() / 4;
+    let mut i = at;
+    let mut bound = variables;
     let mut masks: u64 = 0;
-    let mut i: usize = 0;
-    loop {
-        let w = words::get(monomial, i);
-        if w / 65536 == 0 {
-            return masks;
+    while i < end {
+        let w = words::get(s, i);
+        if words::kind(w) == 0 {
+            let n = i - at;
+            if words::payload(w) as usize == n {
+                return Slot {
+                    words: n + 1,
+                    masks: masks,
+                };
+            }
+            return Slot { words: 0, masks: 0 };
         }
-        masks += look_up(maxima, variables, table, limit, w / 65536 % 4096, w % 65536);
+        if !is_power(w, bound) {
+            return Slot { words: 0, masks: 0 };
+        }
+        bound = words::id(w);
+        let x = look_up(maxima, variables, table, limit, bound, words::power(w));
+        masks = std::num::wrapping_add_u64(masks, x);
         i += 1;
     }
+    Slot { words: 0, masks: 0 }
 }

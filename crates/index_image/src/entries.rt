@@ -37,20 +37,17 @@ pub fn masked_slot(
     requires { ⌜ Tabled variables (part (words (now image)) map variables) (words (now table)) limit ⌝ }
     ensures { λ r. ⌜ (r ≡ true) ↔ door.MaskedSlot (words (now (image .entry))) variables (part (words (now (image .entry))) map variables) i ⌝ }
 {
-    let m = variables as u32;
-    let n = monomial::canonical_words(image, i, 1, m);
+    let a = 4 * map;
+    let b = a + 4 * variables;
+    let found = divmask::table::judge(&image[a..b], variables as u32, table, limit, image, i);
+    let n = found.words;
     if n == 0 {
         return false;
     }
     if !words::runs::is_blank(image, i + n, variables + fields::SLOT - n) {
         return false;
     }
-    let a = 4 * map;
-    let b = a + 4 * variables;
-    let c = 4 * i;
-    let d = c + 4 * n;
-    let masks = divmask::table::map(&image[a..b], m, table, limit, &image[c..d]);
-    words::pairs::get(image, i + (variables + fields::MASK)) == masks
+    words::pairs::get(image, i + (variables + fields::MASK)) == found.masks
 }
 
 // Whether w is the word that a ratio has for variable v, whose power is p − 32,768. It has none for power 0.

@@ -6,7 +6,6 @@ use Rattle.words.proofs.Answers.{refuse}
 use Rattle.words.proofs.Tables.{never}
 use Rattle.index_image.proofs.Bounds.{rest}
 use Rattle.index_image.proofs.Slots.{range-words}
-use lib.ListN.{replicate}
 use borrow.Author.Needs.{needs}
 use Rattle.index_image.proofs.entries.entries_ok.Statement.{statement}
 use Rattle.index_image.proofs.entries.entries_ok.Tie as tie
