@@ -1,3 +1,4 @@
 pub mod Mask
 pub mod Tracker
 pub mod Doors
+pub mod Table

@@ -2,6 +2,7 @@
 // Maxima are lent as one word a variable. Cutoffs are never stored: how many of a variable's bits its power sets is one division.
 pub mod doors;
 pub mod pairs;
+pub mod table;
 pub mod tracker;
 
 ghost use mathlib.Core.Path.{_≡_};

@@ -15,7 +15,7 @@ pub fn within(a: u64, b: u64) -> bool
 }
 
 // The bits that a power sets in the short exponent vector: as many as the power says, where there are so many.
-fn short_field(bits: u32, power: u32) -> u64
+pub fn short_field(bits: u32, power: u32) -> u64
     requires { ⌜ bits ≤ 32 ⌝ }
     ensures { λ r. ⌜ r ≡ parts bits (max 1 bits) power bits ⌝ }
 {

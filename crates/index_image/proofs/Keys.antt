@@ -2,8 +2,8 @@
 use mathlib.Core.Path.{_≡_, refl, sym, _∙_}
 use mathlib.Core.Bool.{Bool, true, false}
 use mathlib.Core.List.{List, [], _∷_, _++_}
-use mathlib.Core.Logic.{_↔_}
-use Prim.Native.Nat.{ℕ, zero, suc, _+_, _<_}
+use mathlib.Core.Logic.{_↔_, Iff·rfl}
+use Prim.Native.Nat.{ℕ, zero, suc, _+_, _-_, _≤_, _<_}
 use native.Mathlib.Omega.{arith}
 use lib.Dec.{ltb}
 use lib.ListN.{length}
@@ -51,6 +51,37 @@ module _ (m : ℕ) (xs : List ℕ) (pw pw′ : ℕ → ℕ → ℕ) where
         tree-words-ext l (λ v e q. h v e (in-left e (inorder l) (inorder r) q)),
         tree-words-ext r (λ v e q. h v e (in-right e (inorder l) (inorder r) q)),
       )
+
+-- ---- keys by numbers
+pub key-ratio : (x n d k : ℕ) → KeyOk x n d k → suc d ≡ x → x ≤ 1 → k < n
+unfolding KeyOk
+key-ratio zero n d k o e h = absurd (omega arith)
+key-ratio (suc x) n zero k o e h = o
+key-ratio (suc x) n (suc d) k o e h = absurd (omega arith)
+
+pub ratio-key : (x n d k : ℕ) → (suc d ≡ x → k < n) → x ≤ 1 → KeyOk x n d k
+unfolding KeyOk
+ratio-key zero n d k f h = tt
+ratio-key (suc x) n zero k f h = f (omega arith)
+ratio-key (suc x) n (suc d) k f h = tt
+
+-- a list that is not empty has an element
+pub some-of : (P : ℕ → Type 0) (es : List ℕ) → 0 < length es → ((e : ℕ) → e ∈ es → P e) → (e : ℕ) × P e
+some-of P [] h f = absurd (omega arith)
+some-of P (x ∷ xs) h f = (x, f x (here x xs))
+
+module _ (pw : ℕ → ℕ → ℕ) (lb : ℕ → ℕ) where
+  -- a key of the ratio
+  pub below-ratio : (x d k e : ℕ) → x ≡ 1 → d ≡ 0 → Below x pw lb d k e ↔ (lb e < lb k)
+  unfolding Below
+  below-ratio x d k e h z = rw (h, z) Iff·rfl
+
+  -- a key of a variable
+  pub below-variable : (x d k e : ℕ) → x ≤ 1 → x ≤ d → Below x pw lb d k e ↔ (pw (d - x) e < k)
+  unfolding Below
+  below-variable zero d k e h l = let z : d - 0 ≡ d = omega arith in rw z Iff·rfl
+  below-variable (suc x) zero k e h l = absurd (omega arith)
+  below-variable (suc x) (suc d) k e h l = let z : suc d - suc x ≡ d = omega arith in rw z Iff·rfl
 
 -- ---- keys, kind by kind
 length-some : (xs : List ℕ) → 0 < length xs → Some xs

@@ -1,29 +1,27 @@
 -- Images exist: that of a valid state is of words, and bytes into which it is pasted are its image. Assumes nothing.
-use mathlib.Core.Path.{_≡_, refl, ap, _∙_}
+use mathlib.Core.Path.{_≡_, refl}
 use mathlib.Core.List.{List, [], _∷_, _++_}
 use Prim.Native.Nat.{ℕ, suc, _+_, _-_, _*_, _^_, _≤_, _<_}
 use native.Mathlib.Omega.{arith}
 use native.Mathlib.Decide.{ℕ-discrete}
-use lib.ListN.{length, getD, drop, length-append}
+use lib.ListN.{length, drop, length-append}
 use Rattle.words.specs.Words.{words, pasteW}
-use Rattle.words.specs.Tables.{part, zeros}
+use Rattle.words.specs.Tables.{zeros}
 use Rattle.words.proofs.Laws.{Words, length-pasteW, words-pasteW}
 use Rattle.words.proofs.Tables.{Small, small-append, small-nil, small-cons, small-zeros, small-table, small-each, part-mid, length-zeros}
 use Rattle.monomial.specs.Monomial.{Canonical, pow}
 use Rattle.monomial.proofs.Powers.{canonical-powers, monomial-small, powers-in-range}
 use Rattle.divmask.specs.Tracker.{Maxima}
-use Rattle.divmask.specs.Mask.{mask}
 use Rattle.divmask.proofs.Masks.{mask-small}
 use Rattle.divmask.proofs.Vectors.{vector-small}
 use Rattle.fast_compare.specs.Map as map
 use Rattle.fast_compare.proofs.Exact as maps
-use Rattle.kd_theory.specs.Bag.{_∈_}
 use Rattle.kd_theory.specs.Tree.{Tree, leaf, branch, inorder, nodes}
 use Rattle.index_theory.specs.Entries.{Entry, entryAt, ratioOf}
-use Rattle.index_theory.specs.State.{Kind, monomials, ratioed, State, Valid, GoodEntry, LabelsOf, powerIn, labelOf, rowOf, opened}
+use Rattle.index_theory.specs.State.{Kind, monomials, ratioed, State, Valid, GoodEntry, powerIn, labelOf, rowOf, opened}
 use Rattle.index_theory.proofs.Orders.{labels-agree}
 use Rattle.index_theory.proofs.Theorems.{opening-valid}
-use Rattle.index_image.specs.Layout.{code, shapeOf, header, slot, masked, signWords, entryWords, gcdPowers, gcdOf, nodeWords, treeWords, labelWords, encode, Is, Sound}
+use Rattle.index_image.specs.Layout.{shapeOf, header, slot, masked, signWords, entryWords, gcdPowers, gcdOf, nodeWords, treeWords, labelWords, encode, Is, Sound}
 use Rattle.index_image.specs.Shape as at
 use Rattle.index_image.specs.Walk as walk
 use Rattle.index_image.specs.Walk.{Below, Sides}
@@ -32,10 +30,8 @@ use Rattle.index_image.proofs.Encoding.{image-length}
 use Rattle.index_image.proofs.Lengths.{valid-fits, state-powers}
 use Rattle.index_image.proofs.Gcds.{Powers, gcd-words}
 use Rattle.index_image.proofs.Trees.{some-node, nodes-branch}
-use Rattle.index_image.proofs.Limiting.{below-variable}
-use Rattle.index_image.proofs.Walks.{key-ratio, some-of}
 use Rattle.index_image.proofs.Once.{get-in, once-below}
-use Rattle.index_image.proofs.Keys.{by-numbers}
+use Rattle.index_image.proofs.Keys.{key-ratio, some-of, below-variable, by-numbers}
 use Rattle.index_image.proofs.Rows.{row-of}
 use Rattle.index_image.proofs.Images.{labels-of-ratios}
 use Rattle.index_image.proofs.Shapes.{code-small}

@@ -3,10 +3,10 @@ use mathlib.Core.Path.{_≡_, refl, sym, ap, _∙_}
 use mathlib.Core.Bool.{Bool, true}
 use mathlib.Core.List.{List, _++_}
 use mathlib.Core.Logic.{_↔_}
-use Prim.Native.Nat.{ℕ, _+_, _-_, _*_, _%_, _≤_, _<_}
+use Prim.Native.Nat.{ℕ, _+_, _-_, _*_, _%_, _≤_}
 use native.Mathlib.Omega.{arith}
 use lib.ListN.{length, getD, take, drop, take-append-drop, length-drop}
-use lib.Seq.{getD-drop, drop-drop, length-take-le, take-all}
+use lib.Seq.{getD-drop, drop-drop, length-take-le}
 use Rattle.words.specs.Kinds.{kind, payload}
 use Rattle.words.specs.Words.{words}
 use Rattle.words.specs.Tables.{part}
@@ -22,20 +22,9 @@ use Rattle.fast_compare.specs.Layout as labels
 use Rattle.index_theory.specs.Entries.{quotientOf}
 use Rattle.index_image.specs.Shape as at
 use Rattle.index_image.specs.Walk.{lmIn, rowIn}
-use Rattle.index_image.specs.Door.{slotLength, slotIn, indexIn, signIn, labelsIn, rowValue, HasRatio, RatioReady}
+use Rattle.index_image.specs.Door.{slotIn, indexIn, signIn, rowValue, HasRatio, RatioReady}
 use Rattle.index_image.specs.declared.Shape.{Shape}
-use Rattle.words.proofs.Laws.{words-drop}
-use Rattle.index_image.proofs.Slots.{slot-canonical}
-
--- the bytes from x on, as they are lent
-abbrev pub rest : List ℕ → ℕ → List ℕ
-rest bs x = take (length bs - x) (drop x bs)
-
-rest-is : (bs : List ℕ) (x : ℕ) → rest bs x ≡ drop x bs
-rest-is bs x = take-all (length bs - x) (drop x bs) (omega (arith, length-drop x bs))
-
-rest-words : (bs : List ℕ) (x g : ℕ) → x ≡ 4 * g → words (rest bs x) ≡ drop g (words bs)
-rest-words bs x g e = ap words (rest-is bs x) ∙ ap (λ (k : ℕ). words (drop k bs)) e ∙ words-drop bs g
+use Rattle.index_image.proofs.Slots.{slot-canonical, rest, rest-is, rest-words}
 
 -- they start with the monomial there
 pub record Lent (bs ws : List ℕ) : Type 0 where

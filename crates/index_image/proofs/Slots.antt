@@ -7,11 +7,11 @@ use Prim.Native.Nat.{ℕ, _+_, _-_, _*_, _^_, _≤_, _<_}
 use native.Mathlib.Omega.{arith}
 use lib.Dec.{eqb}
 use lib.ListN.{length, getD, take, drop, length-take, length-drop}
-use lib.Seq.{take-at, length-take-le}
+use lib.Seq.{take-at, length-take-le, take-all}
 use Rattle.words.proofs.Answers.{test}
 use Rattle.words.specs.Words.{words, bytes, pasteW}
 use Rattle.words.specs.Tables.{part, zeros}
-use Rattle.words.proofs.Laws.{words-part, length-words, length-pasteW, pasteW-front, length-bytes, words-bytes}
+use Rattle.words.proofs.Laws.{words-part, words-drop, length-words, length-pasteW, pasteW-front, length-bytes, words-bytes}
 use Rattle.monomial.specs.Monomial.{front, Canonical, pow}
 use Rattle.monomial.proofs.Canon.{front-short}
 use Rattle.monomial.proofs.Powers.{canonical-length}
@@ -42,6 +42,16 @@ module _ (W : List ℕ) (m i : ℕ) (few : m ≤ 4096) (some : slotLength W m i 
 pub part-words : (bs : List ℕ) (a n k : ℕ) → k ≡ 4 * n → words (take k (drop (4 * a) bs)) ≡ part (words bs) a n
 unfolding part
 part-words bs a n k e = words-part bs a n k e
+
+-- the bytes from x on, as they are lent
+abbrev pub rest : List ℕ → ℕ → List ℕ
+rest bs x = take (length bs - x) (drop x bs)
+
+pub rest-is : (bs : List ℕ) (x : ℕ) → rest bs x ≡ drop x bs
+rest-is bs x = take-all (length bs - x) (drop x bs) (omega (arith, length-drop x bs))
+
+pub rest-words : (bs : List ℕ) (x g : ℕ) → x ≡ 4 * g → words (rest bs x) ≡ drop g (words bs)
+rest-words bs x g e = ap words (rest-is bs x) ∙ ap (λ (k : ℕ). words (drop k bs)) e ∙ words-drop bs g
 
 -- what is known of the monomial that was found in a slot
 pub record FoundSlot (bs : List ℕ) (m i n : ℕ) : Type 0 where

@@ -1,6 +1,6 @@
--- What the walk over the node rows decides, by the words of the image. Assumes nothing.
+-- Entries and trees in the image, by its words. Assumes nothing.
 use mathlib.Core.Path.{_≡_}
-use mathlib.Core.List.{List, []}
+use mathlib.Core.List.{List}
 use Prim.Native.Nat.{ℕ, zero, suc, _+_, _*_, _≤_, _<_}
 use lib.ListN.{length, getD, drop}
 use Rattle.words.specs.Tables.{part}
@@ -81,20 +81,3 @@ pub record Stands (W : List ℕ) (s : Shape) (xs : List ℕ) (pw : ℕ → ℕ �
 pub record TreeAt (W : List ℕ) (s : Shape) (k lo : ℕ) (t : Tree) : Type 0 where
   pub stands : Stands W s (mapMaxima W s) (power W s) k lo t
   pub ordered : Ordered s (power W s) (label W s) t
-
--- every entry has powers below H and, in a ratio index, a label from ll on and below lh
-pub record Bounded (W : List ℕ) (s : Shape) (H : List ℕ) (ll lh : ℕ) (es : List ℕ) : Type 0 where
-  pub powers : (e : ℕ) → e ∈ es → (v : ℕ) → v < s .variables → power W s v e < getD H v 0
-  pub labels : s .kind ≡ 1 → (e : ℕ) → e ∈ es → (ll ≤ label W s e) × (label W s e < lh)
-
--- a tree at row k of at most `avail` entries, within the rows and the bounds
-pub record Found (W : List ℕ) (s : Shape) (H : List ℕ) (ll lh k lo avail : ℕ) (t : Tree) : Type 0 where
-  pub is : TreeAt W s k lo t
-  pub inside : k + nodes t ≤ s .nodes
-  pub few : length (inorder t) ≤ avail
-  pub bounded : Bounded W s H ll lh (inorder t)
-
--- r is the number of rows of that tree; 0 where there is none
-pub record Walked (W : List ℕ) (s : Shape) (H : List ℕ) (ll lh k lo avail r : ℕ) : Type 0 where
-  pub only : (t : Tree) → Found W s H ll lh k lo avail t → r ≡ nodes t
-  pub made : 0 < r → (t : Tree) × Found W s H ll lh k lo avail t

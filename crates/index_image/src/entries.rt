@@ -13,6 +13,7 @@ ghost use Rattle.words.specs.Kinds.{varWord};
 ghost use Rattle.monomial.specs.Monomial.{Starts, first};
 ghost use Rattle.monomial.specs.Operations.{result};
 ghost use Rattle.monomial.specs.declared.ordered_ops.Op.{Op};
+ghost use Rattle.divmask.specs.Table.{Tabled};
 ghost use Rattle.divmask.specs.Tracker.{Maxima};
 ghost use Rattle.index_theory.specs.Entries.{quotientOf};
 ghost use Rattle.index_image.specs.Door as door;
@@ -20,26 +21,33 @@ ghost use Rattle.index_image.specs.Shape as at;
 ghost use Rattle.index_image.specs.Walk.{lmIn, rowIn, mapMaxima};
 
 // Whether a canonical monomial stands in the slot at word i, zeros behind it, and then its mask and short exponent vector.
-pub fn masked_slot(image: &[u8], map: usize, variables: usize, i: usize) -> bool
+// The masks are made by a table, which has the powers up to a limit.
+pub fn masked_slot(
+    image: &[u8],
+    map: usize,
+    variables: usize,
+    table: &[u8],
+    limit: u32,
+    i: usize,
+) -> bool
     requires { ⌜ Maxima variables (part (words (now image)) map variables) ⌝ }
     requires { ⌜ 4 * (map + variables) ≤ length (now image) ⌝ }
     requires { ⌜ 4 * (i + at.maskedWidth variables) ≤ length (now image) ⌝ }
+    requires { ⌜ length (now table) ≡ 8192 ⌝ }
+    requires { ⌜ Tabled variables (part (words (now image)) map variables) (words (now table)) limit ⌝ }
     ensures { λ r. ⌜ (r ≡ true) ↔ door.MaskedSlot (words (now (image .entry))) variables (part (words (now (image .entry))) map variables) i ⌝ }
 {
-    let m = variables as u32;
-    let n = monomial::canonical_words(image, i, 1, m);
+    let a = 4 * map;
+    let b = a + 4 * variables;
+    let found = divmask::table::judge(&image[a..b], variables as u32, table, limit, image, i);
+    let n = found.words;
     if n == 0 {
         return false;
     }
     if !words::runs::is_blank(image, i + n, variables + fields::SLOT - n) {
         return false;
     }
-    let a = 4 * map;
-    let b = a + 4 * variables;
-    let c = 4 * i;
-    let d = c + 4 * n;
-    let masks = divmask::pairs::map(&image[a..b], m, &image[c..d]);
-    words::pairs::get(image, i + (variables + fields::MASK)) == masks
+    words::pairs::get(image, i + (variables + fields::MASK)) == found.masks
 }
 
 // Whether w is the word that a ratio has for variable v, whose power is p − 32,768. It has none for power 0.
@@ -112,12 +120,14 @@ fn has_ratio(image: &[u8], s: Shape, i: usize) -> bool
 }
 
 // Whether the entry at place i of a ratio index has an index, a signature monomial and a ratio.
-fn ratio_ok(image: &[u8], s: Shape, i: usize) -> bool
+fn ratio_ok(image: &[u8], s: Shape, table: &[u8], limit: u32, i: usize) -> bool
     requires { ⌜ at.InRange s ⌝ }
     requires { ⌜ 4 * at.size s ≤ length (now image) ⌝ }
     requires { ⌜ (s .kind ≡ 1) × (i < s .entries) ⌝ }
     requires { ⌜ door.Tables (words (now image)) s ⌝ }
     requires { ⌜ door.MaskedSlot (words (now image)) (s .variables) (mapMaxima (words (now image)) s) (at.lmAt s i) ⌝ }
+    requires { ⌜ length (now table) ≡ 8192 ⌝ }
+    requires { ⌜ Tabled (s .variables) (mapMaxima (words (now image)) s) (words (now table)) limit ⌝ }
     ensures { λ r. ⌜ (r ≡ true) ↔ door.RatioOk (words (now (image .entry))) s i ⌝ }
 {
     let m = s.variables;
@@ -125,7 +135,14 @@ fn ratio_ok(image: &[u8], s: Shape, i: usize) -> bool
     if words::get(image, e + (m + fields::INDEX)) / 268435456 != 3 {
         return false;
     }
-    if !masked_slot(image, fields::HEADER + m, m, e + (m + fields::SIGN)) {
+    if !masked_slot(
+        image,
+        fields::HEADER + m,
+        m,
+        table,
+        limit,
+        e + (m + fields::SIGN),
+    ) {
         return false;
     }
     if words::get(image, s.labels_at() + fields::ROWS)
@@ -137,36 +154,40 @@ fn ratio_ok(image: &[u8], s: Shape, i: usize) -> bool
 }
 
 // Whether the entry at place i is one.
-fn entry_ok(image: &[u8], s: Shape, i: usize) -> bool
+fn entry_ok(image: &[u8], s: Shape, table: &[u8], limit: u32, i: usize) -> bool
     requires { ⌜ at.InRange s ⌝ }
     requires { ⌜ 4 * at.size s ≤ length (now image) ⌝ }
     requires { ⌜ i < s .entries ⌝ }
     requires { ⌜ door.Tables (words (now image)) s ⌝ }
+    requires { ⌜ length (now table) ≡ 8192 ⌝ }
+    requires { ⌜ Tabled (s .variables) (mapMaxima (words (now image)) s) (words (now table)) limit ⌝ }
     ensures { λ r. ⌜ (r ≡ true) ↔ door.EntryOk (words (now (image .entry))) s i ⌝ }
 {
     let m = s.variables;
     let k = s.kind;
     let e = s.entry_at(i);
-    if !masked_slot(image, fields::HEADER + m, m, e) {
+    if !masked_slot(image, fields::HEADER + m, m, table, limit, e) {
         return false;
     }
     if k == 0 {
         return true;
     }
-    ratio_ok(image, s, i)
+    ratio_ok(image, s, table, limit, i)
 }
 
 // Whether each place below the number of entries has an entry.
-fn all_entries(image: &[u8], s: Shape) -> bool
+fn all_entries(image: &[u8], s: Shape, table: &[u8], limit: u32) -> bool
     requires { ⌜ at.InRange s ⌝ }
     requires { ⌜ 4 * at.size s ≤ length (now image) ⌝ }
     requires { ⌜ door.Tables (words (now image)) s ⌝ }
+    requires { ⌜ length (now table) ≡ 8192 ⌝ }
+    requires { ⌜ Tabled (s .variables) (mapMaxima (words (now image)) s) (words (now table)) limit ⌝ }
     ensures { λ r. ⌜ (r ≡ true) ↔ ((i : ℕ) → i < s .entries → door.EntryOk (words (now (image .entry))) s i) ⌝ }
 {
     let n = s.entries;
     let mut i: usize = 0;
     while i < n {
-        if !entry_ok(image, s, i) {
+        if !entry_ok(image, s, table, limit, i) {
             return false;
         }
         i += 1;
@@ -187,5 +208,9 @@ pub fn entries_ok(image: &[u8], s: Shape) -> bool
     if !words::runs::is_blank(image, s.entry_at(n), rest) {
         return false;
     }
-    all_entries(image, s)
+    let a = 4 * (fields::HEADER + s.variables);
+    let b = a + 4 * s.variables;
+    let mut table = [0u8; 8192];
+    let limit = divmask::table::prepare(&image[a..b], s.variables as u32, n, &mut table);
+    all_entries(image, s, &table, limit)
 }

@@ -3,7 +3,7 @@ pub mod entries;
 pub mod fields;
 pub mod head;
 pub mod marks;
-pub mod walk;
+pub mod stored;
 
 ghost use mathlib.Core.Path.{_≡_};
 ghost use Prim.Native.Nat.{_≤_};

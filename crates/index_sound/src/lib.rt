@@ -110,9 +110,9 @@ fn walk_from_root(image: &[u8], s: Shape, hi: &mut [u8]) -> usize
 {
     unbounded(hi);
     if s.nodes == 1 {
-        return index_image::walk::one_row(image, s, hi);
+        return index_walk::one_row(image, s, hi);
     }
-    index_image::walk::walk(image, s, hi, 0, 4294967296, 0, 0, s.entries)
+    index_walk::walk(image, s, hi, 0, 4294967296, 0, 0, s.entries)
 }
 
 fn tree_rows(image: &[u8], s: Shape) -> usize

@@ -1,7 +1,7 @@
 // The way of a new entry from the root to its leaf. Every row on it gets one entry more.
 use index_image::Shape;
 use index_image::fields;
-use index_image::walk;
+use index_image::stored;
 ghost use mathlib.Core.Path.{_≡_};
 ghost use Prim.Native.Nat.{_+_, _*_, _%_, _≤_, _<_};
 ghost use lib.ListN.{length, getD, drop};
@@ -35,7 +35,11 @@ fn make_gcd(image: &mut [u8], s: Shape, at: usize, lm: &[u8])
     ensures { λ _. ⌜ now (image .exit) ≡ pasteW (now (image .entry)) (shape.nodeMaskAt at) (gcdWords (s .variables) (mapMaxima (words (now (image .entry))) s) (result Op.Gcd (monomialIn (words (now (image .entry))) (s .variables) (shape.gcdAt at)) (words (now (lm .entry))))) ⌝ }
 {
     let mut made = [0u8; 260];
-    let r = monomial::gcd(walk::monomial_in(image, s, at + fields::GCD), lm, &mut made);
+    let r = monomial::gcd(
+        stored::monomial_in(image, s, at + fields::GCD),
+        lm,
+        &mut made,
+    );
     let e = 4 * r;
     crate::slots::write_gcd(image, s, at, &made[..e]);
 }
@@ -51,7 +55,7 @@ fn meet(image: &mut [u8], s: Shape, at: usize, lm: &[u8])
     requires { ⌜ part (words (now image)) (shape.nodeMaskAt at) (gcdWidth (s .variables)) ≡ gcdWords (s .variables) (mapMaxima (words (now image)) s) (monomialIn (words (now image)) (s .variables) (shape.gcdAt at)) ⌝ }
     ensures { λ _. ⌜ now (image .exit) ≡ pasteW (now (image .entry)) (shape.nodeMaskAt at) (gcdWords (s .variables) (mapMaxima (words (now (image .entry))) s) (result Op.Gcd (monomialIn (words (now (image .entry))) (s .variables) (shape.gcdAt at)) (words (now (lm .entry))))) ⌝ }
 {
-    if monomial::divides(walk::monomial_in(image, s, at + fields::GCD), lm) {
+    if monomial::divides(stored::monomial_in(image, s, at + fields::GCD), lm) {
         return;
     }
     make_gcd(image, s, at, lm);
@@ -104,7 +108,7 @@ fn is_below(image: &[u8], s: Shape, tag: usize, key: u32, lm: &[u8], label: u64)
     ensures { λ r. ⌜ r ≡ belowKey (words (now (image .entry))) s (words (now (lm .entry))) label tag key ⌝ }
 {
     if tag == s.kind {
-        return label < walk::label_in(image, s, key as usize);
+        return label < stored::label_in(image, s, key as usize);
     }
     let v = tag - 1 - s.kind;
     monomial::power_of(lm, 1, v as u32) < key

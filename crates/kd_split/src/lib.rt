@@ -51,7 +51,7 @@ fn key_in(image: &[u8], s: Shape, d: usize, e: usize) -> u64
         return power_in(image, s, d, e) as u64;
     }
     if d == 0 {
-        return index_image::walk::label_in(image, s, e);
+        return index_image::stored::label_in(image, s, e);
     }
     power_in(image, s, d - 1, e) as u64
 }
@@ -192,14 +192,14 @@ fn lower(image: &[u8], s: Shape, x: u32, e: usize, best: usize) -> usize
     requires { ⌜ (s .kind ≡ 1) × ((e < s .entries) × (best ≤ s .entries)) ⌝ }
     ensures { λ r. ⌜ (r ≡ cond (ltb (walk.label (words (now (image .entry))) s e) x) best (lowerOf (walk.label (words (now (image .entry))) s) e best)) × (r ≤ s .entries) ⌝ }
 {
-    let l = index_image::walk::label_in(image, s, e);
+    let l = index_image::stored::label_in(image, s, e);
     if l < x as u64 {
         return best;
     }
     if best == 0 {
         return e + 1;
     }
-    if l < index_image::walk::label_in(image, s, best - 1) {
+    if l < index_image::stored::label_in(image, s, best - 1) {
         return e + 1;
     }
     best
@@ -260,7 +260,7 @@ fn write_leaf(image: &mut [u8], s: Shape, at: usize, lo: usize, c: usize)
     ensures { λ _. ⌜ now (image .exit) ≡ pasteW (now (image .entry)) at (leafWords (words (now (image .entry))) s lo c) ⌝ }
 {
     let mut acc = [0u8; 260];
-    let n = index_image::walk::gcd_of(image, s, lo, c, &mut acc);
+    let n = index_image::stored::gcd_of(image, s, lo, c, &mut acc);
     let e = 4 * n;
     let m = s.variables;
     let x = 4 * (fields::HEADER + m);

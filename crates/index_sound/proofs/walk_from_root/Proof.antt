@@ -5,8 +5,8 @@ use Rattle.index_sound.proofs.walk_from_root.Statement.{statement}
 use Rattle.index_sound.proofs.walk_from_root.Tie as tie
 use Rattle.index_sound.proofs.walk_from_root.Reads as reads
 use Rattle.index_sound.proofs.walk_from_root.Lts as lts
-use Rattle.index_image.proofs.walk.one_row.Reads as one-row-reads
-use Rattle.index_image.proofs.walk.walk.Reads as walk-reads
+use Rattle.index_walk.proofs.one_row.Reads as one-row-reads
+use Rattle.index_walk.proofs.walk.Reads as walk-reads
 use Rattle.index_sound.proofs.unbounded.Reads as unbounded-reads
 
 -- src/lib.rt:110:5

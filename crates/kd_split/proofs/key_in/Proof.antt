@@ -6,7 +6,7 @@ use Rattle.kd_split.proofs.key_in.Statement.{statement}
 use Rattle.kd_split.proofs.key_in.Tie as tie
 use Rattle.kd_split.proofs.key_in.Reads as reads
 use Rattle.kd_split.proofs.key_in.Lts as lts
-use Rattle.index_image.proofs.walk.label_in.Reads as label-in-reads
+use Rattle.index_image.proofs.stored.label_in.Reads as label-in-reads
 use Rattle.kd_split.proofs.power_in.Reads as power-in-reads
 
 -- src/bifurcate.rt:50:16

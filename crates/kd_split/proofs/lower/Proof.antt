@@ -8,7 +8,7 @@ use Rattle.kd_split.proofs.lower.Statement.{statement}
 use Rattle.kd_split.proofs.lower.Tie as tie
 use Rattle.kd_split.proofs.lower.Reads as reads
 use Rattle.kd_split.proofs.lower.Lts as lts
-use Rattle.index_image.proofs.walk.label_in.Reads as label-in-reads
+use Rattle.index_image.proofs.stored.label_in.Reads as label-in-reads
 
 -- src/bifurcate.rt:194:9
 label-in-requires : tie.Need-label-in-requires

@@ -16,7 +16,7 @@ use Rattle.kd_split.proofs.write_leaf.Tie as tie
 use Rattle.kd_split.proofs.write_leaf.Reads as reads
 use Rattle.kd_split.proofs.write_leaf.Lts as lts
 use Rattle.divmask.proofs.map.Reads as map-reads
-use Rattle.index_image.proofs.walk.gcd_of.Reads as gcd-of-reads
+use Rattle.index_image.proofs.stored.gcd_of.Reads as gcd-of-reads
 use Rattle.kd_split.proofs.row_head.Reads as row-head-reads
 use Rattle.words.proofs.runs.clear.Reads as clear-reads
 use Rattle.words.proofs.runs.paste.Reads as paste-reads

@@ -1,50 +1,110 @@
+use Prim.Native.Nat.{_+_}
 use native.Mathlib.Omega.{arith}
-use mathlib.Core.Path.{sym, _∙_}
+use mathlib.Core.Path.{sym, _∙_, refl}
 use borrow.Author.Tests.{not-true, not-false}
 use Rattle.words.proofs.Answers.{refuse}
 use Rattle.words.proofs.Tables.{never}
 use Rattle.index_image.proofs.Bounds.{rest}
+use Rattle.index_image.proofs.Slots.{range-words}
 use borrow.Author.Needs.{needs}
 use Rattle.index_image.proofs.entries.entries_ok.Statement.{statement}
 use Rattle.index_image.proofs.entries.entries_ok.Tie as tie
 use Rattle.index_image.proofs.entries.entries_ok.Reads as reads
 use Rattle.index_image.proofs.entries.entries_ok.Lts as lts
+use Rattle.divmask.proofs.table.prepare.Reads as prepare-reads
 use Rattle.index_image.proofs.Shape.entry_at.Reads as entry-at-reads
 use Rattle.index_image.proofs.Shape.entry_width.Reads as entry-width-reads
 use Rattle.index_image.proofs.entries.all_entries.Reads as all-entries-reads
 use Rattle.words.proofs.runs.is_blank.Reads as is-blank-reads
 
--- src/entries.rt:146:17
+-- src/entries.rt:210:17
 sub-rest : tie.Need-sub-rest
 sub-rest c = search needs
 
--- src/entries.rt:146:26
+-- src/entries.rt:210:26
 entry-width-requires : tie.Need-entry-width-requires
 entry-width-requires c κs = search needs
 
--- src/entries.rt:146:16
+-- src/entries.rt:210:16
 mul-rest : tie.Need-mul-rest
 mul-rest c = rw (c .entry-width .ensures) (omega (arith, rest (c .before .before .args .s) (c .before .before .pre .0)))
 
--- src/entries.rt:147:38
+-- src/entries.rt:211:38
 entry-at-requires : tie.Need-entry-at-requires
 entry-at-requires c κs = ((c .before .before .pre .0), (c .before .before .pre .0) .few)
 
--- src/entries.rt:147:9
+-- src/entries.rt:211:9
 is-blank-requires : tie.Need-is-blank-requires
 is-blank-requires c κs = rw (c .before .entry-width .ensures, c .entry-at .ensures) (omega (arith, rest (c .before .before .before .args .s) (c .before .before .before .pre .0)))
 
--- src/entries.rt:148:9
+-- src/entries.rt:212:9
 returns : tie.Need-returns
 returns c = refuse (λ q. never (sym (not-true _ (c .if1 .taken)) ∙ (rw (c .before .before .entry-at .ensures, c .before .before .before .entry-width .ensures) at (c .before .is-blank .ensures)) .1 (q .rest)))
 
--- src/entries.rt:150:5
-all-entries-requires : tie.Need-all-entries-requires
-all-entries-requires c κs = search needs
+-- src/entries.rt:214:18
+add-a : tie.Need-add-a
+add-a c = search needs
 
--- src/entries.rt:138:1
+-- src/entries.rt:214:13
+mul-a : tie.Need-mul-a
+mul-a c = search needs
+
+-- src/entries.rt:215:17
+mul-b : tie.Need-mul-b
+mul-b c = search needs
+
+-- src/entries.rt:215:13
+add-b : tie.Need-add-b
+add-b c = search needs
+
+-- src/entries.rt:217:41
+sub-prepare : tie.Need-sub-prepare
+sub-prepare c = search needs
+
+-- src/entries.rt:217:41
+part-prepare-start : tie.Need-part-prepare-start
+part-prepare-start c = search needs
+
+-- src/entries.rt:217:41
+part-prepare-end : tie.Need-part-prepare-end
+part-prepare-end c = search needs
+
+-- src/entries.rt:217:55
+cast-prepare : tie.Need-cast-prepare
+cast-prepare c = search needs
+
+-- src/entries.rt:217:78
+slice-aggregate-prepare : tie.Need-slice-aggregate-prepare
+slice-aggregate-prepare c = search needs
+
+-- src/entries.rt:217:9
+prepare-requires : tie.Need-prepare-requires
+prepare-requires c κs = (rw (range-words (c .before .before .before .before .before .before .before .before .before .before .args .image .now) (24 + (c .before .before .before .before .before .before .before .before .before .before .args .s .variables)) (c .before .before .before .before .before .before .before .before .before .before .args .s .variables)) (c .before .before .before .before .before .before .before .before .before .before .pre .1 .1 .map), refl)
+
+-- src/entries.rt:218:27
+slice-aggregate-all-entries : tie.Need-slice-aggregate-all-entries
+slice-aggregate-all-entries c = search needs
+
+-- src/entries.rt:218:5
+all-entries-requires : tie.Need-all-entries-requires
+all-entries-requires c κs =
+    let o = c .before .before .before .before .before .before .before .before .before .before .before .before .before in (
+      o .pre .0,
+      (
+        o .pre .1 .0,
+        (
+          o .pre .1 .1,
+          (
+            c .before .before .prepare .ensures .0,
+            rw (range-words (o .args .image .now) (24 + o .args .s .variables) (o .args .s .variables)) at (c .before .before .prepare .ensures .1),
+          ),
+        ),
+      ),
+    )
+
+-- src/entries.rt:202:1
 returns-2 : tie.Need-returns-2
-returns-2 c = (λ z. record { each = (c .all-entries .ensures .0) z; rest = (rw (c .before .before .before .entry-at .ensures, c .before .before .before .before .entry-width .ensures) at (c .before .before .is-blank .ensures)) .0 (not-false _ (c .before .if1 .left)) }, λ q. (c .all-entries .ensures .1) (q .each))
+returns-2 c = (λ z. record { each = (c .all-entries .ensures .0) z; rest = (rw (c .before .before .before .before .before .before .before .before .before .before .before .entry-at .ensures, c .before .before .before .before .before .before .before .before .before .before .before .before .entry-width .ensures) at (c .before .before .before .before .before .before .before .before .before .before .is-blank .ensures)) .0 (not-false _ (c .before .before .before .before .before .before .before .before .before .if1 .left)) }, λ q. (c .all-entries .ensures .1) (q .each))
 
 pub entries-ok-spec : {M : Type 1} → statement M
 entries-ok-spec =
@@ -56,5 +116,16 @@ entries-ok-spec =
     entry-at-requires
     is-blank-requires
     returns
+    add-a
+    mul-a
+    mul-b
+    add-b
+    sub-prepare
+    part-prepare-start
+    part-prepare-end
+    cast-prepare
+    slice-aggregate-prepare
+    prepare-requires
+    slice-aggregate-all-entries
     all-entries-requires
     returns-2)

@@ -19,84 +19,84 @@ use Rattle.index_image.proofs.entries.has_ratio.Reads as has-ratio-read
 use Rattle.index_image.proofs.entries.masked_slot.Reads as masked-slot-reads
 use Rattle.words.proofs.get.Reads as get-reads
 
--- src/entries.rt:86:9
+-- src/entries.rt:137:9
 entry-at-requires : tie.Need-entry-at-requires
-entry-at-requires c κs = ((c .before .pre .0), omega (arith, (c .before .pre .1 .1 .0 .1), (c .before .pre .0) .few))
+entry-at-requires c κs = ((c .before .before .pre .0), omega (arith, (c .before .before .pre .1 .1 .0 .1), (c .before .before .pre .0) .few))
 
--- src/entries.rt:87:31
+-- src/entries.rt:138:31
 add-get : tie.Need-add-get
 add-get c = search needs
 
--- src/entries.rt:87:26
+-- src/entries.rt:138:26
 add-get-2 : tie.Need-add-get-2
-add-get-2 c = omega (arith, c .entry-at .ensures, spots (c .before .before .args .s) (c .before .before .pre .0) (c .before .before .pre .1 .1 .0 .0) (c .before .before .args .i) 0 (omega (arith, (c .before .before .pre .1 .1 .0 .1), (c .before .before .pre .0) .few)) (omega (arith, (c .before .before .pre .0) .cap-from)))
+add-get-2 c = omega (arith, c .entry-at .ensures, spots (c .before .before .before .args .s) (c .before .before .before .pre .0) (c .before .before .before .pre .1 .1 .0 .0) (c .before .before .before .args .i) 0 (omega (arith, (c .before .before .before .pre .1 .1 .0 .1), (c .before .before .before .pre .0) .few)) (omega (arith, (c .before .before .before .pre .0) .cap-from)))
 
--- src/entries.rt:87:8
+-- src/entries.rt:138:8
 get-requires : tie.Need-get-requires
-get-requires c κs = omega (arith, c .entry-at .ensures, spots (c .before .before .args .s) (c .before .before .pre .0) (c .before .before .pre .1 .1 .0 .0) (c .before .before .args .i) 0 (omega (arith, (c .before .before .pre .1 .1 .0 .1), (c .before .before .pre .0) .few)) (omega (arith, (c .before .before .pre .0) .cap-from)))
+get-requires c κs = omega (arith, c .entry-at .ensures, spots (c .before .before .before .args .s) (c .before .before .before .pre .0) (c .before .before .before .pre .1 .1 .0 .0) (c .before .before .before .args .i) 0 (omega (arith, (c .before .before .before .pre .1 .1 .0 .1), (c .before .before .before .pre .0) .few)) (omega (arith, (c .before .before .before .pre .0) .cap-from)))
 
--- src/entries.rt:88:9
+-- src/entries.rt:139:9
 returns : tie.Need-returns
 returns c = refuse (λ q. (c .if1 .taken) (ap (λ (w : ℕ). w / 268435456) (rw (c .before .before .entry-at .ensures) at (c .before .get .ensures)) ∙ q .kinded))
 
--- src/entries.rt:90:28
+-- src/entries.rt:143:9
 add-masked-slot : tie.Need-add-masked-slot
 add-masked-slot c = search needs
 
--- src/entries.rt:90:44
+-- src/entries.rt:147:14
 add-masked-slot-2 : tie.Need-add-masked-slot-2
 add-masked-slot-2 c = search needs
 
--- src/entries.rt:90:39
+-- src/entries.rt:147:9
 add-masked-slot-3 : tie.Need-add-masked-slot-3
-add-masked-slot-3 c = omega (arith, c .before .before .entry-at .ensures, spots (c .before .before .before .before .args .s) (c .before .before .before .before .pre .0) (c .before .before .before .before .pre .1 .1 .0 .0) (c .before .before .before .before .args .i) 0 (omega (arith, (c .before .before .before .before .pre .1 .1 .0 .1), (c .before .before .before .before .pre .0) .few)) (omega (arith, (c .before .before .before .before .pre .0) .cap-from)))
+add-masked-slot-3 c = omega (arith, c .before .before .entry-at .ensures, spots (c .before .before .before .before .before .args .s) (c .before .before .before .before .before .pre .0) (c .before .before .before .before .before .pre .1 .1 .0 .0) (c .before .before .before .before .before .args .i) 0 (omega (arith, (c .before .before .before .before .before .pre .1 .1 .0 .1), (c .before .before .before .before .before .pre .0) .few)) (omega (arith, (c .before .before .before .before .before .pre .0) .cap-from)))
 
--- src/entries.rt:90:9
+-- src/entries.rt:141:9
 masked-slot-requires : tie.Need-masked-slot-requires
-masked-slot-requires c κs = ((c .before .before .before .before .pre .1 .1 .1 .0) .map, (omega (arith, spots (c .before .before .before .before .args .s) (c .before .before .before .before .pre .0) (c .before .before .before .before .pre .1 .1 .0 .0) (c .before .before .before .before .args .i) 0 (omega (arith, (c .before .before .before .before .pre .1 .1 .0 .1), (c .before .before .before .before .pre .0) .few)) (omega (arith, (c .before .before .before .before .pre .0) .cap-from))), omega (arith, c .before .before .entry-at .ensures, spots (c .before .before .before .before .args .s) (c .before .before .before .before .pre .0) (c .before .before .before .before .pre .1 .1 .0 .0) (c .before .before .before .before .args .i) 0 (omega (arith, (c .before .before .before .before .pre .1 .1 .0 .1), (c .before .before .before .before .pre .0) .few)) (omega (arith, (c .before .before .before .before .pre .0) .cap-from)))))
+masked-slot-requires c κs = ((c .before .before .before .before .before .pre .1 .1 .1 .0) .map, (omega (arith, spots (c .before .before .before .before .before .args .s) (c .before .before .before .before .before .pre .0) (c .before .before .before .before .before .pre .1 .1 .0 .0) (c .before .before .before .before .before .args .i) 0 (omega (arith, (c .before .before .before .before .before .pre .1 .1 .0 .1), (c .before .before .before .before .before .pre .0) .few)) (omega (arith, (c .before .before .before .before .before .pre .0) .cap-from))), (omega (arith, c .before .before .entry-at .ensures, spots (c .before .before .before .before .before .args .s) (c .before .before .before .before .before .pre .0) (c .before .before .before .before .before .pre .1 .1 .0 .0) (c .before .before .before .before .before .args .i) 0 (omega (arith, (c .before .before .before .before .before .pre .1 .1 .0 .1), (c .before .before .before .before .before .pre .0) .few)) (omega (arith, (c .before .before .before .before .before .pre .0) .cap-from))), (c .before .before .before .before .before .pre .1 .1 .1 .1 .1))))
 
--- src/entries.rt:91:9
+-- src/entries.rt:149:9
 returns-2 : tie.Need-returns-2
 returns-2 c = refuse (λ q. never (sym (not-true _ (c .if2 .taken)) ∙ (rw (c .before .before .before .before .entry-at .ensures) at (c .before .masked-slot .ensures)) .1 (q .sign)))
 
--- src/entries.rt:93:26
+-- src/entries.rt:151:26
 labels-at-requires : tie.Need-labels-at-requires
 labels-at-requires c κs = search needs
 
--- src/entries.rt:93:26
+-- src/entries.rt:151:26
 add-get-3 : tie.Need-add-get-3
-add-get-3 c = omega (arith, c .labels-at .ensures, spots (c .before .before .before .before .before .before .before .args .s) (c .before .before .before .before .before .before .before .pre .0) (c .before .before .before .before .before .before .before .pre .1 .1 .0 .0) (c .before .before .before .before .before .before .before .args .i) 0 (omega (arith, (c .before .before .before .before .before .before .before .pre .1 .1 .0 .1), (c .before .before .before .before .before .before .before .pre .0) .few)) (omega (arith, (c .before .before .before .before .before .before .before .pre .0) .cap-from)))
+add-get-3 c = omega (arith, c .labels-at .ensures, spots (c .before .before .before .before .before .before .before .before .args .s) (c .before .before .before .before .before .before .before .before .pre .0) (c .before .before .before .before .before .before .before .before .pre .1 .1 .0 .0) (c .before .before .before .before .before .before .before .before .args .i) 0 (omega (arith, (c .before .before .before .before .before .before .before .before .pre .1 .1 .0 .1), (c .before .before .before .before .before .before .before .before .pre .0) .few)) (omega (arith, (c .before .before .before .before .before .before .before .before .pre .0) .cap-from)))
 
--- src/entries.rt:93:8
+-- src/entries.rt:151:8
 get-requires-2 : tie.Need-get-requires-2
-get-requires-2 c κs = omega (arith, c .labels-at .ensures, spots (c .before .before .before .before .before .before .before .args .s) (c .before .before .before .before .before .before .before .pre .0) (c .before .before .before .before .before .before .before .pre .1 .1 .0 .0) (c .before .before .before .before .before .before .before .args .i) 0 (omega (arith, (c .before .before .before .before .before .before .before .pre .1 .1 .0 .1), (c .before .before .before .before .before .before .before .pre .0) .few)) (omega (arith, (c .before .before .before .before .before .before .before .pre .0) .cap-from)))
+get-requires-2 c κs = omega (arith, c .labels-at .ensures, spots (c .before .before .before .before .before .before .before .before .args .s) (c .before .before .before .before .before .before .before .before .pre .0) (c .before .before .before .before .before .before .before .before .pre .1 .1 .0 .0) (c .before .before .before .before .before .before .before .before .args .i) 0 (omega (arith, (c .before .before .before .before .before .before .before .before .pre .1 .1 .0 .1), (c .before .before .before .before .before .before .before .before .pre .0) .few)) (omega (arith, (c .before .before .before .before .before .before .before .before .pre .0) .cap-from)))
 
--- src/entries.rt:93:71
+-- src/entries.rt:152:35
 mul-get : tie.Need-mul-get
 mul-get c = search needs
 
--- src/entries.rt:93:71
+-- src/entries.rt:152:35
 add-get-4 : tie.Need-add-get-4
 add-get-4 c = search needs
 
--- src/entries.rt:93:66
+-- src/entries.rt:152:30
 add-get-5 : tie.Need-add-get-5
-add-get-5 c = omega (arith, c .before .before .before .before .before .before .entry-at .ensures, spots (c .before .before .before .before .before .before .before .before .args .s) (c .before .before .before .before .before .before .before .before .pre .0) (c .before .before .before .before .before .before .before .before .pre .1 .1 .0 .0) (c .before .before .before .before .before .before .before .before .args .i) 0 (omega (arith, (c .before .before .before .before .before .before .before .before .pre .1 .1 .0 .1), (c .before .before .before .before .before .before .before .before .pre .0) .few)) (omega (arith, (c .before .before .before .before .before .before .before .before .pre .0) .cap-from)))
+add-get-5 c = omega (arith, c .before .before .before .before .before .before .entry-at .ensures, spots (c .before .before .before .before .before .before .before .before .before .args .s) (c .before .before .before .before .before .before .before .before .before .pre .0) (c .before .before .before .before .before .before .before .before .before .pre .1 .1 .0 .0) (c .before .before .before .before .before .before .before .before .before .args .i) 0 (omega (arith, (c .before .before .before .before .before .before .before .before .before .pre .1 .1 .0 .1), (c .before .before .before .before .before .before .before .before .before .pre .0) .few)) (omega (arith, (c .before .before .before .before .before .before .before .before .before .pre .0) .cap-from)))
 
--- src/entries.rt:93:48
+-- src/entries.rt:152:12
 get-requires-3 : tie.Need-get-requires-3
-get-requires-3 c κs = omega (arith, c .before .before .before .before .before .before .entry-at .ensures, spots (c .before .before .before .before .before .before .before .before .args .s) (c .before .before .before .before .before .before .before .before .pre .0) (c .before .before .before .before .before .before .before .before .pre .1 .1 .0 .0) (c .before .before .before .before .before .before .before .before .args .i) 0 (omega (arith, (c .before .before .before .before .before .before .before .before .pre .1 .1 .0 .1), (c .before .before .before .before .before .before .before .before .pre .0) .few)) (omega (arith, (c .before .before .before .before .before .before .before .before .pre .0) .cap-from)))
+get-requires-3 c κs = omega (arith, c .before .before .before .before .before .before .entry-at .ensures, spots (c .before .before .before .before .before .before .before .before .before .args .s) (c .before .before .before .before .before .before .before .before .before .pre .0) (c .before .before .before .before .before .before .before .before .before .pre .1 .1 .0 .0) (c .before .before .before .before .before .before .before .before .before .args .i) 0 (omega (arith, (c .before .before .before .before .before .before .before .before .before .pre .1 .1 .0 .1), (c .before .before .before .before .before .before .before .before .before .pre .0) .few)) (omega (arith, (c .before .before .before .before .before .before .before .before .before .pre .0) .cap-from)))
 
--- src/entries.rt:94:9
+-- src/entries.rt:154:9
 returns-3 : tie.Need-returns-3
 returns-3 c = refuse (λ q. omega (arith, q .row, (rw (c .before .before .before .labels-at .ensures) at (c .before .before .get2 .ensures)), (rw (c .before .before .before .before .before .before .before .before .entry-at .ensures) at (c .before .get3 .ensures)), c .if3 .taken))
 
--- src/entries.rt:96:5
+-- src/entries.rt:156:5
 has-ratio-requires : tie.Need-has-ratio-requires
-has-ratio-requires c κs = let lt : rowIn (words (c .before .before .before .before .before .before .before .before .before .before .args .image .now)) (c .before .before .before .before .before .before .before .before .before .before .args .s) (c .before .before .before .before .before .before .before .before .before .before .args .i) < door.rowsIn (words (c .before .before .before .before .before .before .before .before .before .before .args .image .now)) (c .before .before .before .before .before .before .before .before .before .before .args .s) = omega (arith, (rw (c .before .before .before .labels-at .ensures) at (c .before .before .get2 .ensures)), (rw (c .before .before .before .before .before .before .before .before .entry-at .ensures) at (c .before .get3 .ensures)), c .if3 .left) in
-    ((c .before .before .before .before .before .before .before .before .before .before .pre .0), (c .before .before .before .before .before .before .before .before .before .before .pre .1 .0, (((c .before .before .before .before .before .before .before .before .before .before .pre .1 .1 .0 .0), (c .before .before .before .before .before .before .before .before .before .before .pre .1 .1 .0 .1)), record { kinded = sym (ap (λ (w : ℕ). w / 268435456) (rw (c .before .before .before .before .before .before .before .before .entry-at .ensures) at (c .before .before .before .before .before .before .before .get .ensures))) ∙ c .before .before .before .before .before .before .if1 .left; sign = (rw (c .before .before .before .before .before .before .before .before .entry-at .ensures) at (c .before .before .before .before .before .masked-slot .ensures)) .0 (not-false _ (c .before .before .before .before .if2 .left)) .some; lm = (c .before .before .before .before .before .before .before .before .before .before .pre .1 .1 .1 .1) .some; row = omega (arith, (c .before .before .before .before .before .before .before .before .before .before .pre .1 .1 .1 .0) .few (c .before .before .before .before .before .before .before .before .before .before .pre .1 .1 .0 .0)); row-ok = (c .before .before .before .before .before .before .before .before .before .before .pre .1 .1 .1 .0) .rows (c .before .before .before .before .before .before .before .before .before .before .pre .1 .1 .0 .0) _ lt })))
+has-ratio-requires c κs = let lt : rowIn (words (c .before .before .before .before .before .before .before .before .before .before .before .args .image .now)) (c .before .before .before .before .before .before .before .before .before .before .before .args .s) (c .before .before .before .before .before .before .before .before .before .before .before .args .i) < door.rowsIn (words (c .before .before .before .before .before .before .before .before .before .before .before .args .image .now)) (c .before .before .before .before .before .before .before .before .before .before .before .args .s) = omega (arith, (rw (c .before .before .before .labels-at .ensures) at (c .before .before .get2 .ensures)), (rw (c .before .before .before .before .before .before .before .before .entry-at .ensures) at (c .before .get3 .ensures)), c .if3 .left) in
+    ((c .before .before .before .before .before .before .before .before .before .before .before .pre .0), (c .before .before .before .before .before .before .before .before .before .before .before .pre .1 .0, (((c .before .before .before .before .before .before .before .before .before .before .before .pre .1 .1 .0 .0), (c .before .before .before .before .before .before .before .before .before .before .before .pre .1 .1 .0 .1)), record { kinded = sym (ap (λ (w : ℕ). w / 268435456) (rw (c .before .before .before .before .before .before .before .before .entry-at .ensures) at (c .before .before .before .before .before .before .before .get .ensures))) ∙ c .before .before .before .before .before .before .if1 .left; sign = (rw (c .before .before .before .before .before .before .before .before .entry-at .ensures) at (c .before .before .before .before .before .masked-slot .ensures)) .0 (not-false _ (c .before .before .before .before .if2 .left)) .some; lm = (c .before .before .before .before .before .before .before .before .before .before .before .pre .1 .1 .1 .1 .0) .some; row = omega (arith, (c .before .before .before .before .before .before .before .before .before .before .before .pre .1 .1 .1 .0) .few (c .before .before .before .before .before .before .before .before .before .before .before .pre .1 .1 .0 .0)); row-ok = (c .before .before .before .before .before .before .before .before .before .before .before .pre .1 .1 .1 .0) .rows (c .before .before .before .before .before .before .before .before .before .before .before .pre .1 .1 .0 .0) _ lt })))
 
--- src/entries.rt:77:1
+-- src/entries.rt:126:1
 returns-4 : tie.Need-returns-4
 returns-4 c = (λ q. record { kinded = sym (ap (λ (w : ℕ). w / 268435456) (rw (c .before .before .before .before .before .before .before .before .before .entry-at .ensures) at (c .before .before .before .before .before .before .before .before .get .ensures))) ∙ c .before .before .before .before .before .before .before .if1 .left; sign = (rw (c .before .before .before .before .before .before .before .before .before .entry-at .ensures) at (c .before .before .before .before .before .before .masked-slot .ensures)) .0 (not-false _ (c .before .before .before .before .before .if2 .left)); row = omega (arith, (rw (c .before .before .before .before .labels-at .ensures) at (c .before .before .before .get2 .ensures)), (rw (c .before .before .before .before .before .before .before .before .before .entry-at .ensures) at (c .before .before .get3 .ensures)), c .before .if3 .left); ratio = (c .has-ratio .ensures .0) q }, λ q. (c .has-ratio .ensures .1) (q .ratio))
 

@@ -8,7 +8,7 @@ use Rattle.kd_insert.proofs.descent.is_below.Statement.{statement}
 use Rattle.kd_insert.proofs.descent.is_below.Tie as tie
 use Rattle.kd_insert.proofs.descent.is_below.Reads as reads
 use Rattle.kd_insert.proofs.descent.is_below.Lts as lts
-use Rattle.index_image.proofs.walk.label_in.Reads as label-in-reads
+use Rattle.index_image.proofs.stored.label_in.Reads as label-in-reads
 use Rattle.monomial.proofs.power_of.Reads as power-of-reads
 
 -- src/descent.rt:98:24

@@ -16,7 +16,7 @@ use Rattle.kd_insert.proofs.descent.make_gcd.Statement.{statement}
 use Rattle.kd_insert.proofs.descent.make_gcd.Tie as tie
 use Rattle.kd_insert.proofs.descent.make_gcd.Reads as reads
 use Rattle.kd_insert.proofs.descent.make_gcd.Lts as lts
-use Rattle.index_image.proofs.walk.monomial_in.Reads as monomial-in-reads
+use Rattle.index_image.proofs.stored.monomial_in.Reads as monomial-in-reads
 use Rattle.kd_insert.proofs.slots.write_gcd.Reads as write-gcd-reads
 use Rattle.monomial.proofs.gcd.Reads as gcd-reads
 

@@ -13,7 +13,7 @@ use Rattle.kd_insert.proofs.descent.meet.Tie as tie
 use Rattle.kd_insert.proofs.descent.meet.Reads as reads
 use Rattle.kd_insert.proofs.descent.meet.Lts as lts
 use Rattle.kd_insert.proofs.descent.make_gcd.Reads as make-gcd-reads
-use Rattle.index_image.proofs.walk.monomial_in.Reads as monomial-in-reads
+use Rattle.index_image.proofs.stored.monomial_in.Reads as monomial-in-reads
 use Rattle.monomial.proofs.divides.Reads as divides-reads
 
 -- src/descent.rt:52:62

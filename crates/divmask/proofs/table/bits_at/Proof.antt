@@ -1,0 +1,95 @@
+use native.Mathlib.Omega.{arith}
+use Rattle.divmask.proofs.Tabling.{made}
+use Rattle.divmask.proofs.Masks.{bits-are}
+use Rattle.divmask.proofs.Places.{in-all, first-closed}
+use Rattle.words.specs.Words.{words}
+use Rattle.words.proofs.Laws.{length-words}
+use native.Mathlib.Nat.{div-le-self}
+use borrow.Author.Needs.{needs}
+use Rattle.divmask.proofs.table.bits_at.Statement.{statement}
+use Rattle.divmask.proofs.table.bits_at.Tie as tie
+use Rattle.divmask.proofs.table.bits_at.Reads as reads
+use Rattle.divmask.proofs.table.bits_at.Lts as lts
+use Rattle.divmask.proofs.bits_of.Reads as bits-of-reads
+use Rattle.divmask.proofs.field.Reads as field-reads
+use Rattle.divmask.proofs.first_bit.Reads as first-bit-reads
+use Rattle.divmask.proofs.pairs.short_field.Reads as short-field-reads
+use Rattle.words.proofs.get.Reads as get-reads
+
+-- src/table.rt:18:17
+div-whole : tie.Need-div-whole
+div-whole c = search needs
+
+-- src/table.rt:19:17
+rem-extra : tie.Need-rem-extra
+rem-extra c = search needs
+
+-- src/table.rt:20:9
+get-requires : tie.Need-get-requires
+get-requires c κs = omega (arith, c .before .pre .0 .one-each, length-words (c .before .args .maxima .now), c .before .pre .1 .0)
+
+-- src/table.rt:21:9
+bits-of-requires : tie.Need-bits-of-requires
+bits-of-requires c κs = div-le-self 32 (c .before .before .args .variables)
+
+-- src/table.rt:22:9
+first-bit-requires : tie.Need-first-bit-requires
+first-bit-requires c κs = (div-le-self 32 (c .before .before .before .args .variables), omega (arith, c .before .before .before .pre .0 .few, c .before .before .before .pre .1 .0))
+
+-- src/table.rt:23:16
+field-requires : tie.Need-field-requires
+field-requires c κs = let p = (c .before .before .before .before .pre) in let v = (c .before .before .before .before .args .v) in
+    let e = bits-are (c .before .before .before .before .args .variables) v (c .before .bits-of .result) (c .before .bits-of .ensures) in
+    ((omega (arith, in-all (c .before .before .before .before .args .variables) v (p .1 .0)), (omega (arith, c .before .before .get .ensures, p .0 .low v (p .1 .0)), omega (arith, c .before .before .get .ensures, p .0 .high v (p .1 .0)))), p .1 .1)
+
+-- src/table.rt:23:45
+cast-mask : tie.Need-cast-mask
+cast-mask c = search needs
+
+-- src/table.rt:23:16
+shl-mask : tie.Need-shl-mask
+shl-mask c = omega (arith, c .before .first-bit .ensures, first-closed (c .before .before .before .before .before .args .variables) (c .before .before .before .before .before .args .v), in-all (c .before .before .before .before .before .args .variables) (c .before .before .before .before .before .args .v) (c .before .before .before .before .before .pre .1 .0))
+
+-- src/table.rt:24:18
+short-field-requires : tie.Need-short-field-requires
+short-field-requires c κs = let e = bits-are (c .before .before .before .before .before .args .variables) (c .before .before .before .before .before .args .v) (c .before .before .bits-of .result) (c .before .before .bits-of .ensures) in
+    omega (arith, in-all (c .before .before .before .before .before .args .variables) (c .before .before .before .before .before .args .v) (c .before .before .before .before .before .pre .1 .0))
+
+-- src/table.rt:24:50
+cast-vector : tie.Need-cast-vector
+cast-vector c = search needs
+
+-- src/table.rt:24:18
+shl-vector : tie.Need-shl-vector
+shl-vector c = omega (arith, c .before .before .first-bit .ensures, first-closed (c .before .before .before .before .before .before .args .variables) (c .before .before .before .before .before .before .args .v), in-all (c .before .before .before .before .before .before .args .variables) (c .before .before .before .before .before .before .args .v) (c .before .before .before .before .before .before .pre .1 .0))
+
+-- src/table.rt:25:12
+mul-result : tie.Need-mul-result
+mul-result c = omega (arith, made (c .before .before .before .before .before .before .args .variables) (words (c .before .before .before .before .before .before .args .maxima .now)) (c .before .before .before .before .before .before .args .v) (c .before .before .before .before .before .before .args .power) (c .before .before .before .before .before .before .pre .1 .0) (c .before .before .before .before .get .ensures) (c .before .before .before .bits-of .ensures) (c .before .field .ensures) (c .short-field .ensures) (c .before .before .first-bit .ensures) .high)
+
+-- src/table.rt:25:5
+add-result : tie.Need-add-result
+add-result c = omega (arith, made (c .before .before .before .before .before .before .args .variables) (words (c .before .before .before .before .before .before .args .maxima .now)) (c .before .before .before .before .before .before .args .v) (c .before .before .before .before .before .before .args .power) (c .before .before .before .before .before .before .pre .1 .0) (c .before .before .before .before .get .ensures) (c .before .before .before .bits-of .ensures) (c .before .field .ensures) (c .short-field .ensures) (c .before .before .first-bit .ensures) .low, made (c .before .before .before .before .before .before .args .variables) (words (c .before .before .before .before .before .before .args .maxima .now)) (c .before .before .before .before .before .before .args .v) (c .before .before .before .before .before .before .args .power) (c .before .before .before .before .before .before .pre .1 .0) (c .before .before .before .before .get .ensures) (c .before .before .before .bits-of .ensures) (c .before .field .ensures) (c .short-field .ensures) (c .before .before .first-bit .ensures) .high)
+
+-- src/table.rt:13:1
+returns : tie.Need-returns
+returns c = made (c .before .before .before .before .before .before .args .variables) (words (c .before .before .before .before .before .before .args .maxima .now)) (c .before .before .before .before .before .before .args .v) (c .before .before .before .before .before .before .args .power) (c .before .before .before .before .before .before .pre .1 .0) (c .before .before .before .before .get .ensures) (c .before .before .before .bits-of .ensures) (c .before .field .ensures) (c .short-field .ensures) (c .before .before .first-bit .ensures) .is
+
+pub bits-at-spec : {M : Type 1} → statement M
+bits-at-spec =
+    tie.close
+    (tie.spec
+    div-whole
+    rem-extra
+    get-requires
+    bits-of-requires
+    first-bit-requires
+    field-requires
+    cast-mask
+    shl-mask
+    short-field-requires
+    cast-vector
+    shl-vector
+    mul-result
+    add-result
+    returns)

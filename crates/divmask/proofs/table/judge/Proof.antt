@@ -1,0 +1,127 @@
+use native.Mathlib.Omega.{arith}
+use Prim.Native.Nat.{_-_}
+use borrow.Author.Tests.{not-true, not-false}
+use Rattle.words.specs.Words.{words}
+use Rattle.words.proofs.Laws.{length-words}
+use Rattle.divmask.proofs.Tabling.{Going, going, ran-out, judged, wrong-end, no-power, known, go-on}
+use mathlib.Core.Path.{refl, _≡_, sym, _∙_}
+use Rattle.divmask.proofs.table.judge.Statement.{statement}
+use Rattle.divmask.proofs.table.judge.Tie as tie
+use Rattle.divmask.proofs.table.judge.Reads as reads
+use Rattle.divmask.proofs.table.judge.Lts as lts
+use Rattle.divmask.proofs.table.is_power.Reads as is-power-reads
+use Rattle.divmask.proofs.table.look_up.Reads as look-up-reads
+use Rattle.std.proofs.num.wrapping_add_u64.Reads as wrapping-add-u64-reads
+use Rattle.words.proofs.get.Reads as get-reads
+use Rattle.words.proofs.id.Reads as id-reads
+use Rattle.words.proofs.kind.Reads as kind-reads
+use Rattle.words.proofs.payload.Reads as payload-reads
+use Rattle.words.proofs.power.Reads as power-reads
+
+abbrev Inv-loop : tie.InvT-loop
+Inv-loop maxima variables table limit s at end i₀ bound₀ masks₀ i bound masks = Going variables (words maxima) (words s) at i bound masks
+
+abbrev μ-loop : tie.MeasureT-loop
+μ-loop maxima variables table limit s at end i₀ bound₀ masks₀ i bound masks = end - i
+
+-- src/table.rt:114:5
+loop-holds : tie.Need-loop-holds Inv-loop μ-loop
+loop-holds c = going (c .before .before .before .args .variables) (words (c .before .before .before .args .maxima .now)) (words (c .before .before .before .args .s .now)) (c .before .before .before .args .at) (c .before .before .before .pre .0 .few)
+
+-- src/table.rt:115:13
+get-requires : tie.Need-get-requires Inv-loop μ-loop
+get-requires c κs = omega arith
+
+-- src/table.rt:116:12
+kind-requires : tie.Need-kind-requires Inv-loop μ-loop
+kind-requires c κs = tt
+
+-- src/table.rt:117:21
+sub-n : tie.Need-sub-n Inv-loop μ-loop
+sub-n c = c .before .before .before .before .loop .inv .from
+
+-- src/table.rt:118:16
+payload-requires : tie.Need-payload-requires Inv-loop μ-loop
+payload-requires c κs = tt
+
+-- src/table.rt:118:16
+cast-if2 : tie.Need-cast-if2 Inv-loop μ-loop
+cast-if2 c = omega arith
+
+-- src/table.rt:120:28
+add-t20 : tie.Need-add-t20 Inv-loop μ-loop
+add-t20 c = omega (arith, c .before .before .before .before .before .before .loop .inv .few, c .before .before .before .before .before .before .before .before .before .before .pre .0 .few)
+
+-- src/table.rt:119:17
+returns : tie.Need-returns Inv-loop μ-loop
+returns c = judged (c .before .before .before .before .before .before .before .before .before .before .args .variables) (words (c .before .before .before .before .before .before .before .before .before .before .args .maxima .now)) (words (c .before .before .before .before .before .before .before .before .before .before .args .s .now)) (c .before .before .before .before .before .before .before .before .before .before .pre .0 .few) (c .before .before .before .before .before .before .before .before .before .before .args .at) (c .before .before .before .before .before .before .loop .i) (c .before .before .before .before .before .before .loop .bound) (c .before .before .before .before .before .before .loop .masks) (c .before .before .before .before .before .before .loop .inv) (c .before .before .before .before .get .result) (omega (arith, length-words (c .before .before .before .before .before .before .before .before .before .before .args .s .now))) (c .before .before .before .before .get .ensures) ((c .before .before .before .before .before .before .loop .i) - (c .before .before .before .before .before .before .before .before .before .before .args .at)) refl (sym (c .before .before .before .kind .ensures) ∙ c .before .before .if1 .taken) (sym (c .before .payload .ensures) ∙ c .if2 .taken)
+
+-- src/table.rt:124:13
+returns-2 : tie.Need-returns-2 Inv-loop μ-loop
+returns-2 c = wrong-end (c .before .before .before .before .before .before .before .before .before .before .args .variables) (words (c .before .before .before .before .before .before .before .before .before .before .args .maxima .now)) (words (c .before .before .before .before .before .before .before .before .before .before .args .s .now)) (c .before .before .before .before .before .before .before .before .before .before .pre .0 .few) (c .before .before .before .before .before .before .before .before .before .before .args .at) (c .before .before .before .before .before .before .loop .i) (c .before .before .before .before .before .before .loop .bound) (c .before .before .before .before .before .before .loop .masks) (c .before .before .before .before .before .before .loop .inv) (c .before .before .before .before .get .result) (omega (arith, length-words (c .before .before .before .before .before .before .before .before .before .before .args .s .now))) (c .before .before .before .before .get .ensures) ((c .before .before .before .before .before .before .loop .i) - (c .before .before .before .before .before .before .before .before .before .before .args .at)) 0 refl (sym (c .before .before .before .kind .ensures) ∙ c .before .before .if1 .taken) (λ q. (c .if2 .left) (c .before .payload .ensures ∙ q))
+
+-- src/table.rt:126:13
+is-power-requires : tie.Need-is-power-requires Inv-loop μ-loop
+is-power-requires c κs = tt
+
+-- src/table.rt:127:13
+returns-3 : tie.Need-returns-3 Inv-loop μ-loop
+returns-3 c = no-power (c .before .before .before .before .before .before .before .before .before .before .args .variables) (words (c .before .before .before .before .before .before .before .before .before .before .args .maxima .now)) (words (c .before .before .before .before .before .before .before .before .before .before .args .s .now)) (c .before .before .before .before .before .before .before .before .before .before .pre .0 .few) (c .before .before .before .before .before .before .before .before .before .before .args .at) (c .before .before .before .before .before .before .loop .i) (c .before .before .before .before .before .before .loop .bound) (c .before .before .before .before .before .before .loop .masks) (c .before .before .before .before .before .before .loop .inv) (c .before .before .before .before .get .result) (omega (arith, length-words (c .before .before .before .before .before .before .before .before .before .before .args .s .now))) (c .before .before .before .before .get .ensures) 0 (λ q. (c .before .before .if1 .left) (c .before .before .before .kind .ensures ∙ q)) (sym (c .before .is-power .ensures) ∙ not-true _ (c .if3 .taken))
+
+-- src/table.rt:129:9
+id-requires : tie.Need-id-requires Inv-loop μ-loop
+id-requires c κs = tt
+
+-- src/table.rt:130:65
+power-requires : tie.Need-power-requires Inv-loop μ-loop
+power-requires c κs = tt
+
+-- src/table.rt:130:13
+look-up-requires : tie.Need-look-up-requires Inv-loop μ-loop
+look-up-requires c κs = (c .before .before .before .before .before .before .before .before .before .before .before .before .pre .0, (c .before .before .before .before .before .before .before .before .before .before .before .before .pre .1 .0, (c .before .before .before .before .before .before .before .before .before .before .before .before .pre .1 .1, rw (c .before .id .ensures, c .power .ensures) (known (c .before .before .before .before .before .before .before .before .before .before .before .before .args .variables) (words (c .before .before .before .before .before .before .before .before .before .before .before .before .args .maxima .now)) (words (c .before .before .before .before .before .before .before .before .before .before .before .before .args .s .now)) (c .before .before .before .before .before .before .before .before .before .before .before .before .pre .0 .few) (c .before .before .before .before .before .before .before .before .before .before .before .before .args .at) (c .before .before .before .before .before .before .before .before .loop .i) (c .before .before .before .before .before .before .before .before .loop .bound) (c .before .before .before .before .before .before .before .before .loop .masks) (c .before .before .before .before .before .before .before .before .loop .inv) (c .before .before .before .before .before .before .get .result) (omega (arith, length-words (c .before .before .before .before .before .before .before .before .before .before .before .before .args .s .now))) (c .before .before .before .before .before .before .get .ensures) (λ q. (c .before .before .before .before .if1 .left) (c .before .before .before .before .before .kind .ensures ∙ q)) (sym (c .before .before .before .is-power .ensures) ∙ not-false _ (c .before .before .if3 .left))))))
+
+-- src/table.rt:131:9
+wrapping-add-u64-requires : tie.Need-wrapping-add-u64-requires Inv-loop μ-loop
+wrapping-add-u64-requires c κs = tt
+
+-- src/table.rt:132:9
+add-i : tie.Need-add-i Inv-loop μ-loop
+add-i c = omega arith
+
+-- src/table.rt:114:5
+loop-less : tie.Need-loop-less Inv-loop μ-loop
+loop-less c = omega arith
+
+-- src/table.rt:114:5
+loop-again : tie.Need-loop-again Inv-loop μ-loop
+loop-again c = rw (c .before .before .before .id .ensures) (go-on (c .before .before .before .before .before .before .before .before .before .before .before .before .before .before .args .variables) (words (c .before .before .before .before .before .before .before .before .before .before .before .before .before .before .args .maxima .now)) (words (c .before .before .before .before .before .before .before .before .before .before .before .before .before .before .args .s .now)) (c .before .before .before .before .before .before .before .before .before .before .before .before .before .before .pre .0 .few) (c .before .before .before .before .before .before .before .before .before .before .before .before .before .before .args .at) (c .before .before .before .before .before .before .before .before .before .before .loop .i) (c .before .before .before .before .before .before .before .before .before .before .loop .bound) (c .before .before .before .before .before .before .before .before .before .before .loop .masks) (c .before .before .before .before .before .before .before .before .before .before .loop .inv) (c .before .before .before .before .before .before .before .before .get .result) (omega (arith, length-words (c .before .before .before .before .before .before .before .before .before .before .before .before .before .before .args .s .now))) (c .before .before .before .before .before .before .before .before .get .ensures) (λ q. (c .before .before .before .before .before .before .if1 .left) (c .before .before .before .before .before .before .before .kind .ensures ∙ q)) (sym (c .before .before .before .before .before .is-power .ensures) ∙ not-false _ (c .before .before .before .before .if3 .left)) (c .before .look-up .result) (c .wrapping-add-u64 .result) (rw (c .before .before .before .id .ensures, c .before .before .power .ensures) at (c .before .look-up .ensures)) (c .wrapping-add-u64 .ensures))
+
+-- src/table.rt:104:1
+returns-4 : tie.Need-returns-4 Inv-loop μ-loop
+returns-4 c = ran-out (c .before .before .before .before .before .args .variables) (words (c .before .before .before .before .before .args .maxima .now)) (words (c .before .before .before .before .before .args .s .now)) (c .before .before .before .before .before .pre .0 .few) (c .before .before .before .before .before .args .at) (c .before .loop .i) (c .before .loop .bound) (c .before .loop .masks) (c .before .loop .inv) (omega (arith, length-words (c .before .before .before .before .before .args .s .now))) 0
+
+pub judge-spec : {M : Type 1} → statement M
+judge-spec =
+    tie.close
+    (tie.spec
+    Inv-loop
+    μ-loop
+    loop-holds
+    get-requires
+    kind-requires
+    sub-n
+    payload-requires
+    cast-if2
+    add-t20
+    returns
+    returns-2
+    is-power-requires
+    returns-3
+    id-requires
+    power-requires
+    look-up-requires
+    wrapping-add-u64-requires
+    add-i
+    loop-less
+    loop-again
+    returns-4)

@@ -1,0 +1,59 @@
+use native.Mathlib.Omega.{arith}
+use mathlib.Core.Path.{_∙_}
+use borrow.Author.Needs.{needs}
+use Rattle.divmask.proofs.table.look_up.Statement.{statement}
+use Rattle.divmask.proofs.table.look_up.Tie as tie
+use Rattle.divmask.proofs.table.look_up.Reads as reads
+use Rattle.divmask.proofs.table.look_up.Lts as lts
+use Rattle.divmask.proofs.table.bits_at.Reads as bits-at-reads
+use Rattle.words.proofs.pairs.get.Reads as get-reads
+
+-- src/table.rt:76:9
+bits-at-requires : tie.Need-bits-at-requires
+bits-at-requires c κs = search needs
+
+-- src/table.rt:76:9
+returns : tie.Need-returns
+returns c = search needs
+
+-- src/table.rt:78:35
+mul-get : tie.Need-mul-get
+mul-get c = search needs
+
+-- src/table.rt:78:45
+sub-get : tie.Need-sub-get
+sub-get c = search needs
+
+-- src/table.rt:78:35
+add-get : tie.Need-add-get
+add-get c = search needs
+
+-- src/table.rt:78:34
+cast-get : tie.Need-cast-get
+cast-get c = search needs
+
+-- src/table.rt:78:30
+mul-get-2 : tie.Need-mul-get-2
+mul-get-2 c = search needs
+
+-- src/table.rt:78:5
+get-requires : tie.Need-get-requires
+get-requires c κs = search needs
+
+-- src/table.rt:68:1
+returns-2 : tie.Need-returns-2
+returns-2 c = c .get .ensures ∙ (c .before .before .before .before .pre .1 .1 .0 .has) (c .before .before .before .before .args .v) (c .before .before .before .before .args .power) (c .before .before .before .before .pre .1 .1 .1 .0) (c .before .before .before .before .pre .1 .1 .1 .1 .0) (omega arith)
+
+pub look-up-spec : {M : Type 1} → statement M
+look-up-spec =
+    tie.close
+    (tie.spec
+    bits-at-requires
+    returns
+    mul-get
+    sub-get
+    add-get
+    cast-get
+    mul-get-2
+    get-requires
+    returns-2)

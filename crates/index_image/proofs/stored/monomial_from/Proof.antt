@@ -1,0 +1,32 @@
+use mathlib.Core.Path.{refl}
+use Prim.Native.Nat.{_*_}
+use Rattle.index_image.proofs.Reading.{begins}
+use borrow.Author.Needs.{needs}
+use Rattle.index_image.proofs.stored.monomial_from.Statement.{statement}
+use Rattle.index_image.proofs.stored.monomial_from.Tie as tie
+use Rattle.index_image.proofs.stored.monomial_from.Reads as reads
+use Rattle.index_image.proofs.stored.monomial_from.Lts as lts
+
+-- src/stored.rt:32:13
+mul-a : tie.Need-mul-a
+mul-a c = search needs
+
+-- src/stored.rt:33:5
+sub-result : tie.Need-sub-result
+sub-result c = search needs
+
+-- src/stored.rt:33:5
+part-result-start : tie.Need-part-result-start
+part-result-start c = search needs
+
+-- src/stored.rt:33:5
+part-result-end : tie.Need-part-result-end
+part-result-end c = search needs
+
+-- src/stored.rt:27:1
+returns : tie.Need-returns
+returns c = begins (c .before .args .image .now) (c .before .args .s .variables) (c .before .args .g) (4 * (c .before .args .g)) refl (c .before .pre .0)
+
+pub monomial-from-spec : {M : Type 1} → statement M
+monomial-from-spec =
+    tie.close (tie.spec mul-a sub-result part-result-start part-result-end returns)

@@ -1,0 +1,94 @@
+use native.Mathlib.Omega.{arith}
+use mathlib.Core.Path.{_≡_}
+use Prim.Native.Nat.{ℕ, _+_, _-_, _<_, _≤_}
+use lib.ListN.{getD}
+use borrow.Author.Count.{below-more}
+use Rattle.words.proofs.Answers.{refuse, accept, failed, passed}
+use Rattle.words.specs.Words.{words}
+use Rattle.index_walk.specs.Tests.{Inside}
+use Rattle.index_image.specs.Shape as at
+use Rattle.index_image.proofs.Places.{place-room, place-fits}
+use Rattle.index_walk.proofs.Bounding.{bounded-part, not-bounded}
+use Rattle.index_walk.proofs.entries_ok.Statement.{statement}
+use Rattle.index_walk.proofs.entries_ok.Tie as tie
+use Rattle.index_walk.proofs.entries_ok.Reads as reads
+use Rattle.index_walk.proofs.entries_ok.Lts as lts
+use Rattle.index_image.proofs.Shape.permutation_at.Reads as permutation-at-reads
+use Rattle.index_walk.proofs.entry_ok.Reads as entry-ok-reads
+use Rattle.words.proofs.get.Reads as get-reads
+
+abbrev Inv-loop : tie.InvT-loop
+Inv-loop image s hi ll lh lo c p i₀ i = (i ≤ c) × ((k : ℕ) → k < i → Inside (words image) s (words hi) ll lh (getD (words image) (p + k) 0))
+
+abbrev μ-loop : tie.MeasureT-loop
+μ-loop image s hi ll lh lo c p i₀ i = c - i
+
+-- helpers
+-- end of helpers
+
+-- src/lib.rt:96:13
+permutation-at-requires : tie.Need-permutation-at-requires Inv-loop μ-loop
+permutation-at-requires c κs = c .before .before .pre .0 .range
+
+-- src/lib.rt:96:13
+add-p : tie.Need-add-p Inv-loop μ-loop
+add-p c = omega (arith, place-room (c .before .before .before .args .image .now) (c .before .before .before .args .s) (c .before .before .before .pre .0) ((c .before .before .before .args .lo) + (c .before .before .before .args .c)) (c .before .before .before .pre .1 .1), c .permutation-at .ensures)
+
+-- src/lib.rt:98:5
+loop-holds : tie.Need-loop-holds Inv-loop μ-loop
+loop-holds c = (omega arith, λ k h. absurd (omega arith))
+
+-- src/lib.rt:99:35
+add-get : tie.Need-add-get Inv-loop μ-loop
+add-get c = omega (arith, place-room (c .before .before .before .before .before .args .image .now) (c .before .before .before .before .before .args .s) (c .before .before .before .before .before .pre .0) ((c .before .before .before .before .before .args .lo) + (c .before .before .before .before .before .args .c)) (c .before .before .before .before .before .pre .1 .1), c .before .before .permutation-at .ensures)
+
+-- src/lib.rt:99:17
+get-requires : tie.Need-get-requires Inv-loop μ-loop
+get-requires c κs = omega (arith, place-room (c .before .before .before .before .before .args .image .now) (c .before .before .before .before .before .args .s) (c .before .before .before .before .before .pre .0) ((c .before .before .before .before .before .args .lo) + (c .before .before .before .before .before .args .c)) (c .before .before .before .before .before .pre .1 .1), c .before .before .permutation-at .ensures)
+
+-- src/lib.rt:99:17
+cast-e : tie.Need-cast-e Inv-loop μ-loop
+cast-e c = omega arith
+
+-- src/lib.rt:100:13
+entry-ok-requires : tie.Need-entry-ok-requires Inv-loop μ-loop
+entry-ok-requires c κs = (c .before .before .before .before .before .before .pre .0, (c .before .before .before .before .before .before .pre .1 .0, (let z : (c .before .before .before .permutation-at .result) + (c .before .before .before .before .before .before .args .lo) + (c .before .before .loop .i) ≡ at.permutationAt (c .before .before .before .before .before .before .args .s) + ((c .before .before .before .before .before .before .args .lo) + (c .before .before .loop .i)) = omega (arith, c .before .before .before .permutation-at .ensures) in rw (c .get .ensures, z) ((c .before .before .before .before .before .before .pre .0 .places) ((c .before .before .before .before .before .before .args .lo) + (c .before .before .loop .i)) (omega arith)))))
+
+-- src/lib.rt:101:13
+returns : tie.Need-returns Inv-loop μ-loop
+returns c = refuse (not-bounded (words (c .before .before .before .before .before .before .before .before .args .image .now)) (c .before .before .before .before .before .before .before .before .args .s) (words (c .before .before .before .before .before .before .before .before .args .hi .now)) (c .before .before .before .before .before .before .before .before .args .ll) (c .before .before .before .before .before .before .before .before .args .lh) (at.permutationAt (c .before .before .before .before .before .before .before .before .args .s) + (c .before .before .before .before .before .before .before .before .args .lo)) (c .before .before .before .before .before .before .before .before .args .c) (c .before .before .before .before .loop .i) (omega (arith, place-fits (words (c .before .before .before .before .before .before .before .before .args .image .now)) (c .before .before .before .before .before .before .before .before .args .s) (c .before .before .before .before .before .before .before .before .pre .0) ((c .before .before .before .before .before .before .before .before .args .lo) + (c .before .before .before .before .before .before .before .before .args .c)) (c .before .before .before .before .before .before .before .before .pre .1 .1))) (c .before .before .before .loop-test .taken) (λ h. failed (c .before .entry-ok .result) (c .before .entry-ok .ensures) (c .if1 .taken) (rw (c .before .before .get .ensures, c .before .before .before .before .before .permutation-at .ensures) h)))
+
+-- src/lib.rt:103:9
+add-i : tie.Need-add-i Inv-loop μ-loop
+add-i c = omega arith
+
+-- src/lib.rt:98:5
+loop-less : tie.Need-loop-less Inv-loop μ-loop
+loop-less c = omega arith
+
+-- src/lib.rt:98:5
+loop-again : tie.Need-loop-again Inv-loop μ-loop
+loop-again c = (omega arith, below-more _ _ (c .before .before .before .before .loop .inv .1) (rw (c .before .before .get .ensures) at (passed (c .before .entry-ok .result) (c .before .entry-ok .ensures) (c .if1 .left))))
+
+-- src/lib.rt:90:1
+returns-2 : tie.Need-returns-2 Inv-loop μ-loop
+returns-2 c = accept (bounded-part (words (c .before .before .before .before .before .args .image .now)) (c .before .before .before .before .before .args .s) (words (c .before .before .before .before .before .args .hi .now)) (c .before .before .before .before .before .args .ll) (c .before .before .before .before .before .args .lh) (at.permutationAt (c .before .before .before .before .before .args .s) + (c .before .before .before .before .before .args .lo)) (c .before .before .before .before .before .args .c) (omega (arith, place-fits (words (c .before .before .before .before .before .args .image .now)) (c .before .before .before .before .before .args .s) (c .before .before .before .before .before .pre .0) ((c .before .before .before .before .before .args .lo) + (c .before .before .before .before .before .args .c)) (c .before .before .before .before .before .pre .1 .1))) .1 (λ k h. rw (c .before .before .permutation-at .ensures) at ((c .before .loop .inv .1) k (omega arith))))
+
+pub entries-ok-spec : {M : Type 1} → statement M
+entries-ok-spec =
+    tie.close
+    (tie.spec
+    Inv-loop
+    μ-loop
+    permutation-at-requires
+    add-p
+    loop-holds
+    add-get
+    get-requires
+    cast-e
+    entry-ok-requires
+    returns
+    add-i
+    loop-less
+    loop-again
+    returns-2)

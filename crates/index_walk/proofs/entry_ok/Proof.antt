@@ -1,0 +1,65 @@
+use Rattle.words.proofs.Laws.{length-words}
+use native.Mathlib.Omega.{arith}
+use Rattle.words.specs.Words.{words}
+use Rattle.monomial.specs.Monomial.{first}
+use Rattle.index_image.proofs.Places.{entry-room}
+use Rattle.index_image.proofs.Reading.{lm-read}
+use Rattle.index_walk.proofs.Testing.{no-powers, no-labels, too-low, by-label}
+use borrow.Author.Needs.{needs}
+use Rattle.index_walk.proofs.entry_ok.Statement.{statement}
+use Rattle.index_walk.proofs.entry_ok.Tie as tie
+use Rattle.index_walk.proofs.entry_ok.Reads as reads
+use Rattle.index_walk.proofs.entry_ok.Lts as lts
+use Rattle.index_image.proofs.Shape.entry_at.Reads as entry-at-reads
+use Rattle.index_image.proofs.stored.label_in.Reads as label-in-reads
+use Rattle.index_image.proofs.stored.monomial_from.Reads as monomial-from-reads
+use Rattle.index_walk.proofs.powers_below.Reads as powers-below-reads
+
+-- src/lib.rt:75:36
+entry-at-requires : tie.Need-entry-at-requires
+entry-at-requires c κs = search needs
+
+-- src/lib.rt:75:9
+monomial-from-requires : tie.Need-monomial-from-requires
+monomial-from-requires c κs =
+    let o = c .before .before .before in
+    rw (c .entry-at .ensures) (o .pre .0 .lms (o .args .e) (o .pre .1 .1), omega (arith, entry-room (o .args .image .now) (o .args .s) (o .pre .0) (o .args .e) (o .pre .1 .1)))
+
+-- src/lib.rt:76:9
+powers-below-requires : tie.Need-powers-below-requires
+powers-below-requires c κs =
+    let o = c .before .before .before .before in
+    (o .pre .0 .range .vars-to, (c .monomial-from .ensures .starts, o .pre .1 .0))
+
+-- src/lib.rt:77:9
+returns : tie.Need-returns
+returns c = no-powers (words (c .before .before .before .before .before .before .args .image .now)) (c .before .before .before .before .before .before .args .s) (words (c .before .before .before .before .before .before .args .hi .now)) (c .before .before .before .before .before .before .args .ll) (c .before .before .before .before .before .before .args .lh) (c .before .before .before .before .before .before .args .e) (first 1 (words (c .before .before .monomial-from .result .now))) (c .before .powers-below .result) (lm-read (words (c .before .before .before .before .before .before .args .image .now)) (c .before .before .before .before .before .before .args .s) (c .before .before .before .before .before .before .args .e) (c .before .before .before .entry-at .result) (first 1 (words (c .before .before .monomial-from .result .now))) (c .before .before .before .entry-at .ensures) (c .before .before .monomial-from .ensures .is)) (c .before .powers-below .ensures) (c .if1 .taken)
+
+-- src/lib.rt:80:9
+returns-2 : tie.Need-returns-2
+returns-2 c = no-labels (words (c .before .before .before .before .before .before .before .before .args .image .now)) (c .before .before .before .before .before .before .before .before .args .s) (words (c .before .before .before .before .before .before .before .before .args .hi .now)) (c .before .before .before .before .before .before .before .before .args .ll) (c .before .before .before .before .before .before .before .before .args .lh) (c .before .before .before .before .before .before .before .before .args .e) (first 1 (words (c .before .before .before .before .monomial-from .result .now))) (c .before .before .before .powers-below .result) (lm-read (words (c .before .before .before .before .before .before .before .before .args .image .now)) (c .before .before .before .before .before .before .before .before .args .s) (c .before .before .before .before .before .before .before .before .args .e) (c .before .before .before .before .before .entry-at .result) (first 1 (words (c .before .before .before .before .monomial-from .result .now))) (c .before .before .before .before .before .entry-at .ensures) (c .before .before .before .before .monomial-from .ensures .is)) (c .before .before .before .powers-below .ensures) (c .before .before .if1 .left) (c .if2 .taken)
+
+-- src/lib.rt:82:9
+label-in-requires : tie.Need-label-in-requires
+label-in-requires c κs = (c .before .before .before .before .before .before .before .before .pre .0 .range, (omega (arith, c .before .before .before .before .before .before .before .before .pre .0 .room, length-words (c .before .before .before .before .before .before .before .before .args .image .now)), (((omega (arith, c .before .before .before .before .before .before .before .before .pre .0 .range .kind-to, c .if2 .left)), omega (arith, c .before .before .before .before .before .before .before .before .pre .0 .range .few, c .before .before .before .before .before .before .before .before .pre .1 .1)), (c .before .before .before .before .before .before .before .before .pre .0 .rows) (omega (arith, c .before .before .before .before .before .before .before .before .pre .0 .range .kind-to, c .if2 .left)) (c .before .before .before .before .before .before .before .before .args .e) (c .before .before .before .before .before .before .before .before .pre .1 .1))))
+
+-- src/lib.rt:84:9
+returns-3 : tie.Need-returns-3
+returns-3 c = too-low (words (c .before .before .before .before .before .before .before .before .before .before .args .image .now)) (c .before .before .before .before .before .before .before .before .before .before .args .s) (words (c .before .before .before .before .before .before .before .before .before .before .args .hi .now)) (c .before .before .before .before .before .before .before .before .before .before .args .ll) (c .before .before .before .before .before .before .before .before .before .before .args .lh) (c .before .before .before .before .before .before .before .before .before .before .args .e) (first 1 (words (c .before .before .before .before .before .before .monomial-from .result .now))) (c .before .before .before .before .before .powers-below .result) (lm-read (words (c .before .before .before .before .before .before .before .before .before .before .args .image .now)) (c .before .before .before .before .before .before .before .before .before .before .args .s) (c .before .before .before .before .before .before .before .before .before .before .args .e) (c .before .before .before .before .before .before .before .entry-at .result) (first 1 (words (c .before .before .before .before .before .before .monomial-from .result .now))) (c .before .before .before .before .before .before .before .entry-at .ensures) (c .before .before .before .before .before .before .monomial-from .ensures .is)) (c .before .before .before .before .before .powers-below .ensures) (omega (arith, c .before .before .before .before .before .before .before .before .before .before .pre .0 .range .kind-to, c .before .before .if2 .left)) (c .before .label-in .result) (c .before .label-in .ensures) (c .if3 .taken)
+
+-- src/lib.rt:69:1
+returns-4 : tie.Need-returns-4
+returns-4 c = by-label (words (c .before .before .before .before .before .before .before .before .before .before .args .image .now)) (c .before .before .before .before .before .before .before .before .before .before .args .s) (words (c .before .before .before .before .before .before .before .before .before .before .args .hi .now)) (c .before .before .before .before .before .before .before .before .before .before .args .ll) (c .before .before .before .before .before .before .before .before .before .before .args .lh) (c .before .before .before .before .before .before .before .before .before .before .args .e) (first 1 (words (c .before .before .before .before .before .before .monomial-from .result .now))) (c .before .before .before .before .before .powers-below .result) (lm-read (words (c .before .before .before .before .before .before .before .before .before .before .args .image .now)) (c .before .before .before .before .before .before .before .before .before .before .args .s) (c .before .before .before .before .before .before .before .before .before .before .args .e) (c .before .before .before .before .before .before .before .entry-at .result) (first 1 (words (c .before .before .before .before .before .before .monomial-from .result .now))) (c .before .before .before .before .before .before .before .entry-at .ensures) (c .before .before .before .before .before .before .monomial-from .ensures .is)) (c .before .before .before .before .before .powers-below .ensures) (omega (arith, c .before .before .before .before .before .before .before .before .before .before .pre .0 .range .kind-to, c .before .before .if2 .left)) (c .before .label-in .result) (c .before .label-in .ensures) (c .before .before .before .before .if1 .left) (c .if3 .left)
+
+pub entry-ok-spec : {M : Type 1} → statement M
+entry-ok-spec =
+    tie.close
+    (tie.spec
+    entry-at-requires
+    monomial-from-requires
+    powers-below-requires
+    returns
+    returns-2
+    label-in-requires
+    returns-3
+    returns-4)

@@ -1,0 +1,80 @@
+use native.Mathlib.Omega.{arith}
+use mathlib.Core.Path.{sym, _∙_}
+use borrow.Author.Tests.{lt-ltb, ltb-true, le-leb, leb-true}
+use borrow.Author.Needs.{needs}
+use Rattle.words.proofs.Answers.{refuse}
+use Rattle.index_walk.proofs.key_ok.Statement.{statement}
+use Rattle.index_walk.proofs.key_ok.Tie as tie
+use Rattle.index_walk.proofs.key_ok.Reads as reads
+use Rattle.index_walk.proofs.key_ok.Lts as lts
+use Rattle.words.proofs.get.Reads as get-reads
+
+-- src/lib.rt:219:26
+add-get : tie.Need-add-get
+add-get c = search needs
+
+-- src/lib.rt:219:8
+get-requires : tie.Need-get-requires
+get-requires c κs = search needs
+
+-- src/lib.rt:220:9
+returns : tie.Need-returns
+returns c = refuse (λ h. omega (arith, h .two, c .before .get .ensures, c .if1 .taken))
+
+-- src/lib.rt:222:15
+get-requires-2 : tie.Need-get-requires-2
+get-requires-2 c κs = search needs
+
+-- src/lib.rt:222:15
+cast-tag : tie.Need-cast-tag
+cast-tag c = search needs
+
+-- src/lib.rt:224:9
+returns-2 : tie.Need-returns-2
+returns-2 c = refuse (λ h. omega (arith, h .from, c .before .get2 .ensures, c .if2 .taken))
+
+-- src/lib.rt:226:8
+add-if3 : tie.Need-add-if3
+add-if3 c = search needs
+
+-- src/lib.rt:227:9
+returns-3 : tie.Need-returns-3
+returns-3 c = refuse (λ h. omega (arith, h .to, c .before .before .before .get2 .ensures, c .if3 .taken))
+
+-- src/lib.rt:229:33
+add-get-2 : tie.Need-add-get-2
+add-get-2 c = search needs
+
+-- src/lib.rt:229:15
+get-requires-3 : tie.Need-get-requires-3
+get-requires-3 c κs = search needs
+
+-- src/lib.rt:229:15
+cast-key : tie.Need-cast-key
+cast-key c = search needs
+
+-- src/lib.rt:231:9
+returns-4 : tie.Need-returns-4
+returns-4 c = (λ z. record { two = omega (arith, c .before .before .before .before .before .before .before .before .before .get .ensures, c .before .before .before .before .before .before .before .before .if1 .left); from = omega (arith, c .before .before .before .before .before .before .before .get2 .ensures, c .before .before .before .before .before .before .if2 .left); to = omega (arith, c .before .before .before .before .before .before .before .get2 .ensures, c .before .before .before .before .if3 .left); ratio = λ e. omega (arith, ltb-true (c .before .before .before .get3 .result) (c .before .before .before .before .before .before .before .before .before .before .before .args .s .entries) z, c .before .before .before .get3 .ensures); variable = λ n. absurd (n (sym (c .before .before .before .before .before .before .before .get2 .ensures) ∙ c .before .if4 .taken)) }, λ h. lt-ltb (c .before .before .before .get3 .result) (c .before .before .before .before .before .before .before .before .before .before .before .args .s .entries) (omega (arith, h .ratio (sym (c .before .before .before .before .before .before .before .get2 .ensures) ∙ c .before .if4 .taken), c .before .before .before .get3 .ensures)))
+
+-- src/lib.rt:214:1
+returns-5 : tie.Need-returns-5
+returns-5 c = (λ z. record { two = omega (arith, c .before .before .before .before .before .before .before .before .get .ensures, c .before .before .before .before .before .before .before .if1 .left); from = omega (arith, c .before .before .before .before .before .before .get2 .ensures, c .before .before .before .before .before .if2 .left); to = omega (arith, c .before .before .before .before .before .before .get2 .ensures, c .before .before .before .if3 .left); ratio = λ e. absurd ((c .if4 .left) (c .before .before .before .before .before .before .get2 .ensures ∙ e)); variable = λ n. omega (arith, leb-true 1 (c .before .before .get3 .result) z, c .before .before .get3 .ensures) }, λ h. le-leb 1 (c .before .before .get3 .result) (omega (arith, h .variable (λ e. (c .if4 .left) (c .before .before .before .before .before .before .get2 .ensures ∙ e)), c .before .before .get3 .ensures)))
+
+pub key-ok-spec : {M : Type 1} → statement M
+key-ok-spec =
+    tie.close
+    (tie.spec
+    add-get
+    get-requires
+    returns
+    get-requires-2
+    cast-tag
+    returns-2
+    add-if3
+    returns-3
+    add-get-2
+    get-requires-3
+    cast-key
+    returns-4
+    returns-5)

@@ -1,0 +1,56 @@
+use Rattle.index_image.specs.Walk.{power}
+use native.Mathlib.Omega.{arith}
+use mathlib.Core.Path.{sym, _∙_}
+use Prim.Native.Nat.{_*_}
+use lib.Seq.{length-take-le}
+use Rattle.words.specs.Words.{words}
+use Rattle.index_image.specs.Rows.{entriesFrom}
+use Rattle.index_image.proofs.Gcds.{gcd-canonical, image-powers}
+use Rattle.index_image.proofs.Reading.{front-words}
+use borrow.Author.Needs.{needs}
+use Rattle.index_walk.proofs.leaf_gcd_ok.Statement.{statement}
+use Rattle.index_walk.proofs.leaf_gcd_ok.Tie as tie
+use Rattle.index_walk.proofs.leaf_gcd_ok.Reads as reads
+use Rattle.index_walk.proofs.leaf_gcd_ok.Lts as lts
+use Rattle.index_image.proofs.stored.gcd_of.Reads as gcd-of-reads
+use Rattle.index_walk.proofs.node_ok.Reads as node-ok-reads
+
+-- src/lib.rt:180:41
+slice-aggregate-gcd-of : tie.Need-slice-aggregate-gcd-of
+slice-aggregate-gcd-of c = search needs
+
+-- src/lib.rt:180:17
+gcd-of-requires : tie.Need-gcd-of-requires
+gcd-of-requires c κs = search needs
+
+-- src/lib.rt:180:13
+mul-e : tie.Need-mul-e
+mul-e c = omega (arith, c .before .gcd-of .ensures .0)
+
+-- src/lib.rt:181:27
+array-share-prefix-acc : tie.Need-array-share-prefix-acc
+array-share-prefix-acc c = omega (arith, c .before .gcd-of .ensures .0, c .before .gcd-of .kept .1 .1 .1 .1 .0)
+
+-- src/lib.rt:181:27
+slice-aggregate-node-ok : tie.Need-slice-aggregate-node-ok
+slice-aggregate-node-ok c = sym (length-take-le (4 * (c .before .before .gcd-of .result)) (c .before .before .gcd-of .last .1 .1 .1 .1 .0) (omega (arith, c .before .before .gcd-of .ensures .0, c .before .before .gcd-of .kept .1 .1 .1 .1 .0)))
+
+-- src/lib.rt:181:5
+node-ok-requires : tie.Need-node-ok-requires
+node-ok-requires c κs = (c .before .before .before .before .before .pre .0, (c .before .before .before .before .before .pre .1 .0, rw (front-words (c .before .before .gcd-of .last .1 .1 .1 .1 .0) (c .before .before .gcd-of .result) ∙ c .before .before .gcd-of .ensures .1) (gcd-canonical (c .before .before .before .before .before .args .s .variables) (power (words (c .before .before .before .before .before .args .image .now)) (c .before .before .before .before .before .args .s)) (image-powers (words (c .before .before .before .before .before .args .image .now)) (c .before .before .before .before .before .args .s) (c .before .before .before .before .before .pre .0 .range .vars-to)) (entriesFrom (words (c .before .before .before .before .before .args .image .now)) (c .before .before .before .before .before .args .s) (c .before .before .before .before .before .args .lo) (c .before .before .before .before .before .args .c)))))
+
+-- src/lib.rt:173:1
+returns : tie.Need-returns
+returns c = rw (front-words (c .before .before .before .gcd-of .last .1 .1 .1 .1 .0) (c .before .before .before .gcd-of .result) ∙ c .before .before .before .gcd-of .ensures .1) at (c .node-ok .ensures)
+
+pub leaf-gcd-ok-spec : {M : Type 1} → statement M
+leaf-gcd-ok-spec =
+    tie.close
+    (tie.spec
+    slice-aggregate-gcd-of
+    gcd-of-requires
+    mul-e
+    array-share-prefix-acc
+    slice-aggregate-node-ok
+    node-ok-requires
+    returns)

@@ -1,0 +1,69 @@
+use native.Mathlib.Omega.{arith}
+use mathlib.Core.Path.{sym, _∙_}
+use Rattle.words.specs.Words.{words}
+use Rattle.words.proofs.Tables.{never}
+use Rattle.index_image.proofs.Places.{node-room}
+use Rattle.index_walk.proofs.Walks.{not-one, too-many, a-leaf, no-leaf}
+use borrow.Author.Needs.{needs}
+use Rattle.index_walk.proofs.one_row.Statement.{statement}
+use Rattle.index_walk.proofs.one_row.Tie as tie
+use Rattle.index_walk.proofs.one_row.Reads as reads
+use Rattle.index_walk.proofs.one_row.Lts as lts
+use Rattle.index_image.proofs.Shape.node_at.Reads as node-at-reads
+use Rattle.index_walk.proofs.leaf_ok.Reads as leaf-ok-reads
+use Rattle.words.proofs.get.Reads as get-reads
+
+-- src/lib.rt:461:9
+node-at-requires : tie.Need-node-at-requires
+node-at-requires c κs = search needs
+
+-- src/lib.rt:462:8
+get-requires : tie.Need-get-requires
+get-requires c κs = omega (arith, c .node-at .ensures, node-room (c .before .before .before .args .image .now) (c .before .before .before .args .s) (c .before .before .before .pre .0) 0 (omega (arith, c .before .before .before .pre .1 .1)))
+
+-- src/lib.rt:463:9
+returns : tie.Need-returns
+returns c = not-one (words (c .before .before .before .before .before .args .image .now)) (c .before .before .before .before .before .args .s) (c .before .before .before .before .before .pre .0) (words (c .before .before .before .before .before .args .hi .now)) 0 4294967296 0 0 (c .before .before .before .before .before .args .s .entries) (omega arith) (omega (arith, c .before .before .before .before .before .pre .1 .1)) (omega (arith, c .before .before .before .before .before .pre .1 .1)) (c .before .get .result) (rw (c .before .before .node-at .ensures) at (c .before .get .ensures)) (c .if1 .taken)
+
+-- src/lib.rt:465:31
+add-get : tie.Need-add-get
+add-get c = omega (arith, c .before .before .node-at .ensures, node-room (c .before .before .before .before .before .args .image .now) (c .before .before .before .before .before .args .s) (c .before .before .before .before .before .pre .0) 0 (omega (arith, c .before .before .before .before .before .pre .1 .1)))
+
+-- src/lib.rt:465:13
+get-requires-2 : tie.Need-get-requires-2
+get-requires-2 c κs = omega (arith, c .before .before .node-at .ensures, node-room (c .before .before .before .before .before .args .image .now) (c .before .before .before .before .before .args .s) (c .before .before .before .before .before .pre .0) 0 (omega (arith, c .before .before .before .before .before .pre .1 .1)))
+
+-- src/lib.rt:465:13
+cast-c : tie.Need-cast-c
+cast-c c = search needs
+
+-- src/lib.rt:467:9
+returns-2 : tie.Need-returns-2
+returns-2 c = too-many (words (c .before .before .before .before .before .before .before .before .args .image .now)) (c .before .before .before .before .before .before .before .before .args .s) (c .before .before .before .before .before .before .before .before .pre .0) (words (c .before .before .before .before .before .before .before .before .args .hi .now)) 0 4294967296 0 0 (c .before .before .before .before .before .before .before .before .args .s .entries) (omega arith) (c .before .before .get2 .result) (rw (c .before .before .before .before .before .node-at .ensures) at (c .before .before .get2 .ensures)) (omega (arith, c .if2 .taken))
+
+-- src/lib.rt:469:8
+leaf-ok-requires : tie.Need-leaf-ok-requires
+leaf-ok-requires c κs = (c .before .before .before .before .before .before .before .before .pre .0, (c .before .before .before .before .before .before .before .before .pre .1 .0, (omega (arith, c .before .before .before .before .before .node-at .ensures, node-room (c .before .before .before .before .before .before .before .before .args .image .now) (c .before .before .before .before .before .before .before .before .args .s) (c .before .before .before .before .before .before .before .before .pre .0) 0 (omega (arith, c .before .before .before .before .before .before .before .before .pre .1 .1))), omega (arith, c .if2 .left))))
+
+-- src/lib.rt:470:9
+returns-3 : tie.Need-returns-3
+returns-3 c = a-leaf (words (c .before .before .before .before .before .before .before .before .before .before .args .image .now)) (c .before .before .before .before .before .before .before .before .before .before .args .s) (c .before .before .before .before .before .before .before .before .before .before .pre .0) (words (c .before .before .before .before .before .before .before .before .before .before .args .hi .now)) 0 4294967296 0 0 (c .before .before .before .before .before .before .before .before .before .before .args .s .entries) (omega arith) (c .before .before .before .before .get2 .result) (rw (c .before .before .before .before .before .before .before .node-at .ensures) at (c .before .before .before .before .get2 .ensures)) (omega (arith, c .before .before .before .before .before .before .before .before .before .before .pre .1 .1)) (omega (arith, c .before .before .if2 .left)) (c .before .before .before .before .before .before .get .result) (rw (c .before .before .before .before .before .before .before .node-at .ensures) at (c .before .before .before .before .before .before .get .ensures)) (c .before .before .before .before .before .if1 .left) (rw (c .before .before .before .before .before .before .before .node-at .ensures) at ((c .before .leaf-ok .ensures .0) (c .if3 .taken)))
+
+-- src/lib.rt:455:1
+returns-4 : tie.Need-returns-4
+returns-4 c = no-leaf (words (c .before .before .before .before .before .before .before .before .before .before .args .image .now)) (c .before .before .before .before .before .before .before .before .before .before .args .s) (c .before .before .before .before .before .before .before .before .before .before .pre .0) (words (c .before .before .before .before .before .before .before .before .before .before .args .hi .now)) 0 4294967296 0 0 (c .before .before .before .before .before .before .before .before .before .before .args .s .entries) (omega arith) (c .before .before .before .before .get2 .result) (rw (c .before .before .before .before .before .before .before .node-at .ensures) at (c .before .before .before .before .get2 .ensures)) (omega (arith, c .before .before .before .before .before .before .before .before .before .before .pre .1 .1)) (omega (arith, c .before .before .if2 .left)) (c .before .before .before .before .before .before .get .result) (rw (c .before .before .before .before .before .before .before .node-at .ensures) at (c .before .before .before .before .before .before .get .ensures)) (c .before .before .before .before .before .if1 .left) (λ o. never (sym (c .if3 .left) ∙ (c .before .leaf-ok .ensures .1) (rw (c .before .before .before .before .before .before .before .node-at .ensures) o)))
+
+pub one-row-spec : {M : Type 1} → statement M
+one-row-spec =
+    tie.close
+    (tie.spec
+    node-at-requires
+    get-requires
+    returns
+    add-get
+    get-requires-2
+    cast-c
+    returns-2
+    leaf-ok-requires
+    returns-3
+    returns-4)

@@ -1,0 +1,79 @@
+use native.Mathlib.Omega.{arith}
+use Prim.Native.Nat.{_+_}
+use Rattle.words.specs.Words.{words}
+use Rattle.index_walk.proofs.Testing.{other-answer}
+use Rattle.index_image.proofs.Gcds.{in-canonical}
+use Rattle.monomial.proofs.Firsts.{starts-wide, starts-whole, first-whole}
+use borrow.Author.Needs.{needs}
+use Rattle.index_walk.proofs.other_ok.Statement.{statement}
+use Rattle.index_walk.proofs.other_ok.Tie as tie
+use Rattle.index_walk.proofs.other_ok.Reads as reads
+use Rattle.index_walk.proofs.other_ok.Lts as lts
+use Rattle.index_image.proofs.stored.monomial_in.Reads as monomial-in-reads
+use Rattle.monomial.proofs.power_of.Reads as power-of-reads
+use Rattle.words.proofs.get.Reads as get-reads
+
+-- src/lib.rt:304:15
+get-requires : tie.Need-get-requires
+get-requires c κs = search needs
+
+-- src/lib.rt:304:15
+cast-tag : tie.Need-cast-tag
+cast-tag c = search needs
+
+-- src/lib.rt:306:9
+returns : tie.Need-returns
+returns c = search needs
+
+-- src/lib.rt:308:13
+sub-v : tie.Need-sub-v
+sub-v c = search needs
+
+-- src/lib.rt:308:13
+sub-v-2 : tie.Need-sub-v-2
+sub-v-2 c = search needs
+
+-- src/lib.rt:309:54
+add-monomial-in : tie.Need-add-monomial-in
+add-monomial-in c = search needs
+
+-- src/lib.rt:309:32
+monomial-in-requires : tie.Need-monomial-in-requires
+monomial-in-requires c κs = search needs
+
+-- src/lib.rt:309:65
+cast-power-of : tie.Need-cast-power-of
+cast-power-of c = search needs
+
+-- src/lib.rt:309:9
+power-of-requires : tie.Need-power-of-requires
+power-of-requires c κs = ((omega arith, (omega arith, omega (arith, c .before .before .before .before .get .ensures, c .before .before .before .before .before .before .pre .1 .1 .0 .to, c .before .before .before .before .before .before .pre .0 .vars-to))), rw (c .monomial-in .ensures .is) (starts-wide (starts-whole (in-canonical (words (c .before .before .before .before .before .before .args .image .now)) (c .before .before .before .before .before .before .args .s .variables) ((c .before .before .before .before .before .before .args .b) + 5) (c .before .before .before .before .before .before .pre .1 .1 .1 .0 .one)))))
+
+-- src/lib.rt:310:23
+add-get : tie.Need-add-get
+add-get c = search needs
+
+-- src/lib.rt:310:5
+get-requires-2 : tie.Need-get-requires-2
+get-requires-2 c κs = search needs
+
+-- src/lib.rt:296:1
+returns-2 : tie.Need-returns-2
+returns-2 c = other-answer (words (c .before .before .before .before .before .before .before .before .args .image .now)) (c .before .before .before .before .before .before .before .before .args .s) (c .before .before .before .before .before .before .before .before .args .at) (c .before .before .before .before .before .before .before .before .args .b) (c .before .before .before .before .before .before .get .result) (c .get2 .result) (c .before .power-of .result) (c .before .before .before .before .before .before .get .ensures) (c .get2 .ensures) (c .before .before .before .before .if1 .left) (rw (c .before .before .monomial-in .ensures .is, first-whole (in-canonical (words (c .before .before .before .before .before .before .before .before .args .image .now)) (c .before .before .before .before .before .before .before .before .args .s .variables) ((c .before .before .before .before .before .before .before .before .args .b) + 5) (c .before .before .before .before .before .before .before .before .pre .1 .1 .1 .0 .one))) at (c .before .power-of .ensures))
+
+pub other-ok-spec : {M : Type 1} → statement M
+other-ok-spec =
+    tie.close
+    (tie.spec
+    get-requires
+    cast-tag
+    returns
+    sub-v
+    sub-v-2
+    add-monomial-in
+    monomial-in-requires
+    cast-power-of
+    power-of-requires
+    add-get
+    get-requires-2
+    returns-2)

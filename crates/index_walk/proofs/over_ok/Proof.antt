@@ -1,0 +1,55 @@
+use native.Mathlib.Omega.{arith}
+use Prim.Native.Nat.{_+_}
+use Rattle.index_image.proofs.Places.{node-room}
+use borrow.Author.Needs.{needs}
+use Rattle.index_walk.proofs.over_ok.Statement.{statement}
+use Rattle.index_walk.proofs.over_ok.Tie as tie
+use Rattle.index_walk.proofs.over_ok.Reads as reads
+use Rattle.index_walk.proofs.over_ok.Lts as lts
+use Rattle.index_image.proofs.Shape.node_at.Reads as node-at-reads
+use Rattle.index_walk.proofs.branch_ok.Reads as branch-ok-reads
+
+-- src/lib.rt:362:9
+node-at-requires : tie.Need-node-at-requires
+node-at-requires c κs = (c .before .pre .0 .range, omega (arith, c .before .pre .1 .0, c .before .pre .0 .range .nodes-to, c .before .pre .0 .range .cap-to))
+
+-- src/lib.rt:363:19
+add-node-at : tie.Need-add-node-at
+add-node-at c = search needs
+
+-- src/lib.rt:363:9
+node-at-requires-2 : tie.Need-node-at-requires-2
+node-at-requires-2 c κs = (c .before .before .pre .0 .range, omega (arith, c .before .before .pre .1 .0, c .before .before .pre .0 .range .nodes-to, c .before .before .pre .0 .range .cap-to))
+
+-- src/lib.rt:364:19
+add-node-at-2 : tie.Need-add-node-at-2
+add-node-at-2 c = search needs
+
+-- src/lib.rt:364:19
+add-node-at-3 : tie.Need-add-node-at-3
+add-node-at-3 c = search needs
+
+-- src/lib.rt:364:9
+node-at-requires-3 : tie.Need-node-at-requires-3
+node-at-requires-3 c κs = (c .before .before .before .pre .0 .range, omega (arith, c .before .before .before .pre .1 .0, c .before .before .before .pre .0 .range .nodes-to, c .before .before .before .pre .0 .range .cap-to))
+
+-- src/lib.rt:359:5
+branch-ok-requires : tie.Need-branch-ok-requires
+branch-ok-requires c κs = (c .before .before .before .before .pre .0, (omega (arith, node-room (c .before .before .before .before .args .image .now) (c .before .before .before .before .args .s) (c .before .before .before .before .pre .0) (c .before .before .before .before .args .k) (omega (arith, c .before .before .before .before .pre .1 .0)), c .before .before .node-at .ensures), ((omega (arith, node-room (c .before .before .before .before .args .image .now) (c .before .before .before .before .args .s) (c .before .before .before .before .pre .0) ((c .before .before .before .before .args .k) + 1) (omega (arith, c .before .before .before .before .pre .1 .0)), c .before .node-at2 .ensures), omega (arith, node-room (c .before .before .before .before .args .image .now) (c .before .before .before .before .args .s) (c .before .before .before .before .pre .0) ((c .before .before .before .before .args .k) + 1 + (c .before .before .before .before .args .t)) (omega (arith, c .before .before .before .before .pre .1 .0)), c .node-at3 .ensures)), rw (c .before .before .node-at .ensures, c .before .node-at2 .ensures, c .node-at3 .ensures) (c .before .before .before .before .pre .1 .1))))
+
+-- src/lib.rt:352:1
+returns : tie.Need-returns
+returns c = rw (c .before .before .before .node-at .ensures, c .before .before .node-at2 .ensures, c .before .node-at3 .ensures) at (c .branch-ok .ensures)
+
+pub over-ok-spec : {M : Type 1} → statement M
+over-ok-spec =
+    tie.close
+    (tie.spec
+    node-at-requires
+    add-node-at
+    node-at-requires-2
+    add-node-at-2
+    add-node-at-3
+    node-at-requires-3
+    branch-ok-requires
+    returns)

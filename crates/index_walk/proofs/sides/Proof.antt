@@ -1,0 +1,110 @@
+use Prim.Native.Nat.{_<_}
+use native.Mathlib.Omega.{arith}
+use mathlib.Core.Path.{sym, _∙_}
+use Rattle.words.specs.Words.{words}
+use Rattle.words.proofs.Laws.{length-words}
+use Rattle.index_walk.proofs.Limiting.{cut-ratio, cut-variable}
+use borrow.Author.Needs.{needs}
+use Rattle.index_walk.proofs.sides.Statement.{statement}
+use Rattle.index_walk.proofs.sides.Tie as tie
+use Rattle.index_walk.proofs.sides.Reads as reads
+use Rattle.index_walk.proofs.sides.Lts as lts
+use Rattle.index_walk.proofs.greater.Reads as greater-reads
+use Rattle.index_image.proofs.stored.label_in.Reads as label-in-reads
+use Rattle.index_walk.proofs.lesser.Reads as lesser-reads
+use Rattle.words.proofs.get.Reads as get-reads
+
+-- src/lib.rt:256:15
+get-requires : tie.Need-get-requires
+get-requires c κs = search needs
+
+-- src/lib.rt:256:15
+cast-tag : tie.Need-cast-tag
+cast-tag c = search needs
+
+-- src/lib.rt:257:33
+add-get : tie.Need-add-get
+add-get c = search needs
+
+-- src/lib.rt:257:9
+get-requires-2 : tie.Need-get-requires-2
+get-requires-2 c κs = search needs
+
+-- src/lib.rt:259:36
+cast-label-in : tie.Need-cast-label-in
+cast-label-in c = search needs
+
+-- src/lib.rt:259:13
+label-in-requires : tie.Need-label-in-requires
+label-in-requires c κs = let z : (c .before .before .get2 .result) < (c .before .before .before .before .before .before .args .s .entries) = rw (c .before .before .get2 .ensures) ((c .before .before .before .before .before .before .pre .1 .1 .1 .ratio) (sym (c .before .before .before .get .ensures) ∙ c .if1 .taken)) in (c .before .before .before .before .before .before .pre .0 .range, (omega (arith, c .before .before .before .before .before .before .pre .0 .room, length-words (c .before .before .before .before .before .before .args .image .now)), (((omega (arith, c .before .before .before .before .before .before .pre .1 .1 .1 .from, c .before .before .before .before .before .before .pre .0 .range .kind-to, c .before .before .before .get .ensures, c .if1 .taken)), omega (arith, c .before .before .before .before .before .before .pre .0 .range .few, z)), (c .before .before .before .before .before .before .pre .0 .rows) (omega (arith, c .before .before .before .before .before .before .pre .1 .1 .1 .from, c .before .before .before .before .before .before .pre .0 .range .kind-to, c .before .before .before .get .ensures, c .if1 .taken)) (c .before .before .get2 .result) z)))
+
+-- src/lib.rt:262:20
+get-requires-3 : tie.Need-get-requires-3
+get-requires-3 c κs = search needs
+
+-- src/lib.rt:263:19
+lesser-requires : tie.Need-lesser-requires
+lesser-requires c κs = search needs
+
+-- src/lib.rt:264:20
+greater-requires : tie.Need-greater-requires
+greater-requires c κs = search needs
+
+-- src/lib.rt:260:9
+returns : tie.Need-returns
+returns c = cut-ratio (words (c .before .before .before .before .before .before .before .before .before .before .args .image .now)) (c .before .before .before .before .before .before .before .before .before .before .args .s) (words (c .before .before .before .before .before .before .before .before .before .before .args .hi .now)) (c .before .before .before .before .before .before .before .before .before .before .args .ll) (c .before .before .before .before .before .before .before .before .before .before .args .lh) (c .before .before .before .before .before .before .before .before .before .before .args .at) (c .before .before .before .before .before .before .before .before .before .before .pre .0 .range) (omega (arith, length-words (c .before .before .before .before .before .before .before .before .before .before .args .hi .now), c .before .before .before .before .before .before .before .before .before .before .pre .1 .0 .one-each)) (c .before .before .before .before .before .before .before .before .before .before .pre .1 .0 .some) (c .before .before .before .before .before .before .before .before .before .before .pre .1 .1 .1) (c .before .before .before .before .before .before .before .get .result) (c .before .before .before .before .before .before .before .get .ensures) (c .before .before .before .before .if1 .taken) (c .before .before .before .before .before .before .get2 .result) (c .before .before .before .label-in .result) (c .before .before .get3 .result) (c .before .lesser .result) (c .greater .result) (c .before .before .before .before .before .before .get2 .ensures) (c .before .before .before .label-in .ensures) (c .before .before .get3 .ensures) (omega (arith, c .before .before .get3 .ok)) (c .before .lesser .ensures) (c .greater .ensures)
+
+-- src/lib.rt:267:13
+sub-v : tie.Need-sub-v
+sub-v c = search needs
+
+-- src/lib.rt:267:13
+sub-v-2 : tie.Need-sub-v-2
+sub-v-2 c = search needs
+
+-- src/lib.rt:268:20
+cast-lesser : tie.Need-cast-lesser
+cast-lesser c = search needs
+
+-- src/lib.rt:268:32
+get-requires-4 : tie.Need-get-requires-4
+get-requires-4 c κs = search needs
+
+-- src/lib.rt:268:32
+cast-lesser-2 : tie.Need-cast-lesser-2
+cast-lesser-2 c = search needs
+
+-- src/lib.rt:268:13
+lesser-requires-2 : tie.Need-lesser-requires-2
+lesser-requires-2 c κs = search needs
+
+-- src/lib.rt:268:13
+cast-x : tie.Need-cast-x
+cast-x c = search needs
+
+-- src/lib.rt:249:1
+returns-2 : tie.Need-returns-2
+returns-2 c = cut-variable (words (c .before .before .before .before .before .before .before .before .before .args .image .now)) (c .before .before .before .before .before .before .before .before .before .args .s) (words (c .before .before .before .before .before .before .before .before .before .args .hi .now)) (c .before .before .before .before .before .before .before .before .before .args .ll) (c .before .before .before .before .before .before .before .before .before .args .lh) (c .before .before .before .before .before .before .before .before .before .args .at) (c .before .before .before .before .before .before .before .before .before .pre .0 .range) (omega (arith, length-words (c .before .before .before .before .before .before .before .before .before .args .hi .now), c .before .before .before .before .before .before .before .before .before .pre .1 .0 .one-each)) (c .before .before .before .before .before .before .before .before .before .pre .1 .0 .some) (c .before .before .before .before .before .before .before .before .before .pre .1 .1 .1) (c .before .before .before .before .before .before .get .result) (c .before .before .before .before .before .before .get .ensures) (c .before .before .before .if1 .left) (c .before .before .before .before .before .get2 .result) (c .lesser2 .result) (c .before .before .before .before .before .get2 .ensures) (omega (arith, c .before .before .before .before .before .get2 .ok)) (rw (c .before .get4 .ensures) at (c .lesser2 .ensures))
+
+pub sides-spec : {M : Type 1} → statement M
+sides-spec =
+    tie.close
+    (tie.spec
+    get-requires
+    cast-tag
+    add-get
+    get-requires-2
+    cast-label-in
+    label-in-requires
+    get-requires-3
+    lesser-requires
+    greater-requires
+    returns
+    sub-v
+    sub-v-2
+    cast-lesser
+    get-requires-4
+    cast-lesser-2
+    lesser-requires-2
+    cast-x
+    returns-2)

@@ -1,0 +1,26 @@
+-- What the walk over the node rows decides. Assumes nothing.
+use mathlib.Core.Path.{_≡_}
+use mathlib.Core.List.{List}
+use Prim.Native.Nat.{ℕ, _+_, _≤_, _<_}
+use lib.ListN.{length, getD}
+use Rattle.kd_theory.specs.Bag.{_∈_}
+use Rattle.kd_theory.specs.Tree.{Tree, inorder, nodes}
+use Rattle.index_image.specs.Walk.{power, label, TreeAt}
+use Rattle.index_image.specs.declared.Shape.{Shape}
+
+-- every entry has powers below H and, in a ratio index, a label from ll on and below lh
+pub record Bounded (W : List ℕ) (s : Shape) (H : List ℕ) (ll lh : ℕ) (es : List ℕ) : Type 0 where
+  pub powers : (e : ℕ) → e ∈ es → (v : ℕ) → v < s .variables → power W s v e < getD H v 0
+  pub labels : s .kind ≡ 1 → (e : ℕ) → e ∈ es → (ll ≤ label W s e) × (label W s e < lh)
+
+-- a tree at row k of at most `avail` entries, within the rows and the bounds
+pub record Found (W : List ℕ) (s : Shape) (H : List ℕ) (ll lh k lo avail : ℕ) (t : Tree) : Type 0 where
+  pub is : TreeAt W s k lo t
+  pub inside : k + nodes t ≤ s .nodes
+  pub few : length (inorder t) ≤ avail
+  pub bounded : Bounded W s H ll lh (inorder t)
+
+-- r is the number of rows of that tree; 0 where there is none
+pub record Walked (W : List ℕ) (s : Shape) (H : List ℕ) (ll lh k lo avail r : ℕ) : Type 0 where
+  pub only : (t : Tree) → Found W s H ll lh k lo avail t → r ≡ nodes t
+  pub made : 0 < r → (t : Tree) × Found W s H ll lh k lo avail t
