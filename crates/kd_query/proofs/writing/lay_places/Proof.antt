@@ -1,62 +1,62 @@
 use native.Mathlib.Omega.{arith}
 use mathlib.Core.Path.{_≡_, refl, sym, ap, _∙_}
-use Rattle.kd_tree.proofs.Posing.{shape-small, places-laid}
+use Rattle.kd_query.proofs.Posing.{shape-small, places-laid}
 use borrow.Author.Needs.{needs}
-use Rattle.kd_tree.proofs.query.lay_places.Statement.{statement}
-use Rattle.kd_tree.proofs.query.lay_places.Tie as tie
-use Rattle.kd_tree.proofs.query.lay_places.Reads as reads
-use Rattle.kd_tree.proofs.query.lay_places.Lts as lts
+use Rattle.kd_query.proofs.writing.lay_places.Statement.{statement}
+use Rattle.kd_query.proofs.writing.lay_places.Tie as tie
+use Rattle.kd_query.proofs.writing.lay_places.Reads as reads
+use Rattle.kd_query.proofs.writing.lay_places.Lts as lts
 use Rattle.index_image.proofs.Shape.entry_at.Reads as entry-at-reads
 use Rattle.index_image.proofs.Shape.entry_width.Reads as entry-width-reads
 use Rattle.index_image.proofs.Shape.node_at.Reads as node-at-reads
 use Rattle.index_image.proofs.Shape.permutation_at.Reads as permutation-at-reads
-use Rattle.kd_tree.proofs.query.put_six.Reads as put-six-reads
+use Rattle.kd_query.proofs.writing.put_six.Reads as put-six-reads
 
--- src/query.rt:127:9
+-- src/writing.rt:127:9
 entry-at-requires : tie.Need-entry-at-requires
 entry-at-requires c κs = search needs
 
--- src/query.rt:131:9
+-- src/writing.rt:131:9
 node-at-requires : tie.Need-node-at-requires
 node-at-requires c κs = search needs
 
--- src/query.rt:132:9
+-- src/writing.rt:132:9
 add-put-six : tie.Need-add-put-six
 add-put-six c = search needs
 
--- src/query.rt:133:9
+-- src/writing.rt:133:9
 permutation-at-requires : tie.Need-permutation-at-requires
 permutation-at-requires c κs = search needs
 
--- src/query.rt:134:9
+-- src/writing.rt:134:9
 entry-width-requires : tie.Need-entry-width-requires
 entry-width-requires c κs = search needs
 
--- src/query.rt:135:18
+-- src/writing.rt:135:18
 mul-put-six : tie.Need-mul-put-six
 mul-put-six c = search needs
 
--- src/query.rt:135:18
+-- src/writing.rt:135:18
 add-put-six-2 : tie.Need-add-put-six-2
 add-put-six-2 c = search needs
 
--- src/query.rt:135:9
+-- src/writing.rt:135:9
 add-put-six-3 : tie.Need-add-put-six-3
 add-put-six-3 c = search needs
 
--- src/query.rt:136:9
+-- src/writing.rt:136:9
 add-put-six-4 : tie.Need-add-put-six-4
 add-put-six-4 c = search needs
 
--- src/query.rt:128:5
+-- src/writing.rt:128:5
 put-six-requires : tie.Need-put-six-requires
 put-six-requires c κs = (omega (arith, c .before .before .before .before .before .before .pre .1), (omega (arith, c .before .before .node-at .ensures, shape-small (c .before .before .before .before .before .before .args .s) (c .before .before .before .before .before .before .pre .0) .node), (omega (arith, shape-small (c .before .before .before .before .before .before .args .s) (c .before .before .before .before .before .before .pre .0) .few), (omega (arith, c .before .permutation-at .ensures, shape-small (c .before .before .before .before .before .before .args .s) (c .before .before .before .before .before .before .pre .0) .permutation), (omega (arith, c .entry-width .ensures, shape-small (c .before .before .before .before .before .before .args .s) (c .before .before .before .before .before .before .pre .0) .entry-width), (omega (arith, c .before .before .before .before .entry-at .ensures, shape-small (c .before .before .before .before .before .before .args .s) (c .before .before .before .before .before .before .pre .0) .row), omega (arith, shape-small (c .before .before .before .before .before .before .args .s) (c .before .before .before .before .before .before .pre .0) .few)))))))
 
--- src/query.rt:121:1
+-- src/writing.rt:121:1
 same-length : tie.Need-same-length
 same-length c = search needs
 
--- src/query.rt:121:1
+-- src/writing.rt:121:1
 returns : tie.Need-returns
 returns c = places-laid _ _ _ _ _ _ _ (c .before .before .before .before .before .node-at .ensures) (c .before .before .before .before .permutation-at .ensures) (c .before .before .before .entry-width .ensures) (rw (c .before .before .before .before .before .before .before .entry-at .ensures) refl) (c .before .before .put-six .ensures)
 

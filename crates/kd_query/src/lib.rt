@@ -1,0 +1,3 @@
+// From the parts of a call to the words of a query, which `kd_tree::find` reads.
+pub mod ranges;
+pub mod writing;
