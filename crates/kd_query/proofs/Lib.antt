@@ -1,3 +1,4 @@
 pub mod Indexing
 pub mod Ending
+pub mod Limiting
 pub mod Posing

@@ -1,7 +1,8 @@
 -- The words of a query, written. Assumes nothing.
 use mathlib.Core.Path.{_≡_, refl, sym, ap, _∙_}
+use mathlib.Core.Bool.{Bool, true, false, cond}
 use mathlib.Core.List.{List, [], _∷_, _++_}
-use Prim.Native.Nat.{ℕ, _+_, _*_, _^_, _≤_, _<_}
+use Prim.Native.Nat.{ℕ, _+_, _*_, _/_, _%_, _^_, _≤_, _<_}
 use native.Mathlib.Omega.{arith}
 use lib.ListN.{length, getD}
 use Rattle.words.specs.Words.{words, putW, pasteW}
@@ -12,8 +13,8 @@ use Rattle.words.proofs.Pasting.{part-pasted}
 use Rattle.index_image.specs.Shape as at
 use Rattle.index_image.specs.declared.Shape.{Shape}
 use Rattle.index_image.proofs.Bounds.{size-small, width-small, entries-small, labels-small}
-use Rattle.kd_tree.specs.Asked.{shapeIn, Laid}
-use Rattle.kd_query.specs.Posed.{placeWords, shapeWords}
+use Rattle.kd_tree.specs.Asked.{shapeIn, slotAt, Laid}
+use Rattle.kd_query.specs.Posed.{maskWords, rangeWords, slotWords, placeWords, shapeWords}
 
 pub six-written : (b₀ b₁ b₂ b₃ b₄ b₅ b₆ : List ℕ) (i a b c d e f : ℕ) → 4 * (i + 6) ≤ length b₀ → b₁ ≡ putW b₀ i a → b₂ ≡ putW b₁ (i + 1) b → b₃ ≡ putW b₂ (i + 2) c → b₄ ≡ putW b₃ (i + 3) d → b₅ ≡ putW b₄ (i + 4) e → b₆ ≡ putW b₅ (i + 5) f
     → b₆ ≡ pasteW b₀ i (a ∷ b ∷ c ∷ d ∷ e ∷ f ∷ [])
@@ -25,7 +26,37 @@ six-written b₀ b₁ b₂ b₃ b₄ b₅ b₆ i a b c d e f room e₁ e₂ e₃
     let p₅ : b₅ ≡ pasteW b₀ i (a ∷ b ∷ c ∷ d ∷ e ∷ []) = e₅ ∙ rw p₄ (pasteW-snoc b₀ i (a ∷ b ∷ c ∷ d ∷ []) (i + 4) e (omega arith) (omega arith)) in
     e₆ ∙ rw p₅ (pasteW-snoc b₀ i (a ∷ b ∷ c ∷ d ∷ e ∷ []) (i + 5) f (omega arith) (omega arith))
 
--- the numbers of a shape are words
+-- ---- masks, range and slot
+pub node-small : (lm : Bool) (mask n : ℕ) → mask < 4294967296 → n ≡ cond lm mask 4294967295 → n < 4294967296
+node-small true mask n h e = omega arith
+node-small false mask n h e = omega arith
+
+pub masks-written : (b₀ b₁ : List ℕ) (search : ℕ) (lm : Bool) (mask vector n : ℕ) → n ≡ cond lm mask 4294967295 → b₁ ≡ pasteW b₀ 66 (search ∷ 0 ∷ mask ∷ vector ∷ n ∷ 0 ∷ [])
+    → b₁ ≡ pasteW b₀ 66 (maskWords search lm mask vector)
+unfolding maskWords
+masks-written b₀ b₁ search lm mask vector n en e = e ∙ rw en refl
+
+pub lm-slot : (s : Shape) (a : ℕ) (lm : Bool) → lm ≡ true → a ≡ at.entryAt s 0 → a ≡ slotAt s lm 0
+unfolding slotAt
+lm-slot s a lm h e = rw h e
+
+pub sign-slot : (s : Shape) (a : ℕ) (lm : Bool) → lm ≡ false → a ≡ at.entryAt s 0 → a + (s .variables + 4) ≡ slotAt s lm 0
+unfolding slotAt
+sign-slot s a lm h e = rw (h, e) refl
+
+pub slot-small : (s : Shape) → at.InRange s → (lm : Bool) → slotAt s lm 0 ≤ 220
+unfolding slotAt
+slot-small s R true = omega (arith, R .vars-to)
+slot-small s R false = omega (arith, R .vars-to)
+
+pub slot-written : (b₀ b₁ b₂ : List ℕ) (s : Shape) (lm : Bool) (n : ℕ) → 368 ≤ length b₀ → n ≡ slotAt s lm 0 → b₁ ≡ putW b₀ 78 n → b₂ ≡ putW b₁ 79 (n + (s .variables + 1))
+    → b₂ ≡ pasteW b₀ 78 (slotWords s lm)
+unfolding slotWords
+slot-written b₀ b₁ b₂ s lm n room en e₁ e₂ =
+    let p₁ : b₁ ≡ pasteW b₀ 78 (n ∷ []) = e₁ ∙ putW-paste b₀ 78 n (omega arith) in
+    e₂ ∙ rw (p₁, pasteW-snoc b₀ 78 (n ∷ []) 79 (n + (s .variables + 1)) (omega arith) (omega arith), en) refl
+
+-- ---- the numbers of a shape are words
 pub record ShapeSmall (s : Shape) : Type 0 where
   pub node : at.nodeAt s 0 ≤ 1413206
   pub permutation : at.permutationAt s ≤ 1413206
