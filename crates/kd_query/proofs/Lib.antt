@@ -2,3 +2,4 @@ pub mod Indexing
 pub mod Ending
 pub mod Limiting
 pub mod Posing
+pub mod Standing

@@ -1,6 +1,6 @@
 -- The words of a query by what is asked, as they are written. Assumes nothing.
 use mathlib.Core.Path.{_≡_}
-use mathlib.Core.Bool.{Bool, cond, _&&_}
+use mathlib.Core.Bool.{Bool, true, false, cond, _&&_}
 use mathlib.Core.List.{List, [], _∷_}
 use Prim.Native.Nat.{ℕ, _+_, _/_, _%_, _<_}
 use lib.ListN.{getD}
@@ -9,6 +9,25 @@ use Rattle.index_theory.specs.Searches.{dense}
 use Rattle.index_image.specs.Shape as at
 use Rattle.index_image.specs.declared.Shape.{Shape}
 use Rattle.kd_tree.specs.Asked.{slotAt}
+use Rattle.kd_query.specs.declared.Search.{Search}
+use Rattle.kd_query.specs.declared.Search.the-variants.{Contained, Reducer, High, Low, Singular}
+
+-- ---- what is searched for
+-- its number, which is `searchOf` of the request
+unfoldable pub code : Search → ℕ
+code Contained = 0
+code Reducer = 1
+code High = 2
+code Low = 3
+code Singular = 4
+
+-- lms are to divide, or else signature monomials
+unfoldable pub lmDivides : Search → Bool
+lmDivides Contained = true
+lmDivides Reducer = true
+lmDivides High = true
+lmDivides Low = false
+lmDivides Singular = false
 
 -- ---- limits
 -- the largest key of variable v whose other side may have a divisor of q; lms are to divide, or else signature monomials
