@@ -3,3 +3,4 @@ pub mod Ending
 pub mod Limiting
 pub mod Posing
 pub mod Standing
+pub mod Calling

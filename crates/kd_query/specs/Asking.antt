@@ -15,3 +15,7 @@ unfoldable pub Poses : (bs ms : List ℕ) (search from to floor : ℕ) (Q : List
 Poses bs ms search from to floor Q =
     (st : State) (r : Query) → Is st bs → st .kind ≡ kindFor r → searchOf r ≡ search → words ms ≡ dividend r
     → (st .kind ≡ ratioed → Range st r from to floor) → Rooted st r bs ms Q
+
+-- they stand for the request r, whatever state the image holds
+unfoldable pub Stands : (bs ms : List ℕ) (r : Query) (Q : List ℕ) → Type 0
+Stands bs ms r Q = (st : State) → Is st bs → Rooted st r bs ms Q

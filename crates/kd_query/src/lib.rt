@@ -6,18 +6,20 @@ pub mod writing;
 use index_image::Shape;
 use index_image::fields;
 ghost use mathlib.Core.Path.{_≡_};
-ghost use Prim.Native.Nat.{_+_, _*_, _≤_};
+ghost use Prim.Native.Nat.{_+_, _*_, _<_, _≤_};
 ghost use lib.ListN.{length};
 ghost use Rattle.words.specs.Words.{words};
 ghost use Rattle.monomial.specs.Monomial.{Canonical, pow};
 ghost use Rattle.divmask.specs.Mask.{mask, vector};
 ghost use Rattle.divmask.specs.Tracker.{Maxima};
+ghost use Rattle.fast_compare.specs.Map.{valueOf};
+ghost use Rattle.index_theory.specs.Searches.{containment, reducing, high, low, singular};
 ghost use Rattle.index_image.specs.Head.{HeadOk};
 ghost use Rattle.index_image.specs.Layout.{Sound};
 ghost use Rattle.index_image.specs.Shape as at;
 ghost use Rattle.index_image.specs.Walk.{mapMaxima};
 ghost use Rattle.kd_query.specs.Posed.{code, lmDivides};
-ghost use Rattle.kd_query.specs.Asking.{Poses};
+ghost use Rattle.kd_query.specs.Asking.{Poses, Stands};
 
 pub enum Search {
     Contained,
@@ -91,4 +93,86 @@ pub fn pose(
     writing::put_range(q, from, to, floor);
     writing::put_slot(q, s, lm);
     writing::lay(q, s);
+}
+
+// The query of call 1: some monomial divides m.
+pub fn contained(image: &[u8], s: Shape, q: &mut [u8], m: &[u8])
+    requires { ⌜ Sound (now image) ⌝ }
+    requires { ⌜ HeadOk (words (now image)) (length (now image)) s ⌝ }
+    requires { ⌜ s .kind ≡ 0 ⌝ }
+    requires { ⌜ 368 ≤ length (now q) ⌝ }
+    requires { ⌜ Canonical 1 (s .variables) (words (now m)) ⌝ }
+    ensures { λ _. ⌜ Stands (now (image .entry)) (now (m .entry)) (containment (words (now (m .entry)))) (words (now (q .exit))) ⌝ }
+{
+    pose(image, s, q, m, Search::Contained, 0, 0, 0);
+}
+
+// The query of call 3: an lm divides m, and its ratio is not above this one.
+pub fn reducer(image: &[u8], s: Shape, q: &mut [u8], index: u32, ratio: &[u8], m: &[u8])
+    requires { ⌜ Sound (now image) ⌝ }
+    requires { ⌜ HeadOk (words (now image)) (length (now image)) s ⌝ }
+    requires { ⌜ s .kind ≡ 1 ⌝ }
+    requires { ⌜ 368 ≤ length (now q) ⌝ }
+    requires { ⌜ Canonical 2 4096 (words (now ratio)) ⌝ }
+    requires { ⌜ Canonical 1 (s .variables) (words (now m)) ⌝ }
+    ensures { λ _. ⌜ Stands (now (image .entry)) (now (m .entry)) (reducing (valueOf index (words (now (ratio .entry)))) (words (now (m .entry)))) (words (now (q .exit))) ⌝ }
+{
+    let e = ranges::ends_of(image, s, index, ratio);
+    pose(image, s, q, m, Search::Reducer, 0, e.above, e.below);
+}
+
+// The query of call 4: an lm divides m, and its ratio is above this one.
+pub fn high(image: &[u8], s: Shape, q: &mut [u8], index: u32, ratio: &[u8], m: &[u8])
+    requires { ⌜ Sound (now image) ⌝ }
+    requires { ⌜ HeadOk (words (now image)) (length (now image)) s ⌝ }
+    requires { ⌜ s .kind ≡ 1 ⌝ }
+    requires { ⌜ 368 ≤ length (now q) ⌝ }
+    requires { ⌜ Canonical 2 4096 (words (now ratio)) ⌝ }
+    requires { ⌜ Canonical 1 (s .variables) (words (now m)) ⌝ }
+    ensures { λ _. ⌜ Stands (now (image .entry)) (now (m .entry)) (high (valueOf index (words (now (ratio .entry)))) (words (now (m .entry)))) (words (now (q .exit))) ⌝ }
+{
+    let e = ranges::ends_of(image, s, index, ratio);
+    pose(image, s, q, m, Search::High, e.above, 4294967296, 0);
+}
+
+// The query of call 5: a signature monomial of this index divides m.
+pub fn low(image: &[u8], s: Shape, q: &mut [u8], index: u32, m: &[u8])
+    requires { ⌜ Sound (now image) ⌝ }
+    requires { ⌜ HeadOk (words (now image)) (length (now image)) s ⌝ }
+    requires { ⌜ s .kind ≡ 1 ⌝ }
+    requires { ⌜ 368 ≤ length (now q) ⌝ }
+    requires { ⌜ index < 268435456 ⌝ }
+    requires { ⌜ Canonical 1 (s .variables) (words (now m)) ⌝ }
+    ensures { λ _. ⌜ Stands (now (image .entry)) (now (m .entry)) (low index (words (now (m .entry)))) (words (now (q .exit))) ⌝ }
+{
+    let from = ranges::from_of(image, s, index);
+    let to = ranges::from_of(image, s, index + 1);
+    pose(image, s, q, m, Search::Low, from, to, 0);
+}
+
+// The query of call 6: a signature monomial of this index divides m, and its ratio is above that of m and lm, which is made in the scratch.
+pub fn singular(
+    image: &[u8],
+    s: Shape,
+    q: &mut [u8],
+    scratch: &mut [u8],
+    index: u32,
+    m: &[u8],
+    lm: &[u8],
+)
+    requires { ⌜ Sound (now image) ⌝ }
+    requires { ⌜ HeadOk (words (now image)) (length (now image)) s ⌝ }
+    requires { ⌜ s .kind ≡ 1 ⌝ }
+    requires { ⌜ 368 ≤ length (now q) ⌝ }
+    requires { ⌜ 4 * (s .variables + 1) ≤ length (now scratch) ⌝ }
+    requires { ⌜ index < 268435456 ⌝ }
+    requires { ⌜ Canonical 1 (s .variables) (words (now m)) ⌝ }
+    requires { ⌜ Canonical 1 (s .variables) (words (now lm)) ⌝ }
+    ensures { λ _. ⌜ Stands (now (image .entry)) (now (m .entry)) (singular index (words (now (m .entry))) (words (now (lm .entry)))) (words (now (q .exit))) ⌝ }
+{
+    let n = monomial::fraction_division(m, lm, scratch);
+    let e = 4 * n;
+    let ends = ranges::ends_of(image, s, index, &scratch[..e]);
+    let to = ranges::from_of(image, s, index + 1);
+    pose(image, s, q, m, Search::Singular, ends.above, to, 0);
 }
