@@ -173,6 +173,6 @@ pub fn singular(
     let n = monomial::fraction_division(m, lm, scratch);
     let e = 4 * n;
     let ends = ranges::ends_of(image, s, index, &scratch[..e]);
-    let to = ranges::from_of(image, s, index + 1);
-    pose(image, s, q, m, Search::Singular, ends.above, to, 0);
+    let next = ranges::from_of(image, s, index + 1);
+    pose(image, s, q, m, Search::Singular, ends.above, next, 0);
 }
