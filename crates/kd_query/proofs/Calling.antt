@@ -31,8 +31,7 @@ use Rattle.index_image.proofs.Reading.{front-pasted}
 use Rattle.index_image.proofs.Shapes.{code-ratio}
 use Rattle.index_image.proofs.Slots.{MadeAside}
 use Rattle.kd_query.specs.Ended.{Ends, From}
-use Rattle.kd_query.specs.Posed.{code}
-use Rattle.kd_query.specs.Asking.{Poses, Stands}
+use Rattle.kd_query.specs.Posed.{numberOf, Poses, PosedFor}
 use Rattle.kd_query.specs.declared.Search.the-variants.{Contained, Reducer, High, Low, Singular}
 use Rattle.kd_query.proofs.Ending.{high-range, reducing-range, low-range, singular-range}
 use Rattle.kd_query.proofs.Standing.{shape-is}
@@ -49,9 +48,11 @@ module _ (m : ℕ) (few : m ≤ 64) (a b : List ℕ) (ca : Canonical 1 m a) (cb 
       (starts-wide (starts-whole ca), (starts-wide (starts-whole cb), rw (first-whole ca, first-whole cb) (omega (arith, length-result m a b ca cb Op.Ratio (omega arith)))))
 
   pub ratio-canonical : (ws : List ℕ) → ws ≡ result Op.Ratio a b → Canonical 2 4096 ws
-  ratio-canonical ws e = rw e (canonical-more (omega arith) (omega arith) (canonical-result m a b ca cb Op.Ratio (omega arith) (λ z. absurd (let q : _≡_ {A = ℕ} 0 1 = cc in omega arith))))
+  ratio-canonical ws e =
+      rw e (canonical-more (omega arith) (omega arith) (canonical-result m a b ca cb Op.Ratio (omega arith) (λ z. absurd (let q : _≡_ {A = ℕ} 0 1 = cc in omega arith))))
 
-  pub ratio-made : (space made : List ℕ) (n : ℕ) → 4 * (m + 1) ≤ length space → n ≡ length (result Op.Ratio (first 1 a) (first 1 b)) → made ≡ pasteW space 0 (result Op.Ratio (first 1 a) (first 1 b)) → MadeAside made (result Op.Ratio a b) n
+  pub ratio-made : (space made : List ℕ) (n : ℕ) → 4 * (m + 1) ≤ length space → n ≡ length (result Op.Ratio (first 1 a) (first 1 b))
+      → made ≡ pasteW space 0 (result Op.Ratio (first 1 a) (first 1 b)) → MadeAside made (result Op.Ratio a b) n
   ratio-made space made n room en′ em′ =
       let en : n ≡ length (result Op.Ratio a b) = rw (first-whole ca, first-whole cb) at en′ in
       let em : made ≡ pasteW space 0 (result Op.Ratio a b) = rw (first-whole ca, first-whole cb) at em′ in
@@ -85,33 +86,35 @@ module _ (bs : List ℕ) (s : Shape) (h : HeadOk (words bs) (length bs) s) where
 
   -- ---- the queries
   module _ (ms Q : List ℕ) where
-    pub contained-stands : s .kind ≡ 0 → Poses bs ms (code Contained) 0 0 0 Q → Stands bs ms (containment (words ms)) Q
-    unfolding Stands Poses code dividend
-    contained-stands k P st I = let p = plain-of st I k in P st (containment (words ms)) I p refl refl (λ r. no-ratio (sym p ∙ r))
+    pub contained-posed : s .kind ≡ 0 → Poses bs ms (numberOf Contained) 0 0 0 Q → PosedFor bs ms (containment (words ms)) Q
+    unfolding PosedFor Poses numberOf dividend
+    contained-posed k P st I = let p = plain-of st I k in P st (containment (words ms)) I p refl refl (λ r. no-ratio (sym p ∙ r))
 
     module _ (k : s .kind ≡ 1) where
-      pub reducer-stands : (v : map.Value) (up down : ℕ) → ((st : State) → Is st bs → Ends (st .labels) v up down) → Poses bs ms (code Reducer) 0 up down Q → Stands bs ms (reducing v (words ms)) Q
-      unfolding Stands Poses code dividend
-      reducer-stands v up down E P st I =
+      pub reducer-posed : (v : map.Value) (up down : ℕ) → ((st : State) → Is st bs → Ends (st .labels) v up down) → Poses bs ms (numberOf Reducer) 0 up down Q
+          → PosedFor bs ms (reducing v (words ms)) Q
+      unfolding PosedFor Poses numberOf dividend
+      reducer-posed v up down E P st I =
           let r = kind-of st I k in
           P st (reducing v (words ms)) I r refl refl (λ _. reducing-range st (I .valid) r v up down (E st I) (words ms))
 
-      pub high-stands : (v : map.Value) (up down floor : ℕ) → ((st : State) → Is st bs → Ends (st .labels) v up down) → Poses bs ms (code High) up 4294967296 floor Q → Stands bs ms (high v (words ms)) Q
-      unfolding Stands Poses code dividend
-      high-stands v up down floor E P st I =
+      pub high-posed : (v : map.Value) (up down floor : ℕ) → ((st : State) → Is st bs → Ends (st .labels) v up down)
+          → Poses bs ms (numberOf High) up 4294967296 floor Q → PosedFor bs ms (high v (words ms)) Q
+      unfolding PosedFor Poses numberOf dividend
+      high-posed v up down floor E P st I =
           let r = kind-of st I k in
           P st (high v (words ms)) I r refl refl (λ _. high-range st (I .valid) r v up down (E st I) (words ms) floor)
 
-      pub low-stands : (i from to floor : ℕ) → ((st : State) → Is st bs → From (st .labels) i from) → ((st : State) → Is st bs → From (st .labels) (i + 1) to)
-          → Poses bs ms (code Low) from to floor Q → Stands bs ms (low i (words ms)) Q
-      unfolding Stands Poses code dividend
-      low-stands i from to floor F T P st I =
+      pub low-posed : (i from to floor : ℕ) → ((st : State) → Is st bs → From (st .labels) i from) → ((st : State) → Is st bs → From (st .labels) (i + 1) to)
+          → Poses bs ms (numberOf Low) from to floor Q → PosedFor bs ms (low i (words ms)) Q
+      unfolding PosedFor Poses numberOf dividend
+      low-posed i from to floor F T P st I =
           let r = kind-of st I k in
           P st (low i (words ms)) I r refl refl (λ _. low-range st (I .valid) r (words ms) i from to floor (F st I) (T st I))
 
-      pub singular-stands : (i : ℕ) (rs l : List ℕ) (up down to floor : ℕ) → rs ≡ result Op.Ratio (words ms) l → ((st : State) → Is st bs → Ends (st .labels) (map.valueOf i rs) up down)
-          → ((st : State) → Is st bs → From (st .labels) (i + 1) to) → Poses bs ms (code Singular) up to floor Q → Stands bs ms (singular i (words ms) l) Q
-      unfolding Stands Poses code dividend quotientOf
-      singular-stands i rs l up down to floor e E T P st I =
+      pub singular-posed : (i : ℕ) (rs l : List ℕ) (up down to floor : ℕ) → rs ≡ result Op.Ratio (words ms) l → ((st : State) → Is st bs → Ends (st .labels) (map.valueOf i rs) up down)
+          → ((st : State) → Is st bs → From (st .labels) (i + 1) to) → Poses bs ms (numberOf Singular) up to floor Q → PosedFor bs ms (singular i (words ms) l) Q
+      unfolding PosedFor Poses numberOf dividend quotientOf
+      singular-posed i rs l up down to floor e E T P st I =
           let r = kind-of st I k in
           P st (singular i (words ms) l) I r refl refl (λ _. singular-range st (I .valid) r i (words ms) l up down to floor (rw e at (E st I)) (T st I))

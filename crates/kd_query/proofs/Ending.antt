@@ -66,14 +66,18 @@ module _ (l : map.State) (val : map.Valid l) (v : map.Value) where
   abbrev labelAt : ℕ → ℕ
   labelAt p = map.label (l .rows) (getD (sorted map.cmp (map.value (l .rows)) (length (l .rows))) p 0)
 
-  pub known-ends : (p x up : ℕ) → At p ≡ map.place (l .rows) v → x ≡ map.label (l .rows) (getD (sorted map.cmp (map.value (l .rows)) (length (l .rows))) p 0) → up ≡ x + 1 → Ends l v up x
+  pub known-ends : (p x up : ℕ) → At p ≡ map.place (l .rows) v → x ≡ map.label (l .rows) (getD (sorted map.cmp (map.value (l .rows)) (length (l .rows))) p 0)
+      → up ≡ x + 1 → Ends l v up x
   unfolding above
   known-ends p x up q ex eu = record {
     up-is = λ i h. let a = map.label (l .rows) i in ap isGreater (known-compare l val v i h p q) ∙ greater-is a (labelAt p) ∙ rw (← ex, eu) (sym (more-is x a));
-    down-is = λ i h. let a = map.label (l .rows) i in ap isGreater (cmp-lawful .flips (map.value (l .rows) i) v ∙ ap flip (known-compare l val v i h p q)) ∙ flipped-is a (labelAt p) ∙ rw (← ex) refl;
+    down-is =
+        λ i h. let a = map.label (l .rows) i in ap isGreater (cmp-lawful .flips (map.value (l .rows) i) v ∙ ap flip (known-compare l val v i h p q)) ∙ flipped-is a
+        (labelAt p) ∙ rw (← ex) refl;
   }
 
-  pub new-ends : (p x : ℕ) → Before p ≡ map.place (l .rows) v → p < length (l .rows) → x ≡ map.label (l .rows) (getD (sorted map.cmp (map.value (l .rows)) (length (l .rows))) p 0) → Ends l v x x
+  pub new-ends : (p x : ℕ) → Before p ≡ map.place (l .rows) v → p < length (l .rows)
+      → x ≡ map.label (l .rows) (getD (sorted map.cmp (map.value (l .rows)) (length (l .rows))) p 0) → Ends l v x x
   new-ends p x q s ex = record { up-is = λ i h. up i h; down-is = λ i h. down i h }
     where
       up : (i : ℕ) → i < length (l .rows) → above (map.value (l .rows) i) v ≡ leb x (map.label (l .rows) i)
@@ -129,7 +133,8 @@ module _ (st : State) (val : Valid st) (k : st .kind ≡ ratioed) where
   past-of i to T e h =
       let r = row-of e h in
       let a = ratioOf (entryAt (st .entries) e) .index in
-      ap not (next-is a i ∙ ap (λ (w : map.Value). not (ltb (w .index) (i + 1))) (sym (r .has)) ∙ T .is (r .row) (r .inside)) ∙ turn-leb to (map.label (st .labels .rows) (r .row)) ∙ ap (λ (n : ℕ). ltb n to) (sym (r .label))
+      ap not (next-is a i ∙ ap (λ (w : map.Value). not (ltb (w .index) (i + 1))) (sym (r .has)) ∙ T .is (r .row) (r .inside)) ∙ turn-leb to
+      (map.label (st .labels .rows) (r .row)) ∙ ap (λ (n : ℕ). ltb n to) (sym (r .label))
 
   -- a low base divisor has a label from those of its index on, and below those of the next
   pub low-range : (s : List ℕ) (i from to floor : ℕ) → From (st .labels) i from → From (st .labels) (i + 1) to → Range st (low i s) from to floor
@@ -168,7 +173,8 @@ module _ (st : State) (val : Valid st) (k : st .kind ≡ ratioed) where
     }
 
   -- the singular criterion asks for a label from `up` on, below those of the next index
-  pub singular-range : (i : ℕ) (s l : List ℕ) (up down to floor : ℕ) → Ends (st .labels) (quotientOf i s l) up down → From (st .labels) (i + 1) to → Range st (singular i s l) up to floor
+  pub singular-range : (i : ℕ) (s l : List ℕ) (up down to floor : ℕ) → Ends (st .labels) (quotientOf i s l) up down → From (st .labels) (i + 1) to
+      → Range st (singular i s l) up to floor
   unfolding notBelow notPast lowered
   singular-range i s l up down to floor E T = record {
     from-is = up-of (quotientOf i s l) up down E;
@@ -187,7 +193,8 @@ module _ (bs : List ℕ) (l : map.State) (I : labels.Is l bs) (v : map.Value) (p
   pub known-is : (x : ℕ) → At p ≡ map.place (l .rows) v → x ≡ map.label (l .rows) (getD (sorted map.cmp (map.value (l .rows)) (length (l .rows))) p 0) → Ends l v (x + 1) x
   known-is x q e = known-ends l (I .valid) v p x (x + 1) q e refl
 
-  pub new-is : (x c : ℕ) → Before p ≡ map.place (l .rows) v → c ≡ length (l .rows) → p < c → x ≡ map.label (l .rows) (getD (sorted map.cmp (map.value (l .rows)) (length (l .rows))) p 0) → Ends l v x x
+  pub new-is : (x c : ℕ) → Before p ≡ map.place (l .rows) v → c ≡ length (l .rows) → p < c
+      → x ≡ map.label (l .rows) (getD (sorted map.cmp (map.value (l .rows)) (length (l .rows))) p 0) → Ends l v x x
   new-is x c q ec h e = new-ends l (I .valid) v p x q (omega arith) e
 
   pub last-is : (c : ℕ) → Before p ≡ map.place (l .rows) v → c ≡ length (l .rows) → c ≤ p → Ends l v 4294967296 4294967296

@@ -31,17 +31,17 @@ put-other : (bs : List ℕ) (i w j : ℕ) → w < 2 ^ 32 → 4 * i + 4 ≤ lengt
 put-other bs i w j h r n = rw (words-putW bs i w h r) (getD-set-other (words bs) i j w 0 n)
 
 -- ---- every key passes
-abbrev pub Passing : List ℕ → Shape → ℕ → Type 0
-Passing bs s n = (v : ℕ) → v < n → getD (words bs) (1 + s .kind + v) 0 ≡ 4294967295
+abbrev pub AllPass : List ℕ → Shape → ℕ → Type 0
+AllPass bs s n = (v : ℕ) → v < n → getD (words bs) (1 + s .kind + v) 0 ≡ 4294967295
 
-pub pass-more : (bs bs′ : List ℕ) (s : Shape) (n : ℕ) → Passing bs s n → 4 * (1 + s .kind + n) + 4 ≤ length bs → bs′ ≡ putW bs (1 + s .kind + n) 4294967295 → Passing bs′ s (n + 1)
+pub pass-more : (bs bs′ : List ℕ) (s : Shape) (n : ℕ) → AllPass bs s n → 4 * (1 + s .kind + n) + 4 ≤ length bs → bs′ ≡ putW bs (1 + s .kind + n) 4294967295 → AllPass bs′ s (n + 1)
 pass-more bs bs′ s n P r e v h =
     elim (ℕ-discrete v n) [
       | yes z ↦ rw (e, z) (put-here bs (1 + s .kind + n) 4294967295 (omega arith) r)
       | no z ↦ rw e (put-other bs (1 + s .kind + n) 4294967295 (1 + s .kind + v) (omega arith) r (λ y. omega arith) ∙ P v (omega arith))
     ]
 
-pub pass-end : (bs : List ℕ) (s : Shape) (n : ℕ) → Passing bs s n → s .variables ≤ n → Limited (words bs) s (λ v. 4294967295)
+pub pass-end : (bs : List ℕ) (s : Shape) (n : ℕ) → AllPass bs s n → s .variables ≤ n → Limited (words bs) s (λ v. 4294967295)
 pass-end bs s n P h = record { each = λ v l. P v (omega arith) }
 
 pub pass-all : (Q M : List ℕ) (s : Shape) → Limited Q s (λ v. 4294967295) → Limited Q s (limitFor false M)
@@ -122,7 +122,8 @@ module _ (s : Shape) (R : at.InRange s) (M : List ℕ) (c : Canonical 1 (s .vari
           next = λ bs′ room eq.
               let o = 1 + s .kind in
               let fits : 4 * (o + ident w) + 4 ≤ length bs = omega (arith, z .var .below, S .few, R .vars-to, R .kind-to) in
-              let kept : (v : ℕ) → (v ≡ ident w → ⊥) → getD (words (putW bs (o + ident w) (power w))) (o + v) 0 ≡ getD (words bs) (o + v) 0 = λ v n. put-other bs (o + ident w) (power w) (o + v) (omega arith) fits (λ y. n (omega arith)) in
+              let kept : (v : ℕ) → (v ≡ ident w → ⊥) → getD (words (putW bs (o + ident w) (power w))) (o + v) 0 ≡ getD (words bs) (o + v) 0 = λ v n. put-other bs
+              (o + ident w) (power w) (o + v) (omega arith) fits (λ y. n (omega arith)) in
               record {
                 b = ident w;
                 few = omega (arith, z .var .below, S .few);

@@ -16,7 +16,8 @@ use Rattle.index_image.proofs.Bounds.{size-small, width-small, entries-small, l
 use Rattle.kd_tree.specs.Asked.{shapeIn, slotAt, Laid}
 use Rattle.kd_query.specs.Posed.{maskWords, rangeWords, slotWords, placeWords, shapeWords}
 
-pub six-written : (b₀ b₁ b₂ b₃ b₄ b₅ b₆ : List ℕ) (i a b c d e f : ℕ) → 4 * (i + 6) ≤ length b₀ → b₁ ≡ putW b₀ i a → b₂ ≡ putW b₁ (i + 1) b → b₃ ≡ putW b₂ (i + 2) c → b₄ ≡ putW b₃ (i + 3) d → b₅ ≡ putW b₄ (i + 4) e → b₆ ≡ putW b₅ (i + 5) f
+pub six-written : (b₀ b₁ b₂ b₃ b₄ b₅ b₆ : List ℕ) (i a b c d e f : ℕ) → 4 * (i + 6) ≤ length b₀ → b₁ ≡ putW b₀ i a → b₂ ≡ putW b₁ (i + 1) b
+    → b₃ ≡ putW b₂ (i + 2) c → b₄ ≡ putW b₃ (i + 3) d → b₅ ≡ putW b₄ (i + 4) e → b₆ ≡ putW b₅ (i + 5) f
     → b₆ ≡ pasteW b₀ i (a ∷ b ∷ c ∷ d ∷ e ∷ f ∷ [])
 six-written b₀ b₁ b₂ b₃ b₄ b₅ b₆ i a b c d e f room e₁ e₂ e₃ e₄ e₅ e₆ =
     let p₁ : b₁ ≡ pasteW b₀ i (a ∷ []) = e₁ ∙ putW-paste b₀ i a (omega arith) in
@@ -90,11 +91,13 @@ shapes-long : (s : Shape) → length (shapeWords s) ≡ 6
 unfolding shapeWords
 shapes-long s = refl
 
-pub all-laid : (b₀ b₁ b₂ : List ℕ) (s : Shape) (l : ℕ) → 368 ≤ length b₀ → l ≡ at.labelAt s 0 → b₁ ≡ pasteW b₀ 80 (placeWords s) → b₂ ≡ pasteW b₁ 86 (l ∷ s .kind ∷ s .variables ∷ s .capacity ∷ s .entries ∷ s .nodes ∷ [])
+pub all-laid : (b₀ b₁ b₂ : List ℕ) (s : Shape) (l : ℕ) → 368 ≤ length b₀ → l ≡ at.labelAt s 0 → b₁ ≡ pasteW b₀ 80 (placeWords s)
+    → b₂ ≡ pasteW b₁ 86 (l ∷ s .kind ∷ s .variables ∷ s .capacity ∷ s .entries ∷ s .nodes ∷ [])
     → b₂ ≡ pasteW b₀ 80 (placeWords s ++ shapeWords s)
 unfolding shapeWords
 all-laid b₀ b₁ b₂ s l room el e₁ e₂ =
-    e₂ ∙ rw (e₁, el) (pasteW-append b₀ 80 (placeWords s) 86 (at.labelAt s 0 ∷ s .kind ∷ s .variables ∷ s .capacity ∷ s .entries ∷ s .nodes ∷ []) (omega (arith, places-long s)) (omega (arith, places-long s)))
+    e₂ ∙ rw (e₁, el) (pasteW-append b₀ 80 (placeWords s) 86 (at.labelAt s 0 ∷ s .kind ∷ s .variables ∷ s .capacity ∷ s .entries ∷ s .nodes ∷ [])
+    (omega (arith, places-long s)) (omega (arith, places-long s)))
 
 -- ---- the words are read off again
 module _ (bs : List ℕ) (s : Shape) (R : at.InRange s) (room : 368 ≤ length bs) where
@@ -105,9 +108,13 @@ module _ (bs : List ℕ) (s : Shape) (R : at.InRange s) (room : 368 ≤ length b
   unfolding placeWords shapeWords
   small =
       let S = shape-small s R in
-      let z : Small (at.nodeAt s 0 ∷ at.nodeWidth (s .variables) ∷ at.permutationAt s ∷ at.entryWidth s ∷ at.rowAt s 0 ∷ (s .variables + 3) ∷ at.labelAt s 0 ∷ s .kind ∷ s .variables ∷ s .capacity ∷ s .entries ∷ s .nodes ∷ []) =
-      small-cons (omega (arith, S .node)) (small-cons (omega (arith, S .few)) (small-cons (omega (arith, S .permutation)) (small-cons (omega (arith, S .entry-width)) (small-cons (omega (arith, S .row)) (small-cons (omega (arith, S .few))
-      (small-cons (omega (arith, S .label)) (small-cons (omega (arith, R .kind-to)) (small-cons (omega (arith, S .few)) (small-cons (omega (arith, S .capacity)) (small-cons (omega (arith, R .few, S .capacity)) (small-cons (omega (arith, R .nodes-to, S .capacity)) small-nil))))))))))) in
+      let z : Small (at.nodeAt s 0 ∷ at.nodeWidth (s .variables) ∷ at.permutationAt s ∷ at.entryWidth s ∷ at.rowAt s 0 ∷ (s .variables + 3) ∷ at.labelAt s 0
+      ∷ s .kind ∷ s .variables ∷ s .capacity ∷ s .entries ∷ s .nodes ∷ []) =
+      small-cons (omega (arith, S .node)) (small-cons (omega (arith, S .few))
+      (small-cons (omega (arith, S .permutation)) (small-cons (omega (arith, S .entry-width)) (small-cons (omega (arith, S .row)) (small-cons (omega (arith, S .few))
+      (small-cons (omega (arith, S .label)) (small-cons (omega (arith, R .kind-to))
+      (small-cons (omega (arith, S .few)) (small-cons (omega (arith, S .capacity))
+      (small-cons (omega (arith, R .few, S .capacity)) (small-cons (omega (arith, R .nodes-to, S .capacity)) small-nil))))))))))) in
       z .each
 
   twelve : length (placeWords s ++ shapeWords s) ≡ 12
@@ -124,7 +131,15 @@ module _ (bs : List ℕ) (s : Shape) (R : at.InRange s) (room : 368 ≤ length b
   unfolding placeWords shapeWords shapeIn
   laid = record {
     long = omega (arith, length-words (pasteW bs 80 (placeWords s ++ shapeWords s)), length-pasteW bs 80 (placeWords s ++ shapeWords s) (omega (arith, twelve)));
-    shape = rw (word 7 87 (omega arith) (omega arith), word 8 88 (omega arith) (omega arith), word 9 89 (omega arith) (omega arith), word 10 90 (omega arith) (omega arith), word 11 91 (omega arith) (omega arith)) refl;
+    shape =
+        rw (
+          word 7 87 (omega arith) (omega arith),
+          word 8 88 (omega arith) (omega arith),
+          word 9 89 (omega arith) (omega arith),
+          word 10 90 (omega arith)
+              (omega arith),
+          word 11 91 (omega arith) (omega arith),
+        ) refl;
     range = R;
     node = word 0 80 (omega arith) (omega arith);
     node-width = word 1 81 (omega arith) (omega arith);

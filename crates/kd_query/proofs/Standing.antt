@@ -28,15 +28,14 @@ use Rattle.index_image.proofs.Heads.{same-shape}
 use Rattle.index_image.proofs.Images as of
 use Rattle.kd_tree.specs.Asked.{shapeIn, searchOf, slotAt, Range, Laid, Asks}
 use Rattle.kd_tree.specs.Rooted.{Rooted}
-use Rattle.kd_query.specs.Posed.{code, lmDivides, limitFor, Limited, maskWords, rangeWords, slotWords, placeWords, shapeWords}
-use Rattle.kd_query.specs.Asking.{Poses}
+use Rattle.kd_query.specs.Posed.{numberOf, lmDivides, limitFor, Limited, maskWords, rangeWords, slotWords, placeWords, shapeWords, Poses}
 use Rattle.kd_query.specs.declared.Search.{Search}
 use Rattle.kd_query.specs.declared.Search.the-variants.{Contained, Reducer, High, Low, Singular}
 use Rattle.kd_query.proofs.Posing.{node-small, slot-small, laid}
 
 -- ---- the words, in their order
 -- what the words Q say, where those of the limits are as in Q₁
-pub record Asked (Q₁ Q : List ℕ) (s : Shape) (lm : Bool) (n x v from to floor : ℕ) : Type 0 where
+pub record WordsAre (Q₁ Q : List ℕ) (s : Shape) (lm : Bool) (n x v from to floor : ℕ) : Type 0 where
   pub laid-is : Laid Q s
   pub kept : (j : ℕ) → j < 66 → getD Q j 0 ≡ getD Q₁ j 0
   pub search : getD Q 66 0 ≡ n
@@ -52,7 +51,8 @@ pub record Asked (Q₁ Q : List ℕ) (s : Shape) (lm : Bool) (n x v from to floo
 pair : (a x y : ℕ) → x ≡ a % 4294967296 → y ≡ a / 4294967296 → x + 4294967296 * y ≡ a
 pair a x y p q = omega arith
 
-module _ (s : Shape) (R : at.InRange s) (lm : Bool) (n x v from to floor : ℕ) (hn : n < 4294967296) (hx : x < 4294967296) (hv : v < 4294967296) (hf : from < 2 ^ 64) (ht : to < 2 ^ 64) (hl : floor < 2 ^ 64) where
+module _ (s : Shape) (R : at.InRange s) (lm : Bool) (n x v from to floor : ℕ) (hn : n < 4294967296) (hx : x < 4294967296) (hv : v < 4294967296)
+    (hf : from < 2 ^ 64) (ht : to < 2 ^ 64) (hl : floor < 2 ^ 64) where
   asked : List ℕ
   asked = (maskWords n lm x v ++ rangeWords from to floor) ++ slotWords s lm
 
@@ -72,8 +72,10 @@ module _ (s : Shape) (R : at.InRange s) (lm : Bool) (n x v from to floor : ℕ) 
   unfolding asked maskWords rangeWords slotWords
   asked-small =
       let S = slot-small s R lm in
-      let z : Small (n ∷ 0 ∷ x ∷ v ∷ cond lm x 4294967295 ∷ 0 ∷ from % 4294967296 ∷ from / 4294967296 ∷ to % 4294967296 ∷ to / 4294967296 ∷ floor % 4294967296 ∷ floor / 4294967296 ∷ slotAt s lm 0 ∷ at.maskAt (s .variables) (slotAt s lm 0) ∷ []) =
-      small-cons (omega arith) (small-cons (omega arith) (small-cons (omega arith) (small-cons (omega arith) (small-cons (omega (arith, node-small lm x _ hx refl)) (small-cons (omega arith)
+      let z : Small (n ∷ 0 ∷ x ∷ v ∷ cond lm x 4294967295 ∷ 0 ∷ from % 4294967296 ∷ from / 4294967296 ∷ to % 4294967296 ∷ to / 4294967296 ∷ floor % 4294967296
+      ∷ floor / 4294967296 ∷ slotAt s lm 0 ∷ at.maskAt (s .variables) (slotAt s lm 0) ∷ []) =
+      small-cons (omega arith) (small-cons (omega arith) (small-cons (omega arith)
+      (small-cons (omega arith) (small-cons (omega (arith, node-small lm x _ hx refl)) (small-cons (omega arith)
       (small-cons (omega arith) (small-cons (omega arith) (small-cons (omega arith) (small-cons (omega arith) (small-cons (omega arith) (small-cons (omega arith)
       (small-cons (omega arith) (small-cons (omega (arith, R .vars-to)) small-nil))))))))))))) in
       z .each
@@ -104,7 +106,7 @@ module _ (s : Shape) (R : at.InRange s) (lm : Bool) (n x v from to floor : ℕ) 
         let p : part W 66 14 ≡ asked = ap (part W 66) (sym asked-long) ∙ part-pasted b₁ 66 asked asked-small (omega (arith, asked-long)) in
         early j (omega arith) ∙ rw e (sym (part-get W 66 14 i h) ∙ ap (λ (l : List ℕ). getD l i 0) p)
 
-    pub asked-are : Asked (words b₁) (words b₅) s lm n x v from to floor
+    pub asked-are : WordsAre (words b₁) (words b₅) s lm n x v from to floor
     unfolding asked maskWords rangeWords slotWords
     asked-are = record {
       laid-is = rw e₅ (laid b₄ s R (omega (arith, long)));
@@ -121,13 +123,13 @@ module _ (s : Shape) (R : at.InRange s) (lm : Bool) (n x v from to floor : ℕ) 
     }
 
 -- ---- the search's number says which monomial is to divide
-lm-code : (x : Search) → lmDivides x ≡ ltb (code x) 3
-unfolding lmDivides code
-lm-code Contained = refl
-lm-code Reducer = refl
-lm-code High = refl
-lm-code Low = refl
-lm-code Singular = refl
+lm-number : (x : Search) → lmDivides x ≡ ltb (numberOf x) 3
+unfolding lmDivides numberOf
+lm-number Contained = refl
+lm-number Reducer = refl
+lm-number High = refl
+lm-number Low = refl
+lm-number Singular = refl
 
 by-search : (r : Query) → byLm r ≡ ltb (searchOf r) 3
 unfolding byLm
@@ -137,13 +139,13 @@ by-search (high v q) = refl
 by-search (low i s) = refl
 by-search (singular i s l) = refl
 
-pub code-small : (x : Search) → code x < 5
-unfolding code
-code-small Contained = omega arith
-code-small Reducer = omega arith
-code-small High = omega arith
-code-small Low = omega arith
-code-small Singular = omega arith
+pub number-small : (x : Search) → numberOf x < 5
+unfolding numberOf
+number-small Contained = omega arith
+number-small Reducer = omega arith
+number-small High = omega arith
+number-small Low = omega arith
+number-small Singular = omega arith
 
 limit-of : (r : Query) (v : ℕ) → limitOf r v ≡ limitFor (byLm r) (dividend r) v
 unfolding limitOf limitFor
@@ -167,16 +169,17 @@ module _ (bs : List ℕ) (s : Shape) (h : HeadOk (words bs) (length bs) s) (st :
 module _ (bs ms Q₁ Q : List ℕ) (s : Shape) (h : HeadOk (words bs) (length bs) s) (can : Canonical 1 (s .variables) (words ms)) (x : Search) (masks from to floor : ℕ)
     (L : Limited Q₁ s (limitFor (lmDivides x) (words ms)))
     (em : masks ≡ mask (s .variables) (mapMaxima (words bs) s) (pow 1 (words ms)) + 4294967296 * vector (s .variables) (pow 1 (words ms)))
-    (A : Asked Q₁ Q s (lmDivides x) (code x) (masks % 4294967296) (masks / 4294967296) from to floor) where
+    (A : WordsAre Q₁ Q s (lmDivides x) (numberOf x) (masks % 4294967296) (masks / 4294967296) from to floor) where
   low-half : masks % 4294967296 ≡ mask (s .variables) (mapMaxima (words bs) s) (pow 1 (words ms))
   low-half = omega (arith, em, mask-small (s .variables) (mapMaxima (words bs) s) (pow 1 (words ms)))
 
   high-half : masks / 4294967296 ≡ vector (s .variables) (pow 1 (words ms))
   high-half = omega (arith, em, mask-small (s .variables) (mapMaxima (words bs) s) (pow 1 (words ms)))
 
-  module _ (st : State) (r : Query) (I : Is st bs) (home : st .kind ≡ kindFor r) (is : searchOf r ≡ code x) (em′ : words ms ≡ dividend r) (range : st .kind ≡ ratioed → Range st r from to floor) where
+  module _ (st : State) (r : Query) (I : Is st bs) (home : st .kind ≡ kindFor r) (is : searchOf r ≡ numberOf x) (em′ : words ms ≡ dividend r)
+      (range : st .kind ≡ ratioed → Range st r from to floor) where
     lm-is : lmDivides x ≡ byLm r
-    lm-is = lm-code x ∙ ap (λ (k : ℕ). ltb k 3) (sym is) ∙ sym (by-search r)
+    lm-is = lm-number x ∙ ap (λ (k : ℕ). ltb k 3) (sym is) ∙ sym (by-search r)
 
     asks : Asks st r ms s Q
     asks =
@@ -196,7 +199,7 @@ module _ (bs ms Q₁ Q : List ℕ) (s : Shape) (h : HeadOk (words bs) (length bs
           range = λ k. rw (A .from-is, A .to-is, A .floor-is) (range k);
         }
 
-  pub posed : Poses bs ms (code x) from to floor Q
+  pub posed : Poses bs ms (numberOf x) from to floor Q
   unfolding Poses
   posed st r I home is em′ range =
       let e = A .laid-is .shape in
@@ -207,15 +210,23 @@ module _ (bs ms Q₁ Q : List ℕ) (s : Shape) (h : HeadOk (words bs) (length bs
       }
 
 -- the same, from the writes
-pub all-written : (bs ms b₁ b₂ b₃ b₄ b₅ : List ℕ) (s : Shape) → HeadOk (words bs) (length bs) s → Canonical 1 (s .variables) (words ms) → (x : Search) (n : ℕ) (lm : Bool) (masks from to floor : ℕ)
-    → (from < 2 ^ 64) × ((to < 2 ^ 64) × (floor < 2 ^ 64)) → 368 ≤ length b₁ → n ≡ code x → lm ≡ lmDivides x → Limited (words b₁) s (limitFor lm (words ms))
+pub all-written : (bs ms b₁ b₂ b₃ b₄ b₅ : List ℕ) (s : Shape) → HeadOk (words bs) (length bs) s → Canonical 1 (s .variables) (words ms)
+    → (x : Search) (n : ℕ) (lm : Bool) (masks from to floor : ℕ)
+    → (from < 2 ^ 64) × ((to < 2 ^ 64) × (floor < 2 ^ 64)) → 368 ≤ length b₁ → n ≡ numberOf x → lm ≡ lmDivides x → Limited (words b₁) s (limitFor lm (words ms))
     → masks ≡ mask (s .variables) (mapMaxima (words bs) s) (pow 1 (words ms)) + 4294967296 * vector (s .variables) (pow 1 (words ms))
     → b₂ ≡ pasteW b₁ 66 (maskWords n lm (masks % 4294967296) (masks / 4294967296)) → b₃ ≡ pasteW b₂ 72 (rangeWords from to floor)
-    → b₄ ≡ pasteW b₃ 78 (slotWords s lm) → b₅ ≡ pasteW b₄ 80 (placeWords s ++ shapeWords s) → Poses bs ms (code x) from to floor (words b₅)
+    → b₄ ≡ pasteW b₃ 78 (slotWords s lm) → b₅ ≡ pasteW b₄ 80 (placeWords s ++ shapeWords s) → Poses bs ms (numberOf x) from to floor (words b₅)
 all-written bs ms b₁ b₂ b₃ b₄ b₅ s h can x n lm masks from to floor (hf, (ht, hl)) room en el L em e₂ e₃ e₄ e₅ =
     let lim : Limited (words b₁) s (limitFor (lmDivides x) (words ms)) = rw el at L in
-    let d₂ : b₂ ≡ pasteW b₁ 66 (maskWords (code x) (lmDivides x) (masks % 4294967296) (masks / 4294967296)) = rw (en, el) at e₂ in
+    let d₂ : b₂ ≡ pasteW b₁ 66 (maskWords (numberOf x) (lmDivides x) (masks % 4294967296) (masks / 4294967296)) = rw (en, el) at e₂ in
     let d₄ : b₄ ≡ pasteW b₃ 78 (slotWords s (lmDivides x)) = rw el at e₄ in
-    let hv : masks / 4294967296 < 4294967296 = omega (arith, em, mask-small (s .variables) (mapMaxima (words bs) s) (pow 1 (words ms)), vector-small (s .variables) (pow 1 (words ms))) in
+    let hv : masks / 4294967296 < 4294967296 = omega (
+      arith,
+      em,
+      mask-small (s .variables) (mapMaxima (words bs) s) (pow 1 (words ms)),
+      vector-small (s .variables)
+          (pow 1 (words ms)),
+    ) in
     posed bs ms (words b₁) (words b₅) s h can x masks from to floor lim em
-    (asked-are s (h .range) (lmDivides x) (code x) (masks % 4294967296) (masks / 4294967296) from to floor (omega (arith, code-small x)) (omega arith) hv hf ht hl b₁ b₂ b₃ b₄ b₅ room d₂ e₃ d₄ e₅)
+    (asked-are s (h .range) (lmDivides x) (numberOf x) (masks % 4294967296) (masks / 4294967296) from to floor (omega (arith, number-small x)) (omega arith) hv hf ht hl b₁
+    b₂ b₃ b₄ b₅ room d₂ e₃ d₄ e₅)

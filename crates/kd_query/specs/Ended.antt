@@ -18,14 +18,14 @@ pub record From (l : map.State) (x r : ℕ) : Type 0 where
   pub is : (i : ℕ) → i < length (l .rows) → not (ltb (map.value (l .rows) i .index) x) ≡ leb r (map.label (l .rows) i)
 
 -- the row with p values below its own, and its index
-unfoldable pub rowAt : map.State → ℕ → ℕ
-rowAt l p = getD (sorted map.cmp (map.value (l .rows)) (length (l .rows))) p 0
+unfoldable pub rowOfRank : map.State → ℕ → ℕ
+rowOfRank l p = getD (sorted map.cmp (map.value (l .rows)) (length (l .rows))) p 0
 
-abbrev pub indexAt : map.State → ℕ → ℕ
-indexAt l p = map.value (l .rows) (rowAt l p) .index
+abbrev pub indexOfRank : map.State → ℕ → ℕ
+indexOfRank l p = map.value (l .rows) (rowOfRank l p) .index
 
 -- in the order of values, the rows before lo have an index below x, those from hi on have not
-pub record Parts (l : map.State) (x lo hi : ℕ) : Type 0 where
+pub record Halved (l : map.State) (x lo hi : ℕ) : Type 0 where
   pub inside : hi ≤ length (l .rows)
-  pub below : (p : ℕ) → p < lo → indexAt l p < x
-  pub from : (p : ℕ) → hi ≤ p → p < length (l .rows) → x ≤ indexAt l p
+  pub below : (p : ℕ) → p < lo → indexOfRank l p < x
+  pub from : (p : ℕ) → hi ≤ p → p < length (l .rows) → x ≤ indexOfRank l p

@@ -4,22 +4,27 @@ use mathlib.Core.Bool.{Bool, true, false, cond, _&&_}
 use mathlib.Core.List.{List, [], _∷_}
 use Prim.Native.Nat.{ℕ, _+_, _/_, _%_, _<_}
 use lib.ListN.{getD}
+use Rattle.words.specs.Words.{words}
 use Rattle.monomial.specs.Monomial.{pow}
-use Rattle.index_theory.specs.Searches.{dense}
+use Rattle.index_theory.specs.Ranges.{dividend}
+use Rattle.index_theory.specs.Searches.{Query, kindFor, dense}
+use Rattle.index_theory.specs.State.{ratioed, State}
+use Rattle.index_image.specs.Layout.{Is}
 use Rattle.index_image.specs.Shape as at
 use Rattle.index_image.specs.declared.Shape.{Shape}
-use Rattle.kd_tree.specs.Asked.{slotAt}
+use Rattle.kd_tree.specs.Asked.{searchOf, slotAt, Range}
+use Rattle.kd_tree.specs.Rooted.{Rooted}
 use Rattle.kd_query.specs.declared.Search.{Search}
 use Rattle.kd_query.specs.declared.Search.the-variants.{Contained, Reducer, High, Low, Singular}
 
 -- ---- what is searched for
 -- its number, which is `searchOf` of the request
-unfoldable pub code : Search → ℕ
-code Contained = 0
-code Reducer = 1
-code High = 2
-code Low = 3
-code Singular = 4
+unfoldable pub numberOf : Search → ℕ
+numberOf Contained = 0
+numberOf Reducer = 1
+numberOf High = 2
+numberOf Low = 3
+numberOf Singular = 4
 
 -- lms are to divide, or else signature monomials
 unfoldable pub lmDivides : Search → Bool
@@ -58,3 +63,14 @@ placeWords s = at.nodeAt s 0 ∷ at.nodeWidth (s .variables) ∷ at.permutationA
 
 unfoldable pub shapeWords : Shape → List ℕ
 shapeWords s = at.labelAt s 0 ∷ s .kind ∷ s .variables ∷ s .capacity ∷ s .entries ∷ s .nodes ∷ []
+
+-- ---- what the words are made for
+-- with the image bs and the monomial ms, the words Q stand for every request of the search's number that has this range of labels
+unfoldable pub Poses : (bs ms : List ℕ) (search from to floor : ℕ) (Q : List ℕ) → Type 0
+Poses bs ms search from to floor Q =
+    (st : State) (r : Query) → Is st bs → st .kind ≡ kindFor r → searchOf r ≡ search → words ms ≡ dividend r
+    → (st .kind ≡ ratioed → Range st r from to floor) → Rooted st r bs ms Q
+
+-- they stand for the request r, whatever state the image holds
+unfoldable pub PosedFor : (bs ms : List ℕ) (r : Query) (Q : List ℕ) → Type 0
+PosedFor bs ms r Q = (st : State) → Is st bs → Rooted st r bs ms Q

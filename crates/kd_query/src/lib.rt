@@ -18,8 +18,7 @@ ghost use Rattle.index_image.specs.Head.{HeadOk};
 ghost use Rattle.index_image.specs.Layout.{Sound};
 ghost use Rattle.index_image.specs.Shape as at;
 ghost use Rattle.index_image.specs.Walk.{mapMaxima};
-ghost use Rattle.kd_query.specs.Posed.{code, lmDivides};
-ghost use Rattle.kd_query.specs.Asking.{Poses, Stands};
+ghost use Rattle.kd_query.specs.Posed.{numberOf, lmDivides, Poses, PosedFor};
 
 pub enum Search {
     Contained,
@@ -31,7 +30,7 @@ pub enum Search {
 
 // Its number in the words of a query.
 fn number(search: Search) -> usize
-    ensures { λ r. ⌜ r ≡ code search ⌝ }
+    ensures { λ r. ⌜ r ≡ numberOf search ⌝ }
 {
     match search {
         Search::Contained => 0,
@@ -85,7 +84,7 @@ pub fn pose(
     requires { ⌜ HeadOk (words (now image)) (length (now image)) s ⌝ }
     requires { ⌜ 368 ≤ length (now q) ⌝ }
     requires { ⌜ Canonical 1 (s .variables) (words (now m)) ⌝ }
-    ensures { λ _. ⌜ Poses (now (image .entry)) (now (m .entry)) (code search) from to floor (words (now (q .exit))) ⌝ }
+    ensures { λ _. ⌜ Poses (now (image .entry)) (now (m .entry)) (numberOf search) from to floor (words (now (q .exit))) ⌝ }
 {
     let lm = by_lm(search);
     limits::limit(q, s, lm, m);
@@ -102,7 +101,7 @@ pub fn contained(image: &[u8], s: Shape, q: &mut [u8], m: &[u8])
     requires { ⌜ s .kind ≡ 0 ⌝ }
     requires { ⌜ 368 ≤ length (now q) ⌝ }
     requires { ⌜ Canonical 1 (s .variables) (words (now m)) ⌝ }
-    ensures { λ _. ⌜ Stands (now (image .entry)) (now (m .entry)) (containment (words (now (m .entry)))) (words (now (q .exit))) ⌝ }
+    ensures { λ _. ⌜ PosedFor (now (image .entry)) (now (m .entry)) (containment (words (now (m .entry)))) (words (now (q .exit))) ⌝ }
 {
     pose(image, s, q, m, Search::Contained, 0, 0, 0);
 }
@@ -115,7 +114,7 @@ pub fn reducer(image: &[u8], s: Shape, q: &mut [u8], index: u32, ratio: &[u8], m
     requires { ⌜ 368 ≤ length (now q) ⌝ }
     requires { ⌜ Canonical 2 4096 (words (now ratio)) ⌝ }
     requires { ⌜ Canonical 1 (s .variables) (words (now m)) ⌝ }
-    ensures { λ _. ⌜ Stands (now (image .entry)) (now (m .entry)) (reducing (valueOf index (words (now (ratio .entry)))) (words (now (m .entry)))) (words (now (q .exit))) ⌝ }
+    ensures { λ _. ⌜ PosedFor (now (image .entry)) (now (m .entry)) (reducing (valueOf index (words (now (ratio .entry)))) (words (now (m .entry)))) (words (now (q .exit))) ⌝ }
 {
     let e = ranges::ends_of(image, s, index, ratio);
     pose(image, s, q, m, Search::Reducer, 0, e.above, e.below);
@@ -129,7 +128,7 @@ pub fn high(image: &[u8], s: Shape, q: &mut [u8], index: u32, ratio: &[u8], m: &
     requires { ⌜ 368 ≤ length (now q) ⌝ }
     requires { ⌜ Canonical 2 4096 (words (now ratio)) ⌝ }
     requires { ⌜ Canonical 1 (s .variables) (words (now m)) ⌝ }
-    ensures { λ _. ⌜ Stands (now (image .entry)) (now (m .entry)) (high (valueOf index (words (now (ratio .entry)))) (words (now (m .entry)))) (words (now (q .exit))) ⌝ }
+    ensures { λ _. ⌜ PosedFor (now (image .entry)) (now (m .entry)) (high (valueOf index (words (now (ratio .entry)))) (words (now (m .entry)))) (words (now (q .exit))) ⌝ }
 {
     let e = ranges::ends_of(image, s, index, ratio);
     pose(image, s, q, m, Search::High, e.above, 4294967296, 0);
@@ -143,7 +142,7 @@ pub fn low(image: &[u8], s: Shape, q: &mut [u8], index: u32, m: &[u8])
     requires { ⌜ 368 ≤ length (now q) ⌝ }
     requires { ⌜ index < 268435456 ⌝ }
     requires { ⌜ Canonical 1 (s .variables) (words (now m)) ⌝ }
-    ensures { λ _. ⌜ Stands (now (image .entry)) (now (m .entry)) (low index (words (now (m .entry)))) (words (now (q .exit))) ⌝ }
+    ensures { λ _. ⌜ PosedFor (now (image .entry)) (now (m .entry)) (low index (words (now (m .entry)))) (words (now (q .exit))) ⌝ }
 {
     let from = ranges::from_of(image, s, index);
     let to = ranges::from_of(image, s, index + 1);
@@ -168,7 +167,7 @@ pub fn singular(
     requires { ⌜ index < 268435456 ⌝ }
     requires { ⌜ Canonical 1 (s .variables) (words (now m)) ⌝ }
     requires { ⌜ Canonical 1 (s .variables) (words (now lm)) ⌝ }
-    ensures { λ _. ⌜ Stands (now (image .entry)) (now (m .entry)) (singular index (words (now (m .entry))) (words (now (lm .entry)))) (words (now (q .exit))) ⌝ }
+    ensures { λ _. ⌜ PosedFor (now (image .entry)) (now (m .entry)) (singular index (words (now (m .entry))) (words (now (lm .entry)))) (words (now (q .exit))) ⌝ }
 {
     let n = monomial::fraction_division(m, lm, scratch);
     let e = 4 * n;

@@ -1,4 +1,4 @@
-use Rattle.kd_query.proofs.Calling.{contained-stands}
+use Rattle.kd_query.proofs.Calling.{contained-posed}
 use borrow.Author.Needs.{needs}
 use Rattle.kd_query.proofs.contained.Statement.{statement}
 use Rattle.kd_query.proofs.contained.Tie as tie
@@ -16,7 +16,10 @@ same-length c = search needs
 
 -- src/lib.rt:99:1
 returns : tie.Need-returns
-returns c = contained-stands (c .before .before .before .before .before .before .before .args .image .now) (c .before .before .before .before .before .before .before .args .s) (c .before .before .before .before .before .before .before .pre .1 .0) (c .before .before .before .before .before .before .before .args .m .now) _ (c .before .before .before .before .before .before .before .pre .1 .1 .0) (c .before .before .pose .ensures)
+returns c =
+    let b2 = c .before .before in
+    let s = b2 .before .before .before .before .before in
+    contained-posed (s .args .image .now) (s .args .s) (s .pre .1 .0) (s .args .m .now) _ (s .pre .1 .1 .0) (b2 .pose .ensures)
 
 pub contained-spec : {M : Type 1} → statement M
 contained-spec = tie.close (tie.spec pose-requires same-length returns)

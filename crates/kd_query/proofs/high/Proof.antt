@@ -1,6 +1,6 @@
 use Rattle.words.specs.Words.{words}
 use Rattle.fast_compare.specs.Map.{valueOf}
-use Rattle.kd_query.proofs.Calling.{high-stands}
+use Rattle.kd_query.proofs.Calling.{high-posed}
 use borrow.Author.Needs.{needs}
 use Rattle.kd_query.proofs.high.Statement.{statement}
 use Rattle.kd_query.proofs.high.Tie as tie
@@ -23,7 +23,12 @@ same-length c = search needs
 
 -- src/lib.rt:125:1
 returns : tie.Need-returns
-returns c = high-stands (c .before .before .before .before .before .before .before .before .before .args .image .now) (c .before .before .before .before .before .before .before .before .before .args .s) (c .before .before .before .before .before .before .before .before .before .pre .1 .0) (c .before .before .before .before .before .before .before .before .before .args .m .now) _ (c .before .before .before .before .before .before .before .before .before .pre .1 .1 .0) (valueOf (c .before .before .before .before .before .before .before .before .before .args .index) (words (c .before .before .before .before .before .before .before .before .before .args .ratio .now))) (c .before .before .before .before .ends-of .result .above) (c .before .before .before .before .ends-of .result .below) 0 (c .before .before .before .before .ends-of .ensures) (c .before .before .pose .ensures)
+returns c =
+    let b2 = c .before .before in
+    let b4 = b2 .before .before in
+    let s = b4 .before .before .before .before .before in
+    high-posed (s .args .image .now) (s .args .s) (s .pre .1 .0) (s .args .m .now) _ (s .pre .1 .1 .0)
+    (valueOf (s .args .index) (words (s .args .ratio .now))) (b4 .ends-of .result .above) (b4 .ends-of .result .below) 0 (b4 .ends-of .ensures) (b2 .pose .ensures)
 
 pub high-spec : {M : Type 1} → statement M
 high-spec = tie.close (tie.spec ends-of-requires pose-requires same-length returns)

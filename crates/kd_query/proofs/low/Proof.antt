@@ -1,4 +1,4 @@
-use Rattle.kd_query.proofs.Calling.{low-stands}
+use Rattle.kd_query.proofs.Calling.{low-posed}
 use borrow.Author.Needs.{needs}
 use Rattle.kd_query.proofs.low.Statement.{statement}
 use Rattle.kd_query.proofs.low.Tie as tie
@@ -29,7 +29,13 @@ same-length c = search needs
 
 -- src/lib.rt:139:1
 returns : tie.Need-returns
-returns c = low-stands (c .before .before .before .before .before .before .before .before .before .args .image .now) (c .before .before .before .before .before .before .before .before .before .args .s) (c .before .before .before .before .before .before .before .before .before .pre .1 .0) (c .before .before .before .before .before .before .before .before .before .args .m .now) _ (c .before .before .before .before .before .before .before .before .before .pre .1 .1 .0) (c .before .before .before .before .before .before .before .before .before .args .index) (c .before .before .before .before .before .from-of .result) (c .before .before .before .before .from-of2 .result) 0 (c .before .before .before .before .before .from-of .ensures) (c .before .before .before .before .from-of2 .ensures) (c .before .before .pose .ensures)
+returns c =
+    let b2 = c .before .before in
+    let b4 = b2 .before .before in
+    let b5 = b4 .before in
+    let s = b5 .before .before .before .before in
+    low-posed (s .args .image .now) (s .args .s) (s .pre .1 .0) (s .args .m .now) _ (s .pre .1 .1 .0) (s .args .index) (b5 .from-of .result)
+    (b4 .from-of2 .result) 0 (b5 .from-of .ensures) (b4 .from-of2 .ensures) (b2 .pose .ensures)
 
 pub low-spec : {M : Type 1} → statement M
 low-spec =

@@ -44,11 +44,23 @@ cast-map c = search needs
 
 -- src/lib.rt:67:5
 map-requires : tie.Need-map-requires
-map-requires c κs = (rw (part-of (c .before .before .before .args .image .now) (at.mapAt (c .before .before .before .args .s .variables)) (c .before .before .before .args .s .variables) (4 * at.mapAt (c .before .before .before .args .s .variables) + 4 * (c .before .before .before .args .s .variables) - 4 * at.mapAt (c .before .before .before .args .s .variables)) (omega arith)) (c .before .before .before .pre .1 .1 .0), starts-whole (c .before .before .before .pre .1 .1 .1))
+map-requires c κs =
+    let s = c .before .before .before in (
+      rw (part-of (s .args .image .now) (at.mapAt (s .args .s .variables)) (s .args .s .variables)
+          (4 * at.mapAt (s .args .s .variables) + 4 * (s .args .s .variables) - 4 * at.mapAt (s .args .s .variables)) (omega arith)) (s .pre .1 .1 .0),
+      starts-whole (s .pre .1 .1 .1),
+    )
 
 -- src/lib.rt:57:1
 returns : tie.Need-returns
-returns c = rw (part-of (c .before .before .before .before .args .image .now) (at.mapAt (c .before .before .before .before .args .s .variables)) (c .before .before .before .before .args .s .variables) (4 * at.mapAt (c .before .before .before .before .args .s .variables) + 4 * (c .before .before .before .before .args .s .variables) - 4 * at.mapAt (c .before .before .before .before .args .s .variables)) (omega arith), first-whole (c .before .before .before .before .pre .1 .1 .1)) at (c .map .ensures)
+returns c =
+    let s = c .before .before .before .before in
+    rw (
+      part-of (s .args .image .now) (at.mapAt (s .args .s .variables)) (s .args .s .variables)
+          (4 * at.mapAt (s .args .s .variables) + 4 * (s .args .s .variables) - 4 * at.mapAt (s .args .s .variables)) (omega arith),
+      first-whole
+          (s .pre .1 .1 .1),
+    ) at (c .map .ensures)
 
 pub masks-of-spec : {M : Type 1} → statement M
 masks-of-spec =

@@ -1,5 +1,5 @@
 use native.Mathlib.Omega.{arith}
-use Rattle.kd_query.proofs.Standing.{code-small, map-good, all-written}
+use Rattle.kd_query.proofs.Standing.{number-small, map-good, all-written}
 use borrow.Author.Needs.{needs}
 use Rattle.kd_query.proofs.pose.Statement.{statement}
 use Rattle.kd_query.proofs.pose.Tie as tie
@@ -28,11 +28,16 @@ number-requires c κs = search needs
 
 -- src/lib.rt:90:47
 masks-of-requires : tie.Need-masks-of-requires
-masks-of-requires c κs = (c .before .before .before .before .before .before .before .before .before .before .pre .1 .0 .range, (c .before .before .before .before .before .before .before .before .before .before .pre .1 .0 .room, (map-good (c .before .before .before .before .before .before .before .before .before .before .args .image .now) (c .before .before .before .before .before .before .before .before .before .before .args .s) (c .before .before .before .before .before .before .before .before .before .before .pre .1 .0) (c .before .before .before .before .before .before .before .before .before .before .pre .0 .state) (c .before .before .before .before .before .before .before .before .before .before .pre .0 .is), c .before .before .before .before .before .before .before .before .before .before .pre .1 .1 .1)))
+masks-of-requires c κs =
+    let s = c .before .before .before .before .before .before .before .before .before .before in
+    (s .pre .1 .0 .range, (s .pre .1 .0 .room, (map-good (s .args .image .now) (s .args .s) (s .pre .1 .0) (s .pre .0 .state) (s .pre .0 .is), s .pre .1 .1 .1)))
 
 -- src/lib.rt:90:5
 put-masks-requires : tie.Need-put-masks-requires
-put-masks-requires c κs = (omega (arith, c .before .before .before .before .before .before .before .before .before .before .before .pre .1 .1 .0, c .before .before .before .before .before .limit .kept .0), omega (arith, c .before .number .ensures, code-small (c .before .before .before .before .before .before .before .before .before .before .before .args .search)))
+put-masks-requires c κs =
+    let b5 = c .before .before .before .before .before in
+    let s = b5 .before .before .before .before .before .before in
+    (omega (arith, s .pre .1 .1 .0, b5 .limit .kept .0), omega (arith, c .before .number .ensures, number-small (s .args .search)))
 
 -- src/lib.rt:91:5
 put-range-requires : tie.Need-put-range-requires
@@ -52,10 +57,21 @@ same-length c = search needs
 
 -- src/lib.rt:72:1
 returns : tie.Need-returns
-returns c = all-written (c .before .before .before .before .before .before .before .before .before .before .before .before .before .before .before .before .before .before .before .before .before .before .before .before .before .before .args .image .now) (c .before .before .before .before .before .before .before .before .before .before .before .before .before .before .before .before .before .before .before .before .before .before .before .before .before .before .args .m .now) (c .before .before .before .before .before .before .before .before .before .before .before .before .before .before .before .before .before .before .before .before .limit .last .0) (c .before .before .before .before .before .before .before .before .before .before .before .before .before .before .put-masks .last .0) (c .before .before .before .before .before .before .before .before .before .before .put-range .last .0) (c .before .before .before .before .before .before .put-slot .last .0) (c .before .before .lay .last .0) (c .before .before .before .before .before .before .before .before .before .before .before .before .before .before .before .before .before .before .before .before .before .before .before .before .before .before .args .s) (c .before .before .before .before .before .before .before .before .before .before .before .before .before .before .before .before .before .before .before .before .before .before .before .before .before .before .pre .1 .0) (c .before .before .before .before .before .before .before .before .before .before .before .before .before .before .before .before .before .before .before .before .before .before .before .before .before .before .pre .1 .1 .1)
-    (c .before .before .before .before .before .before .before .before .before .before .before .before .before .before .before .before .before .before .before .before .before .before .before .before .before .before .args .search) (c .before .before .before .before .before .before .before .before .before .before .before .before .before .before .before .before .number .result) (c .before .before .before .before .before .before .before .before .before .before .before .before .before .before .before .before .before .before .before .before .before .before .by-lm .result) (c .before .before .before .before .before .before .before .before .before .before .before .before .before .before .before .masks-of .result) (c .before .before .before .before .before .before .before .before .before .before .before .before .before .before .before .before .before .before .before .before .before .before .before .before .before .before .args .from) (c .before .before .before .before .before .before .before .before .before .before .before .before .before .before .before .before .before .before .before .before .before .before .before .before .before .before .args .to) (c .before .before .before .before .before .before .before .before .before .before .before .before .before .before .before .before .before .before .before .before .before .before .before .before .before .before .args .floor)
-    (c .before .before .before .before .before .before .before .before .before .before .before .before .before .before .before .before .before .before .before .before .before .before .before .before .before .before .fits .from .fits, (c .before .before .before .before .before .before .before .before .before .before .before .before .before .before .before .before .before .before .before .before .before .before .before .before .before .before .fits .to .fits, c .before .before .before .before .before .before .before .before .before .before .before .before .before .before .before .before .before .before .before .before .before .before .before .before .before .before .fits .floor .fits)) (omega (arith, c .before .before .before .before .before .before .before .before .before .before .before .before .before .before .before .before .before .before .before .before .before .before .before .before .before .before .pre .1 .1 .0, c .before .before .before .before .before .before .before .before .before .before .before .before .before .before .before .before .before .before .before .before .limit .kept .0)) (c .before .before .before .before .before .before .before .before .before .before .before .before .before .before .before .before .number .ensures) (c .before .before .before .before .before .before .before .before .before .before .before .before .before .before .before .before .before .before .before .before .before .before .by-lm .ensures) (c .before .before .before .before .before .before .before .before .before .before .before .before .before .before .before .before .before .before .before .before .limit .ensures)
-    (c .before .before .before .before .before .before .before .before .before .before .before .before .before .before .before .masks-of .ensures) (c .before .before .before .before .before .before .before .before .before .before .before .before .before .before .put-masks .ensures) (c .before .before .before .before .before .before .before .before .before .before .put-range .ensures) (c .before .before .before .before .before .before .put-slot .ensures) (c .before .before .lay .ensures)
+returns c =
+    let b2 = c .before .before in
+    let b6 = b2 .before .before .before .before in
+    let b10 = b6 .before .before .before .before in
+    let b14 = b10 .before .before .before .before in
+    let b15 = b14 .before in
+    let b16 = b15 .before in
+    let b20 = b16 .before .before .before .before in
+    let b22 = b20 .before .before in
+    let s = b22 .before .before .before .before in
+    all-written (s .args .image .now) (s .args .m .now) (b20 .limit .last .0) (b14 .put-masks .last .0) (b10 .put-range .last .0)
+    (b6 .put-slot .last .0) (b2 .lay .last .0) (s .args .s) (s .pre .1 .0) (s .pre .1 .1 .1) (s .args .search) (b16 .number .result)
+    (b22 .by-lm .result) (b15 .masks-of .result) (s .args .from) (s .args .to) (s .args .floor)
+    (s .fits .from .fits, (s .fits .to .fits, s .fits .floor .fits)) (omega (arith, s .pre .1 .1 .0, b20 .limit .kept .0)) (b16 .number .ensures)
+    (b22 .by-lm .ensures) (b20 .limit .ensures) (b15 .masks-of .ensures) (b14 .put-masks .ensures) (b10 .put-range .ensures) (b6 .put-slot .ensures) (b2 .lay .ensures)
 
 pub pose-spec : {M : Type 1} → statement M
 pose-spec =

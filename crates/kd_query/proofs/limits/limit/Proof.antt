@@ -16,7 +16,10 @@ pass-all-requires c κs = search needs
 
 -- src/limits.rt:57:9
 set-powers-requires : tie.Need-set-powers-requires
-set-powers-requires c κs = (c .before .before .before .before .before .before .before .before .pre .0, (omega (arith, c .before .before .before .before .before .before .before .before .pre .1 .0, c .before .before .before .before .pass-all .kept .0), (c .before .before .before .before .before .before .before .before .pre .1 .1, c .before .before .before .before .pass-all .ensures)))
+set-powers-requires c κs =
+    let b4 = c .before .before .before .before in
+    let s = b4 .before .before .before .before in
+    (s .pre .0, (omega (arith, s .pre .1 .0, b4 .pass-all .kept .0), (s .pre .1 .1, b4 .pass-all .ensures)))
 
 -- src/limits.rt:49:1
 same-length : tie.Need-same-length
@@ -32,7 +35,10 @@ same-length-2 c = search needs
 
 -- src/limits.rt:49:1
 returns-2 : tie.Need-returns-2
-returns-2 c = rw (c .if1 .left) (pass-all _ (words (c .before .before .before .before .before .before .before .args .m .now)) (c .before .before .before .before .before .before .before .args .s) (c .before .before .before .pass-all .ensures))
+returns-2 c =
+    let b3 = c .before .before .before in
+    let s = b3 .before .before .before .before in
+    rw (c .if1 .left) (pass-all _ (words (s .args .m .now)) (s .args .s) (b3 .pass-all .ensures))
 
 pub limit-spec : {M : Type 1} → statement M
 limit-spec =

@@ -2,7 +2,7 @@ use native.Mathlib.Omega.{arith}
 use Prim.Native.Nat.{ℕ, _+_, _-_, _≤_}
 use lib.ListN.{length}
 use mathlib.Core.Path.{_≡_, refl}
-use Rattle.kd_query.proofs.Limiting.{Passing, pass-more, pass-end}
+use Rattle.kd_query.proofs.Limiting.{AllPass, pass-more, pass-end}
 use Rattle.kd_query.proofs.limits.pass_all.Statement.{statement}
 use Rattle.kd_query.proofs.limits.pass_all.Tie as tie
 use Rattle.kd_query.proofs.limits.pass_all.Reads as reads
@@ -10,7 +10,7 @@ use Rattle.kd_query.proofs.limits.pass_all.Lts as lts
 use Rattle.words.proofs.put.Reads as put-reads
 
 abbrev Inv-loop : tie.InvT-loop
-Inv-loop q₀ s v₀ q v = ((v ≤ s .variables) × (length q ≡ length q₀)) × Passing q s v
+Inv-loop q₀ s v₀ q v = ((v ≤ s .variables) × (length q ≡ length q₀)) × AllPass q s v
 
 abbrev μ-loop : tie.MeasureT-loop
 μ-loop q₀ s v₀ q v = s .variables - v
@@ -25,15 +25,25 @@ add-put c = omega (arith, c .before .before .before .before .before .before .pre
 
 -- src/limits.rt:19:23
 add-put-2 : tie.Need-add-put-2 Inv-loop μ-loop
-add-put-2 c = omega (arith, c .before .before .before .before .before .before .pre .0 .kind-to, c .before .before .before .before .loop .inv .0 .0, c .before .before .before .before .before .before .pre .0 .vars-to)
+add-put-2 c =
+    let b4 = c .before .before .before .before in
+    let s = b4 .before .before in
+    omega (arith, s .pre .0 .kind-to, b4 .loop .inv .0 .0, s .pre .0 .vars-to)
 
 -- src/limits.rt:19:9
 put-requires : tie.Need-put-requires Inv-loop μ-loop
-put-requires c κs = omega (arith, c .before .before .before .before .before .before .pre .0 .kind-to, c .before .before .if1 .taken, c .before .before .before .before .before .before .pre .0 .vars-to, c .before .before .before .before .before .before .pre .1, c .before .before .before .before .loop .inv .0 .1)
+put-requires c κs =
+    let b2 = c .before .before in
+    let b4 = b2 .before .before in
+    let s = b4 .before .before in
+    omega (arith, s .pre .0 .kind-to, b2 .if1 .taken, s .pre .0 .vars-to, s .pre .1, b4 .loop .inv .0 .1)
 
 -- src/limits.rt:20:9
 add-v : tie.Need-add-v Inv-loop μ-loop
-add-v c = omega (arith, c .before .before .before .before .before .before .before .loop .inv .0 .0, c .before .before .before .before .before .before .before .before .before .pre .0 .vars-to)
+add-v c =
+    let b7 = c .before .before .before .before .before .before .before in
+    let s = b7 .before .before in
+    omega (arith, b7 .loop .inv .0 .0, s .pre .0 .vars-to)
 
 -- src/limits.rt:18:5
 loop-less : tie.Need-loop-less Inv-loop μ-loop
@@ -41,7 +51,15 @@ loop-less c = omega (arith, c .before .before .before .before .before .if1 .take
 
 -- src/limits.rt:18:5
 loop-again : tie.Need-loop-again Inv-loop μ-loop
-loop-again c = ((omega (arith, c .before .before .before .before .before .if1 .taken), omega (arith, c .before .before .put .kept .0, c .before .before .before .before .before .before .before .loop .inv .0 .1)), pass-more (c .before .before .before .before .before .before .before .loop .q) _ (c .before .before .before .before .before .before .before .before .before .args .s) (c .before .before .before .before .before .before .before .loop .v) (c .before .before .before .before .before .before .before .loop .inv .1) (omega (arith, c .before .before .before .before .before .before .before .before .before .pre .0 .kind-to, c .before .before .before .before .before .if1 .taken, c .before .before .before .before .before .before .before .before .before .pre .0 .vars-to, c .before .before .before .before .before .before .before .before .before .pre .1, c .before .before .before .before .before .before .before .loop .inv .0 .1)) (c .before .before .put .ensures))
+loop-again c =
+    let b2 = c .before .before in
+    let b5 = b2 .before .before .before in
+    let b7 = b5 .before .before in
+    let s = b7 .before .before in (
+      (omega (arith, b5 .if1 .taken), omega (arith, b2 .put .kept .0, b7 .loop .inv .0 .1)),
+      pass-more (b7 .loop .q) _ (s .args .s) (b7 .loop .v)
+          (b7 .loop .inv .1) (omega (arith, s .pre .0 .kind-to, b5 .if1 .taken, s .pre .0 .vars-to, s .pre .1, b7 .loop .inv .0 .1)) (b2 .put .ensures),
+    )
 
 -- src/limits.rt:12:1
 same-length : tie.Need-same-length Inv-loop μ-loop

@@ -41,15 +41,38 @@ add-clear c = omega (arith, c .before .before .before .before .before .before .p
 
 -- src/limits.rt:33:39
 add-clear-2 : tie.Need-add-clear-2 Inv-loop μ-loop
-add-clear-2 c = omega (arith, c .before .before .id .ensures, top-few (c .before .before .before .before .before .before .args .s) (c .before .before .before .before .before .before .pre .0) (words (c .before .before .before .before .before .before .args .m .now)) (c .before .before .before .before .before .before .pre .1 .1 .0) (c .before .before .before .get .result) (c .before .before .before .get .ensures))
+add-clear-2 c =
+    let b2 = c .before .before in
+    let b3 = b2 .before in
+    let s = b3 .before .before .before in
+    omega (arith, b2 .id .ensures, top-few (s .args .s) (s .pre .0) (words (s .args .m .now)) (s .pre .1 .1 .0) (b3 .get .result) (b3 .get .ensures))
 
 -- src/limits.rt:33:5
 clear-requires : tie.Need-clear-requires Inv-loop μ-loop
-clear-requires c κs = omega (arith, c .before .before .id .ensures, top-few (c .before .before .before .before .before .before .args .s) (c .before .before .before .before .before .before .pre .0) (words (c .before .before .before .before .before .before .args .m .now)) (c .before .before .before .before .before .before .pre .1 .1 .0) (c .before .before .before .get .result) (c .before .before .before .get .ensures), c .before .before .before .before .before .before .pre .0 .kind-to, c .before .before .before .before .before .before .pre .0 .vars-to, c .before .before .before .before .before .before .pre .1 .0)
+clear-requires c κs =
+    let b2 = c .before .before in
+    let b3 = b2 .before in
+    let s = b3 .before .before .before in
+    omega (
+      arith,
+      b2 .id .ensures,
+      top-few (s .args .s) (s .pre .0) (words (s .args .m .now)) (s .pre .1 .1 .0) (b3 .get .result) (b3 .get .ensures),
+      s .pre .0 .kind-to,
+      s .pre .0 .vars-to,
+      s .pre .1 .0,
+    )
 
 -- src/limits.rt:35:5
 loop-holds : tie.Need-loop-holds Inv-loop μ-loop
-loop-holds c = (refl, set-start (c .before .before .before .before .before .before .before .before .before .args .s) (c .before .before .before .before .before .before .before .before .before .pre .0) (words (c .before .before .before .before .before .before .before .before .before .args .m .now)) (c .before .before .before .before .before .before .before .before .before .pre .1 .1 .0) (c .before .before .before .before .before .before .before .before .before .args .q .now) _ (c .before .before .before .before .before .before .get .result) (c .before .before .before .before .before .before .before .before .before .pre .1 .0) (c .before .before .before .before .before .before .before .before .before .pre .1 .1 .1) (c .before .before .before .before .before .before .get .ensures) (rw (c .before .before .before .before .before .id .ensures) at (c .before .before .clear .ensures)))
+loop-holds c =
+    let b2 = c .before .before in
+    let b5 = b2 .before .before .before in
+    let b6 = b5 .before in
+    let s = b6 .before .before .before in (
+      refl,
+      set-start (s .args .s) (s .pre .0) (words (s .args .m .now)) (s .pre .1 .1 .0) (s .args .q .now) _ (b6 .get .result) (s .pre .1 .0)
+          (s .pre .1 .1 .1) (b6 .get .ensures) (rw (b5 .id .ensures) at (b2 .clear .ensures)),
+    )
 
 -- src/limits.rt:36:13
 get-requires-2 : tie.Need-get-requires-2 Inv-loop μ-loop
@@ -61,7 +84,11 @@ same-length c = search needs
 
 -- src/limits.rt:38:13
 returns : tie.Need-returns Inv-loop μ-loop
-returns c = set-end (c .before .before .before .before .before .before .before .before .before .before .before .before .args .s) (c .before .before .before .before .before .before .before .before .before .before .before .before .pre .0) (words (c .before .before .before .before .before .before .before .before .before .before .before .before .args .m .now)) (c .before .before .before .before .before .before .before .before .before .before .before .before .pre .1 .1 .0) (c .before .before .loop .q) (c .before .before .loop .i) (c .before .get2 .result) (c .before .before .loop .inv .1) (c .before .get2 .ensures) (c .if1 .taken)
+returns c =
+    let b2 = c .before .before in
+    let s = b2 .before .before .before .before .before .before .before .before .before .before in
+    set-end (s .args .s) (s .pre .0) (words (s .args .m .now)) (s .pre .1 .1 .0) (b2 .loop .q) (b2 .loop .i) (c .before .get2 .result)
+    (b2 .loop .inv .1) (c .before .get2 .ensures) (c .if1 .taken)
 
 -- src/limits.rt:40:23
 add-put : tie.Need-add-put Inv-loop μ-loop
@@ -77,19 +104,51 @@ add-put-2 c = omega (arith, c .before .before .before .before .before .before .b
 
 -- src/limits.rt:40:9
 put-requires : tie.Need-put-requires Inv-loop μ-loop
-put-requires c κs = omega (arith, set-more (c .before .before .before .before .before .before .before .before .before .before .before .before .before .before .args .s) (c .before .before .before .before .before .before .before .before .before .before .before .before .before .before .pre .0) (words (c .before .before .before .before .before .before .before .before .before .before .before .before .before .before .args .m .now)) (c .before .before .before .before .before .before .before .before .before .before .before .before .before .before .pre .1 .1 .0) (c .before .before .before .before .loop .q) (c .before .before .before .before .loop .i) (c .before .before .before .get2 .result) (c .before .before .before .before .loop .inv .1) (c .before .before .before .get2 .ensures) (c .before .before .if1 .left) .known, c .before .before .before .before .before .before .before .before .before .before .before .before .before .before .pre .0 .kind-to, c .before .before .before .before .before .before .before .before .before .before .before .before .before .before .pre .0 .vars-to, c .before .before .before .before .before .before .before .before .before .before .before .before .before .before .pre .1 .0, c .before .before .before .before .loop .inv .0, c .before .before .before .before .before .before .before .clear .kept .0)
+put-requires c κs =
+    let b2 = c .before .before in
+    let b3 = b2 .before in
+    let b4 = b3 .before in
+    let b7 = b4 .before .before .before in
+    let s = b7 .before .before .before .before .before .before .before in
+    omega (
+      arith,
+      set-more (s .args .s) (s .pre .0) (words (s .args .m .now)) (s .pre .1 .1 .0) (b4 .loop .q) (b4 .loop .i) (b3 .get2 .result)
+          (b4 .loop .inv .1) (b3 .get2 .ensures) (b2 .if1 .left) .known,
+      s .pre .0 .kind-to,
+      s .pre .0 .vars-to,
+      s .pre .1 .0,
+      b4 .loop .inv .0,
+      b7 .clear .kept .0,
+    )
 
 -- src/limits.rt:41:9
 add-i : tie.Need-add-i Inv-loop μ-loop
-add-i c = omega (arith, length-words (c .before .before .before .before .before .before .before .before .before .before .before .before .before .before .before .before .before .args .m .now), within (c .before .before .before .before .before .before .before .loop .inv .1 .ra))
+add-i c =
+    let b7 = c .before .before .before .before .before .before .before in
+    let s = b7 .before .before .before .before .before .before .before .before .before .before in
+    omega (arith, length-words (s .args .m .now), within (b7 .loop .inv .1 .ra))
 
 -- src/limits.rt:35:5
 loop-less : tie.Need-loop-less Inv-loop μ-loop
-loop-less c = omega (arith, length-words (c .before .before .before .before .before .before .before .before .before .before .before .before .before .before .before .before .before .args .m .now), within (c .before .before .before .before .before .before .before .loop .inv .1 .ra))
+loop-less c =
+    let b7 = c .before .before .before .before .before .before .before in
+    let s = b7 .before .before .before .before .before .before .before .before .before .before in
+    omega (arith, length-words (s .args .m .now), within (b7 .loop .inv .1 .ra))
 
 -- src/limits.rt:35:5
 loop-again : tie.Need-loop-again Inv-loop μ-loop
-loop-again c = (omega (arith, c .before .before .put .kept .0, c .before .before .before .before .before .before .before .loop .inv .0), set-more (c .before .before .before .before .before .before .before .before .before .before .before .before .before .before .before .before .before .args .s) (c .before .before .before .before .before .before .before .before .before .before .before .before .before .before .before .before .before .pre .0) (words (c .before .before .before .before .before .before .before .before .before .before .before .before .before .before .before .before .before .args .m .now)) (c .before .before .before .before .before .before .before .before .before .before .before .before .before .before .before .before .before .pre .1 .1 .0) (c .before .before .before .before .before .before .before .loop .q) (c .before .before .before .before .before .before .before .loop .i) (c .before .before .before .before .before .before .get2 .result) (c .before .before .before .before .before .before .before .loop .inv .1) (c .before .before .before .before .before .before .get2 .ensures) (c .before .before .before .before .before .if1 .left) .next _ (omega (arith, c .before .before .before .before .before .before .before .before .before .before .before .before .before .before .before .before .before .pre .1 .0, c .before .before .before .before .before .before .before .loop .inv .0, c .before .before .before .before .before .before .before .before .before .before .clear .kept .0)) (c .before .before .put .ensures))
+loop-again c =
+    let b2 = c .before .before in
+    let b5 = b2 .before .before .before in
+    let b6 = b5 .before in
+    let b7 = b6 .before in
+    let b10 = b7 .before .before .before in
+    let s = b10 .before .before .before .before .before .before .before in (
+      omega (arith, b2 .put .kept .0, b7 .loop .inv .0),
+      set-more (s .args .s) (s .pre .0) (words (s .args .m .now)) (s .pre .1 .1 .0) (b7 .loop .q)
+          (b7 .loop .i) (b6 .get2 .result) (b7 .loop .inv .1) (b6 .get2 .ensures) (b5 .if1 .left) .next _
+          (omega (arith, s .pre .1 .0, b7 .loop .inv .0, b10 .clear .kept .0)) (b2 .put .ensures),
+    )
 
 pub set-powers-spec : {M : Type 1} → statement M
 set-powers-spec =

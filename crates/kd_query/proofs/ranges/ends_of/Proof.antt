@@ -42,11 +42,23 @@ part-ends-in-end c = search needs
 
 -- src/ranges.rt:103:5
 ends-in-requires : tie.Need-ends-in-requires
-ends-in-requires c κs = (lent-sound (c .before .before .before .before .before .args .image .now) (c .before .before .before .before .before .args .s) (c .before .before .before .before .before .pre .1 .0) (c .before .before .before .before .before .pre .1 .1 .0) (c .before .before .labels-at .result) (c .before .labels-size .result) (c .before .before .labels-at .ensures) (c .before .labels-size .ensures) (c .before .before .before .before .before .pre .0), c .before .before .before .before .before .pre .1 .1 .1)
+ends-in-requires c κs =
+    let b2 = c .before .before in
+    let s = b2 .before .before .before in (
+      lent-sound (s .args .image .now) (s .args .s) (s .pre .1 .0) (s .pre .1 .1 .0) (b2 .labels-at .result) (c .before .labels-size .result)
+          (b2 .labels-at .ensures) (c .before .labels-size .ensures) (s .pre .0),
+      s .pre .1 .1 .1,
+    )
 
 -- src/ranges.rt:94:1
 returns : tie.Need-returns
-returns c = λ st I. (c .ends-in .ensures) (st .labels) (lent-is (c .before .before .before .before .before .before .args .image .now) (c .before .before .before .before .before .before .args .s) (c .before .before .before .before .before .before .pre .1 .0) (c .before .before .before .before .before .before .pre .1 .1 .0) (c .before .before .before .labels-at .result) (c .before .before .labels-size .result) (c .before .before .before .labels-at .ensures) (c .before .before .labels-size .ensures) st I)
+returns c =
+    let b2 = c .before .before in
+    let b3 = b2 .before in
+    let s = b3 .before .before .before in
+    λ st I. (c .ends-in .ensures) (st .labels)
+    (lent-is (s .args .image .now) (s .args .s) (s .pre .1 .0) (s .pre .1 .1 .0) (b3 .labels-at .result) (b2 .labels-size .result)
+    (b3 .labels-at .ensures) (b2 .labels-size .ensures) st I)
 
 pub ends-of-spec : {M : Type 1} → statement M
 ends-of-spec =

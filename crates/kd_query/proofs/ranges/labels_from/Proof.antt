@@ -23,11 +23,24 @@ label-at-requires c κs = search needs
 
 -- src/ranges.rt:85:9
 returns : tie.Need-returns
-returns c = (omega (arith, c .label-at .ensures .0), λ l i. from-label l (i .valid) (c .before .before .before .before .before .args .index) (c .before .before .before .rows-below .result) ((c .before .before .before .rows-below .ensures) l i) (c .label-at .result) (omega (arith, c .before .if1 .taken, (c .before .before .count .ensures .1) l i)) ((c .label-at .ensures .1) l i))
+returns c =
+    let b2 = c .before .before in
+    let b3 = b2 .before in
+    let s = b3 .before .before in (
+      omega (arith, c .label-at .ensures .0),
+      λ l i. from-label l (i .valid) (s .args .index) (b3 .rows-below .result) ((b3 .rows-below .ensures) l i)
+          (c .label-at .result) (omega (arith, c .before .if1 .taken, (b2 .count .ensures .1) l i)) ((c .label-at .ensures .1) l i),
+    )
 
 -- src/ranges.rt:78:1
 returns-2 : tie.Need-returns-2
-returns-2 c = (omega arith, λ l i. from-none l (i .valid) (c .before .before .before .before .args .index) (c .before .before .rows-below .result) ((c .before .before .rows-below .ensures) l i) (omega (arith, c .if1 .left, (c .before .count .ensures .1) l i)))
+returns-2 c =
+    let b2 = c .before .before in
+    let s = b2 .before .before in (
+      omega arith,
+      λ l i. from-none l (i .valid) (s .args .index) (b2 .rows-below .result) ((b2 .rows-below .ensures) l i)
+          (omega (arith, c .if1 .left, (c .before .count .ensures .1) l i)),
+    )
 
 pub labels-from-spec : {M : Type 1} → statement M
 labels-from-spec =

@@ -6,7 +6,7 @@ use Rattle.fast_compare.specs.Map as map
 use Rattle.fast_compare.specs.Layout as lay
 use Rattle.fast_compare.proofs.Exact.{count-of}
 use Rattle.fast_compare.proofs.Reading.{head}
-use Rattle.kd_query.specs.Ended.{Parts}
+use Rattle.kd_query.specs.Ended.{Halved}
 use Rattle.kd_query.proofs.Indexing.{part-start, part-low, part-high, part-end}
 use borrow.Author.Needs.{needs}
 use Rattle.kd_query.proofs.ranges.rows_below.Statement.{statement}
@@ -18,7 +18,7 @@ use Rattle.fast_compare.proofs.index_of.Reads as index-of-reads
 use Rattle.fast_compare.proofs.row_at.Reads as row-at-reads
 
 abbrev Inv-loop : tie.InvT-loop
-Inv-loop labels index lo₀ hi₀ lo hi = ((lo ≤ hi) × (hi ≤ getD (words labels) 3 0)) × ((l : map.State) → lay.Is l labels → Parts l index lo hi)
+Inv-loop labels index lo₀ hi₀ lo hi = ((lo ≤ hi) × (hi ≤ getD (words labels) 3 0)) × ((l : map.State) → lay.Is l labels → Halved l index lo hi)
 
 abbrev μ-loop : tie.MeasureT-loop
 μ-loop labels index lo₀ hi₀ lo hi = hi - lo
@@ -37,7 +37,9 @@ sub-mid c = search needs
 
 -- src/ranges.rt:66:19
 add-mid : tie.Need-add-mid Inv-loop μ-loop
-add-mid c = omega (arith, c .before .loop .inv .0 .1, head (c .before .before .before .before .args .labels .now) (c .before .before .before .before .pre) .few, head (c .before .before .before .before .args .labels .now) (c .before .before .before .before .pre) .cap)
+add-mid c =
+    let s = c .before .before .before .before in
+    omega (arith, c .before .loop .inv .0 .1, head (s .args .labels .now) (s .pre) .few, head (s .args .labels .now) (s .pre) .cap)
 
 -- src/ranges.rt:67:13
 row-at-requires : tie.Need-row-at-requires Inv-loop μ-loop
@@ -45,11 +47,16 @@ row-at-requires c κs = (c .before .before .before .before .pre, omega (arith, c
 
 -- src/ranges.rt:68:12
 index-of-requires : tie.Need-index-of-requires Inv-loop μ-loop
-index-of-requires c κs = (c .before .before .before .before .before .pre, omega (arith, (c .row-at .ensures) (c .before .before .before .before .before .pre .state) (c .before .before .before .before .before .pre .is) .0, count-of (c .before .before .before .before .before .args .labels .now) (c .before .before .before .before .before .pre .state) (c .before .before .before .before .before .pre .is)))
+index-of-requires c κs =
+    let s = c .before .before .before .before .before in
+    (s .pre, omega (arith, (c .row-at .ensures) (s .pre .state) (s .pre .is) .0, count-of (s .args .labels .now) (s .pre .state) (s .pre .is)))
 
 -- src/ranges.rt:69:18
 add-lo : tie.Need-add-lo Inv-loop μ-loop
-add-lo c = omega (arith, c .before .before .before .before .loop .inv .0 .1, head (c .before .before .before .before .before .before .before .args .labels .now) (c .before .before .before .before .before .before .before .pre) .few, head (c .before .before .before .before .before .before .before .args .labels .now) (c .before .before .before .before .before .before .before .pre) .cap)
+add-lo c =
+    let b4 = c .before .before .before .before in
+    let s = b4 .before .before .before in
+    omega (arith, b4 .loop .inv .0 .1, head (s .args .labels .now) (s .pre) .few, head (s .args .labels .now) (s .pre) .cap)
 
 -- src/ranges.rt:65:5
 loop-less : tie.Need-loop-less Inv-loop μ-loop
@@ -57,7 +64,15 @@ loop-less c = omega arith
 
 -- src/ranges.rt:65:5
 loop-again : tie.Need-loop-again Inv-loop μ-loop
-loop-again c = ((omega arith, c .before .before .before .before .loop .inv .0 .1), λ l i. part-low l (i .valid) (c .before .before .before .before .before .before .before .args .index) (c .before .before .before .before .loop .lo) (c .before .before .before .before .loop .hi) ((c .before .before .before .before .loop .lo) + ((c .before .before .before .before .loop .hi) - (c .before .before .before .before .loop .lo)) / 2) (c .before .before .row-at .result) (c .before .index-of .result) ((c .before .before .before .before .loop .inv .1) l i) (omega arith) ((c .before .before .row-at .ensures) l i .1) ((c .before .index-of .ensures) l i) (c .if1 .taken))
+loop-again c =
+    let b2 = c .before .before in
+    let b4 = b2 .before .before in
+    let s = b4 .before .before .before in (
+      (omega arith, b4 .loop .inv .0 .1),
+      λ l i. part-low l (i .valid) (s .args .index) (b4 .loop .lo) (b4 .loop .hi)
+          ((b4 .loop .lo) + ((b4 .loop .hi) - (b4 .loop .lo)) / 2) (b2 .row-at .result) (c .before .index-of .result) ((b4 .loop .inv .1) l i) (omega arith)
+          ((b2 .row-at .ensures) l i .1) ((c .before .index-of .ensures) l i) (c .if1 .taken),
+    )
 
 -- src/ranges.rt:65:5
 loop-less-2 : tie.Need-loop-less-2 Inv-loop μ-loop
@@ -65,11 +80,21 @@ loop-less-2 c = omega arith
 
 -- src/ranges.rt:65:5
 loop-again-2 : tie.Need-loop-again-2 Inv-loop μ-loop
-loop-again-2 c = ((omega arith, omega (arith, c .before .before .before .before .loop .inv .0 .1)), λ l i. part-high l (i .valid) (c .before .before .before .before .before .before .before .args .index) (c .before .before .before .before .loop .lo) (c .before .before .before .before .loop .hi) ((c .before .before .before .before .loop .lo) + ((c .before .before .before .before .loop .hi) - (c .before .before .before .before .loop .lo)) / 2) (c .before .before .row-at .result) (c .before .index-of .result) ((c .before .before .before .before .loop .inv .1) l i) (omega arith) ((c .before .before .row-at .ensures) l i .1) ((c .before .index-of .ensures) l i) (c .if1 .left))
+loop-again-2 c =
+    let b2 = c .before .before in
+    let b4 = b2 .before .before in
+    let s = b4 .before .before .before in (
+      (omega arith, omega (arith, b4 .loop .inv .0 .1)),
+      λ l i. part-high l (i .valid) (s .args .index) (b4 .loop .lo) (b4 .loop .hi)
+          ((b4 .loop .lo) + ((b4 .loop .hi) - (b4 .loop .lo)) / 2) (b2 .row-at .result) (c .before .index-of .result) ((b4 .loop .inv .1) l i) (omega arith)
+          ((b2 .row-at .ensures) l i .1) ((c .before .index-of .ensures) l i) (c .if1 .left),
+    )
 
 -- src/ranges.rt:59:1
 returns : tie.Need-returns Inv-loop μ-loop
-returns c = λ l i. part-end l (i .valid) (c .before .before .before .before .args .index) (c .before .loop .lo) (c .before .loop .hi) ((c .before .loop .inv .1) l i) (c .before .loop .inv .0 .0) (omega arith)
+returns c =
+    let s = c .before .before .before .before in
+    λ l i. part-end l (i .valid) (s .args .index) (c .before .loop .lo) (c .before .loop .hi) ((c .before .loop .inv .1) l i) (c .before .loop .inv .0 .0) (omega arith)
 
 pub rows-below-spec : {M : Type 1} → statement M
 rows-below-spec =

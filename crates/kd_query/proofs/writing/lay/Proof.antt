@@ -28,11 +28,35 @@ add-label-2 c = search needs
 
 -- src/writing.rt:147:17
 add-label-3 : tie.Need-add-label-3
-add-label-3 c = omega (arith, c .before .labels-at .ensures, shape-small (c .before .before .before .before .before .before .before .args .s) (c .before .before .before .before .before .before .before .pre .0) .label)
+add-label-3 c =
+    let s = c .before .before .before .before .before .before .before in
+    omega (arith, c .before .labels-at .ensures, shape-small (s .args .s) (s .pre .0) .label)
 
 -- src/writing.rt:148:5
 put-six-requires : tie.Need-put-six-requires
-put-six-requires c κs = (omega (arith, c .before .before .before .before .before .before .before .before .pre .1, c .before .before .before .before .before .lay-places .kept .0), (omega (arith, c .before .before .labels-at .ensures, shape-small (c .before .before .before .before .before .before .before .before .args .s) (c .before .before .before .before .before .before .before .before .pre .0) .label), (omega (arith, c .before .before .before .before .before .before .before .before .pre .0 .kind-to), (omega (arith, shape-small (c .before .before .before .before .before .before .before .before .args .s) (c .before .before .before .before .before .before .before .before .pre .0) .few), (omega (arith, shape-small (c .before .before .before .before .before .before .before .before .args .s) (c .before .before .before .before .before .before .before .before .pre .0) .capacity), (omega (arith, c .before .before .before .before .before .before .before .before .pre .0 .few, shape-small (c .before .before .before .before .before .before .before .before .args .s) (c .before .before .before .before .before .before .before .before .pre .0) .capacity), omega (arith, c .before .before .before .before .before .before .before .before .pre .0 .nodes-to, shape-small (c .before .before .before .before .before .before .before .before .args .s) (c .before .before .before .before .before .before .before .before .pre .0) .capacity)))))))
+put-six-requires c κs =
+    let b2 = c .before .before in
+    let b5 = b2 .before .before .before in
+    let s = b5 .before .before .before in (
+      omega (arith, s .pre .1, b5 .lay-places .kept .0),
+      (
+        omega (arith, b2 .labels-at .ensures, shape-small (s .args .s) (s .pre .0) .label),
+        (
+          omega (arith, s .pre .0 .kind-to),
+          (
+            omega (arith, shape-small (s .args .s) (s .pre .0) .few),
+            (
+              omega (arith, shape-small (s .args .s) (s .pre .0) .capacity),
+              (
+                omega (arith, s .pre .0 .few, shape-small (s .args .s) (s .pre .0) .capacity),
+                omega
+                    (arith, s .pre .0 .nodes-to, shape-small (s .args .s) (s .pre .0) .capacity),
+              ),
+            ),
+          ),
+        ),
+      ),
+    )
 
 -- src/writing.rt:141:1
 same-length : tie.Need-same-length
@@ -40,7 +64,12 @@ same-length c = search needs
 
 -- src/writing.rt:141:1
 returns : tie.Need-returns
-returns c = all-laid _ _ _ _ _ (c .before .before .before .before .before .before .before .before .before .before .before .pre .1) (omega (arith, c .before .before .before .before .before .labels-at .ensures)) (c .before .before .before .before .before .before .before .before .lay-places .ensures) (c .before .before .put-six .ensures)
+returns c =
+    let b2 = c .before .before in
+    let b5 = b2 .before .before .before in
+    let b8 = b5 .before .before .before in
+    let s = b8 .before .before .before in
+    all-laid _ _ _ _ _ (s .pre .1) (omega (arith, b5 .labels-at .ensures)) (b8 .lay-places .ensures) (b2 .put-six .ensures)
 
 pub lay-spec : {M : Type 1} → statement M
 lay-spec =

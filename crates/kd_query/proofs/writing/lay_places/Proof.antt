@@ -50,7 +50,25 @@ add-put-six-4 c = search needs
 
 -- src/writing.rt:128:5
 put-six-requires : tie.Need-put-six-requires
-put-six-requires c κs = (omega (arith, c .before .before .before .before .before .before .pre .1), (omega (arith, c .before .before .node-at .ensures, shape-small (c .before .before .before .before .before .before .args .s) (c .before .before .before .before .before .before .pre .0) .node), (omega (arith, shape-small (c .before .before .before .before .before .before .args .s) (c .before .before .before .before .before .before .pre .0) .few), (omega (arith, c .before .permutation-at .ensures, shape-small (c .before .before .before .before .before .before .args .s) (c .before .before .before .before .before .before .pre .0) .permutation), (omega (arith, c .entry-width .ensures, shape-small (c .before .before .before .before .before .before .args .s) (c .before .before .before .before .before .before .pre .0) .entry-width), (omega (arith, c .before .before .before .before .entry-at .ensures, shape-small (c .before .before .before .before .before .before .args .s) (c .before .before .before .before .before .before .pre .0) .row), omega (arith, shape-small (c .before .before .before .before .before .before .args .s) (c .before .before .before .before .before .before .pre .0) .few)))))))
+put-six-requires c κs =
+    let b2 = c .before .before in
+    let b4 = b2 .before .before in
+    let s = b4 .before .before in (
+      omega (arith, s .pre .1),
+      (
+        omega (arith, b2 .node-at .ensures, shape-small (s .args .s) (s .pre .0) .node),
+        (
+          omega (arith, shape-small (s .args .s) (s .pre .0) .few),
+          (
+            omega (arith, c .before .permutation-at .ensures, shape-small (s .args .s) (s .pre .0) .permutation),
+            (
+              omega (arith, c .entry-width .ensures, shape-small (s .args .s) (s .pre .0) .entry-width),
+              (omega (arith, b4 .entry-at .ensures, shape-small (s .args .s) (s .pre .0) .row), omega (arith, shape-small (s .args .s) (s .pre .0) .few)),
+            ),
+          ),
+        ),
+      ),
+    )
 
 -- src/writing.rt:121:1
 same-length : tie.Need-same-length
@@ -58,7 +76,13 @@ same-length c = search needs
 
 -- src/writing.rt:121:1
 returns : tie.Need-returns
-returns c = places-laid _ _ _ _ _ _ _ (c .before .before .before .before .before .node-at .ensures) (c .before .before .before .before .permutation-at .ensures) (c .before .before .before .entry-width .ensures) (rw (c .before .before .before .before .before .before .before .entry-at .ensures) refl) (c .before .before .put-six .ensures)
+returns c =
+    let b2 = c .before .before in
+    let b3 = b2 .before in
+    let b4 = b3 .before in
+    let b5 = b4 .before in
+    let b7 = b5 .before .before in
+    places-laid _ _ _ _ _ _ _ (b5 .node-at .ensures) (b4 .permutation-at .ensures) (b3 .entry-width .ensures) (rw (b7 .entry-at .ensures) refl) (b2 .put-six .ensures)
 
 pub lay-places-spec : {M : Type 1} → statement M
 lay-places-spec =

@@ -15,7 +15,23 @@ node-mask-requires c κs = search needs
 
 -- src/writing.rt:47:5
 put-six-requires : tie.Need-put-six-requires
-put-six-requires c κs = (omega (arith, c .before .before .before .pre .0), (c .before .before .before .pre .1, (omega arith, (omega arith, (omega (arith, c .before .before .before .fits .masks), (node-small (c .before .before .before .args .lm) ((c .before .before .before .args .masks) % 4294967296) (c .node-mask .result) (omega arith) (c .node-mask .ensures), omega arith))))))
+put-six-requires c κs =
+    let s = c .before .before .before in (
+      omega (arith, s .pre .0),
+      (
+        s .pre .1,
+        (
+          omega arith,
+          (
+            omega arith,
+            (
+              omega (arith, s .fits .masks),
+              (node-small (s .args .lm) ((s .args .masks) % 4294967296) (c .node-mask .result) (omega arith) (c .node-mask .ensures), omega arith),
+            ),
+          ),
+        ),
+      ),
+    )
 
 -- src/writing.rt:40:1
 same-length : tie.Need-same-length
@@ -23,7 +39,12 @@ same-length c = search needs
 
 -- src/writing.rt:40:1
 returns : tie.Need-returns
-returns c = masks-written _ _ (c .before .before .before .before .before .before .args .search) (c .before .before .before .before .before .before .args .lm) ((c .before .before .before .before .before .before .args .masks) % 4294967296) ((c .before .before .before .before .before .before .args .masks) / 4294967296) (c .before .before .before .node-mask .result) (c .before .before .before .node-mask .ensures) (c .before .before .put-six .ensures)
+returns c =
+    let b2 = c .before .before in
+    let b3 = b2 .before in
+    let s = b3 .before .before .before in
+    masks-written _ _ (s .args .search) (s .args .lm) ((s .args .masks) % 4294967296) ((s .args .masks) / 4294967296) (b3 .node-mask .result)
+    (b3 .node-mask .ensures) (b2 .put-six .ensures)
 
 pub put-masks-spec : {M : Type 1} → statement M
 put-masks-spec = tie.close (tie.spec node-mask-requires put-six-requires same-length returns)

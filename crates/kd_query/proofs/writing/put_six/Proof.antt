@@ -80,7 +80,16 @@ same-length c = search needs
 
 -- src/writing.rt:107:1
 returns : tie.Need-returns
-returns c = six-written _ _ _ _ _ _ _ _ _ _ _ _ _ _ (c .before .before .before .before .before .before .before .before .before .before .before .before .before .before .before .before .before .before .before .before .before .before .before .before .before .pre .0) (c .before .before .before .before .before .before .before .before .before .before .before .before .before .before .before .before .before .before .before .before .before .before .put .ensures) (c .before .before .before .before .before .before .before .before .before .before .before .before .before .before .before .before .before .before .put2 .ensures) (c .before .before .before .before .before .before .before .before .before .before .before .before .before .before .put3 .ensures) (c .before .before .before .before .before .before .before .before .before .before .put4 .ensures) (c .before .before .before .before .before .before .put5 .ensures) (c .before .before .put6 .ensures)
+returns c =
+    let b2 = c .before .before in
+    let b6 = b2 .before .before .before .before in
+    let b10 = b6 .before .before .before .before in
+    let b14 = b10 .before .before .before .before in
+    let b18 = b14 .before .before .before .before in
+    let b22 = b18 .before .before .before .before in
+    let s = b22 .before .before .before in
+    six-written _ _ _ _ _ _ _ _ _ _ _ _ _ _ (s .pre .0) (b22 .put .ensures) (b18 .put2 .ensures) (b14 .put3 .ensures) (b10 .put4 .ensures)
+    (b6 .put5 .ensures) (b2 .put6 .ensures)
 
 pub put-six-spec : {M : Type 1} → statement M
 put-six-spec =

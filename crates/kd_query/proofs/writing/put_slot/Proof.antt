@@ -26,11 +26,17 @@ add-put c = search needs
 
 -- src/writing.rt:90:10
 add-put-2 : tie.Need-add-put-2
-add-put-2 c = omega (arith, c .before .before .before .before .before .before .slot-of .ensures, slot-small (c .before .before .before .before .before .before .before .before .args .s) (c .before .before .before .before .before .before .before .before .pre .0) (c .before .before .before .before .before .before .before .before .args .lm), c .before .before .before .before .before .before .before .before .pre .0 .vars-to)
+add-put-2 c =
+    let b6 = c .before .before .before .before .before .before in
+    let s = b6 .before .before in
+    omega (arith, b6 .slot-of .ensures, slot-small (s .args .s) (s .pre .0) (s .args .lm), s .pre .0 .vars-to)
 
 -- src/writing.rt:90:9
 cast-put-2 : tie.Need-cast-put-2
-cast-put-2 c = omega (arith, c .before .before .before .before .before .before .slot-of .ensures, slot-small (c .before .before .before .before .before .before .before .before .args .s) (c .before .before .before .before .before .before .before .before .pre .0) (c .before .before .before .before .before .before .before .before .args .lm), c .before .before .before .before .before .before .before .before .pre .0 .vars-to)
+cast-put-2 c =
+    let b6 = c .before .before .before .before .before .before in
+    let s = b6 .before .before in
+    omega (arith, b6 .slot-of .ensures, slot-small (s .args .s) (s .pre .0) (s .args .lm), s .pre .0 .vars-to)
 
 -- src/writing.rt:87:5
 put-requires-2 : tie.Need-put-requires-2
@@ -42,7 +48,12 @@ same-length c = search needs
 
 -- src/writing.rt:80:1
 returns : tie.Need-returns
-returns c = slot-written _ _ _ (c .before .before .before .before .before .before .before .before .before .before .before .args .s) (c .before .before .before .before .before .before .before .before .before .before .before .args .lm) (c .before .before .before .before .before .before .before .before .before .slot-of .result) (c .before .before .before .before .before .before .before .before .before .before .before .pre .1) (c .before .before .before .before .before .before .before .before .before .slot-of .ensures) (c .before .before .before .before .before .before .before .put .ensures) (c .before .before .put2 .ensures)
+returns c =
+    let b2 = c .before .before in
+    let b7 = b2 .before .before .before .before .before in
+    let b9 = b7 .before .before in
+    let s = b9 .before .before in
+    slot-written _ _ _ (s .args .s) (s .args .lm) (b9 .slot-of .result) (s .pre .1) (b9 .slot-of .ensures) (b7 .put .ensures) (b2 .put2 .ensures)
 
 pub put-slot-spec : {M : Type 1} → statement M
 put-slot-spec =

@@ -24,7 +24,10 @@ add-result-2 c = search needs
 
 -- src/writing.rt:68:1
 returns-2 : tie.Need-returns-2
-returns-2 c = sign-slot (c .before .before .before .args .s) (c .before .before .entry-at .result) (c .before .before .before .args .lm) (c .before .if1 .left) (c .before .before .entry-at .ensures)
+returns-2 c =
+    let b2 = c .before .before in
+    let s = b2 .before in
+    sign-slot (s .args .s) (b2 .entry-at .result) (s .args .lm) (c .before .if1 .left) (b2 .entry-at .ensures)
 
 pub slot-of-spec : {M : Type 1} → statement M
 slot-of-spec = tie.close (tie.spec entry-at-requires returns add-result add-result-2 returns-2)
