@@ -9,7 +9,7 @@ use native.Mathlib.Omega.{arith}
 use lib.ListN.{length, getD}
 use lib.Seq.{getD-set-same, getD-set-other}
 use borrow.Author.Tests.{le-leb, lt-leb}
-use Rattle.words.specs.Kinds.{ident, power}
+use Rattle.words.specs.Kinds.{kind, ident, power}
 use Rattle.words.specs.Words.{words, putW, pasteW}
 use Rattle.words.specs.Tables.{part, zeros}
 use Rattle.words.proofs.Laws.{length-words, words-putW}
@@ -97,7 +97,7 @@ module _ (s : Shape) (R : at.InRange s) (M : List ℕ) (c : Canonical 1 (s .vari
       }
 
   module _ (bs : List ℕ) (i w : ℕ) (S : Setting bs s M i) (e : w ≡ getD M i 0) where
-    pub set-end : w / 65536 ≡ 0 → Limited (words bs) s (limitFor true M)
+    pub set-end : kind w ≡ 0 → Limited (words bs) s (limitFor true M)
     set-end h = record { each = λ v l. go v l (word-at (omega arith) w (S .ra) e) }
       where
         go : (v : ℕ) → v < s .variables → Last 1 M (S .b) w ⊎ Next 1 M i (S .b) w → getD (words bs) (1 + s .kind + v) 0 ≡ limitFor true M v
@@ -106,17 +106,17 @@ module _ (s : Shape) (R : at.InRange s) (M : List ℕ) (c : Canonical 1 (s .vari
               | yes y ↦ S .done v l y
               | no y ↦ S .none v (omega arith) ∙ sym (limit-low M v (omega (arith, S .top)) ∙ z .none v (omega arith))
             ]
-        go v l (inr z) = absurd (omega (arith, z .upper))
+        go v l (inr z) = absurd (omega (arith, z .var .kinded))
 
     pub record Step : Type 0 where
       pub known : ident w < s .variables
       pub next : (bs′ : List ℕ) → 368 ≤ length bs → bs′ ≡ putW bs (1 + s .kind + ident w) (power w) → Setting bs′ s M (i + 1)
 
-    pub set-more : (w / 65536 ≡ 0 → ⊥) → Step
+    pub set-more : (kind w ≡ 0 → ⊥) → Step
     set-more h = go (word-at (omega arith) w (S .ra) e)
       where
         go : Last 1 M (S .b) w ⊎ Next 1 M i (S .b) w → Step
-        go (inl z) = absurd (h (z .upper))
+        go (inl z) = absurd (h (omega (arith, z .upper)))
         go (inr z) = record {
           known = omega (arith, z .var .below, S .few);
           next = λ bs′ room eq.

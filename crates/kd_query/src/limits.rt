@@ -34,10 +34,10 @@ fn set_powers(q: &mut [u8], s: Shape, m: &[u8])
     let mut i: usize = 0;
     loop {
         let w = words::get(m, i);
-        if w / 65536 == 0 {
+        if words::kind(w) == 0 {
             return;
         }
-        words::put(q, 1 + s.kind + (w / 65536 % 4096) as usize, w % 65536);
+        words::put(q, 1 + s.kind + words::id(w) as usize, words::power(w));
         i += 1;
     }
 }

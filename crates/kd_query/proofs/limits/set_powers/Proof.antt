@@ -14,6 +14,8 @@ use Rattle.kd_query.proofs.limits.set_powers.Reads as reads
 use Rattle.kd_query.proofs.limits.set_powers.Lts as lts
 use Rattle.words.proofs.get.Reads as get-reads
 use Rattle.words.proofs.id.Reads as id-reads
+use Rattle.words.proofs.kind.Reads as kind-reads
+use Rattle.words.proofs.power.Reads as power-reads
 use Rattle.words.proofs.put.Reads as put-reads
 use Rattle.words.proofs.runs.clear.Reads as clear-reads
 
@@ -78,6 +80,10 @@ loop-holds c =
 get-requires-2 : tie.Need-get-requires-2 Inv-loop μ-loop
 get-requires-2 c κs = omega (arith, length-words (c .before .before .before .before .before .before .before .before .before .before .args .m .now), within (c .loop .inv .1 .ra))
 
+-- src/limits.rt:37:12
+kind-requires : tie.Need-kind-requires Inv-loop μ-loop
+kind-requires c κs = search needs
+
 -- src/limits.rt:38:13
 same-length : tie.Need-same-length Inv-loop μ-loop
 same-length c = search needs
@@ -86,68 +92,84 @@ same-length c = search needs
 returns : tie.Need-returns Inv-loop μ-loop
 returns c =
     let b2 = c .before .before in
-    let s = b2 .before .before .before .before .before .before .before .before .before .before in
-    set-end (s .args .s) (s .pre .0) (words (s .args .m .now)) (s .pre .1 .1 .0) (b2 .loop .q) (b2 .loop .i) (c .before .get2 .result)
-    (b2 .loop .inv .1) (c .before .get2 .ensures) (c .if1 .taken)
+    let b3 = b2 .before in
+    let s = b3 .before .before .before .before .before .before .before .before .before .before in
+    set-end (s .args .s) (s .pre .0) (words (s .args .m .now)) (s .pre .1 .1 .0) (b3 .loop .q) (b3 .loop .i) (b2 .get2 .result) (b3 .loop .inv .1)
+    (b2 .get2 .ensures) (omega (arith, c .before .kind .ensures, c .if1 .taken))
 
 -- src/limits.rt:40:23
 add-put : tie.Need-add-put Inv-loop μ-loop
-add-put c = omega (arith, c .before .before .before .before .before .before .before .before .before .before .before .before .before .before .pre .0 .kind-to)
+add-put c = omega (arith, c .before .before .before .before .before .before .before .before .before .before .before .before .before .before .before .pre .0 .kind-to)
+
+-- src/limits.rt:40:36
+id-requires-2 : tie.Need-id-requires-2 Inv-loop μ-loop
+id-requires-2 c κs = search needs
 
 -- src/limits.rt:40:36
 cast-put : tie.Need-cast-put Inv-loop μ-loop
-cast-put c = omega arith
+cast-put c = search needs
 
 -- src/limits.rt:40:23
 add-put-2 : tie.Need-add-put-2 Inv-loop μ-loop
-add-put-2 c = omega (arith, c .before .before .before .before .before .before .before .before .before .before .before .before .before .before .pre .0 .kind-to)
+add-put-2 c =
+    let s = c .before .before .before .before .before .before .before .before .before .before .before .before .before .before .before .before in
+    omega (arith, s .pre .0 .kind-to, c .id2 .ensures)
+
+-- src/limits.rt:40:59
+power-requires : tie.Need-power-requires Inv-loop μ-loop
+power-requires c κs = search needs
 
 -- src/limits.rt:40:9
 put-requires : tie.Need-put-requires Inv-loop μ-loop
 put-requires c κs =
-    let b2 = c .before .before in
-    let b3 = b2 .before in
-    let b4 = b3 .before in
-    let b7 = b4 .before .before .before in
-    let s = b7 .before .before .before .before .before .before .before in
+    let b4 = c .before .before .before .before in
+    let b5 = b4 .before in
+    let b6 = b5 .before in
+    let b7 = b6 .before in
+    let b10 = b7 .before .before .before in
+    let s = b10 .before .before .before .before .before .before .before in
     omega (
       arith,
-      set-more (s .args .s) (s .pre .0) (words (s .args .m .now)) (s .pre .1 .1 .0) (b4 .loop .q) (b4 .loop .i) (b3 .get2 .result)
-          (b4 .loop .inv .1) (b3 .get2 .ensures) (b2 .if1 .left) .known,
+      set-more (s .args .s) (s .pre .0) (words (s .args .m .now)) (s .pre .1 .1 .0) (b7 .loop .q) (b7 .loop .i) (b6 .get2 .result)
+          (b7 .loop .inv .1) (b6 .get2 .ensures) (λ z. omega (arith, b5 .kind .ensures, b4 .if1 .left)) .known,
+      c .before .id2 .ensures,
       s .pre .0 .kind-to,
       s .pre .0 .vars-to,
       s .pre .1 .0,
-      b4 .loop .inv .0,
-      b7 .clear .kept .0,
+      b7 .loop .inv .0,
+      b10 .clear .kept .0,
     )
 
 -- src/limits.rt:41:9
 add-i : tie.Need-add-i Inv-loop μ-loop
 add-i c =
-    let b7 = c .before .before .before .before .before .before .before in
-    let s = b7 .before .before .before .before .before .before .before .before .before .before in
-    omega (arith, length-words (s .args .m .now), within (b7 .loop .inv .1 .ra))
+    let b10 = c .before .before .before .before .before .before .before .before .before .before in
+    let s = b10 .before .before .before .before .before .before .before .before .before .before in
+    omega (arith, length-words (s .args .m .now), within (b10 .loop .inv .1 .ra))
 
 -- src/limits.rt:35:5
 loop-less : tie.Need-loop-less Inv-loop μ-loop
 loop-less c =
-    let b7 = c .before .before .before .before .before .before .before in
-    let s = b7 .before .before .before .before .before .before .before .before .before .before in
-    omega (arith, length-words (s .args .m .now), within (b7 .loop .inv .1 .ra))
+    let b10 = c .before .before .before .before .before .before .before .before .before .before in
+    let s = b10 .before .before .before .before .before .before .before .before .before .before in
+    omega (arith, length-words (s .args .m .now), within (b10 .loop .inv .1 .ra))
 
 -- src/limits.rt:35:5
 loop-again : tie.Need-loop-again Inv-loop μ-loop
 loop-again c =
     let b2 = c .before .before in
-    let b5 = b2 .before .before .before in
-    let b6 = b5 .before in
-    let b7 = b6 .before in
-    let b10 = b7 .before .before .before in
-    let s = b10 .before .before .before .before .before .before .before in (
-      omega (arith, b2 .put .kept .0, b7 .loop .inv .0),
-      set-more (s .args .s) (s .pre .0) (words (s .args .m .now)) (s .pre .1 .1 .0) (b7 .loop .q)
-          (b7 .loop .i) (b6 .get2 .result) (b7 .loop .inv .1) (b6 .get2 .ensures) (b5 .if1 .left) .next _
-          (omega (arith, s .pre .1 .0, b7 .loop .inv .0, b10 .clear .kept .0)) (b2 .put .ensures),
+    let b3 = b2 .before in
+    let b4 = b3 .before in
+    let b7 = b4 .before .before .before in
+    let b8 = b7 .before in
+    let b9 = b8 .before in
+    let b10 = b9 .before in
+    let b13 = b10 .before .before .before in
+    let s = b13 .before .before .before .before .before .before .before in (
+      omega (arith, b2 .put .kept .0, b10 .loop .inv .0),
+      set-more (s .args .s) (s .pre .0) (words (s .args .m .now)) (s .pre .1 .1 .0) (b10 .loop .q)
+          (b10 .loop .i) (b9 .get2 .result) (b10 .loop .inv .1) (b9 .get2 .ensures) (λ z. omega (arith, b8 .kind .ensures, b7 .if1 .left)) .next _
+          (omega (arith, s .pre .1 .0, b10 .loop .inv .0, b13 .clear .kept .0)) (b2 .put .ensures ∙ rw (b4 .id2 .ensures, b3 .power .ensures) refl),
     )
 
 pub set-powers-spec : {M : Type 1} → statement M
@@ -164,11 +186,14 @@ set-powers-spec =
     clear-requires
     loop-holds
     get-requires-2
+    kind-requires
     same-length
     returns
     add-put
+    id-requires-2
     cast-put
     add-put-2
+    power-requires
     put-requires
     add-i
     loop-less
