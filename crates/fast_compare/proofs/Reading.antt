@@ -6,6 +6,7 @@ use Prim.Native.Nat.{ℕ, _+_, _-_, _*_, _/_, _≤_, _<_}
 use native.Mathlib.Nat.{mul-le-mul-right}
 use native.Mathlib.Omega.{arith}
 use lib.ListN.{length, getD}
+use Rattle.words.specs.Kinds.{payload}
 use Rattle.words.specs.Words.{words}
 use Rattle.words.proofs.Tables.{row-fits}
 use Rattle.monomial.specs.declared.monomial_ordering.CmpOrd.{CmpOrd}
@@ -54,6 +55,14 @@ head bs s =
 pub row-used : (m n x : ℕ) → x < n → x * (m + 3) + (m + 3) ≤ n * (m + 3)
 row-used m n x h = row-fits x n (m + 3) h
 
+-- and fits
+pub row-room : (bs : List ℕ) → Sound bs → (x v : ℕ) → x < getD (words bs) 3 0 → v ≡ getD (words bs) 1 0
+    → ((x * (v + 3) + (v + 3) ≤ 274432) × (v ≤ 64)) × (16 + 4 * (x * (v + 3)) + 4 * (v + 3) ≤ length bs)
+row-room bs s x v l e =
+    let h : HeadOf bs = head bs s in
+    let u = row-used (getD (words bs) 1 0) (getD (words bs) 3 0) x l in
+    rw e ((omega (arith, h .rows, h .used), h .vars), omega (arith, h .used, h .room))
+
 module _ (bs : List ℕ) (st : State) (i : Is st bs) where
   abbrev W : List ℕ
   W = words bs
@@ -75,6 +84,10 @@ module _ (bs : List ℕ) (st : State) (i : Is st bs) where
 
   pub value-of : (x : ℕ) → x < n → valueAt W (getD W 1 0) (4 + x * (getD W 1 0 + 3)) ≡ value (st .rows) x
   value-of x h = rw vars-of (row-is st (i .valid) W fits (i .is) x h .value-is)
+
+  pub index-of : (x : ℕ) → x < n → payload (getD W (4 + x * (getD W 1 0 + 3)) 0) ≡ value (st .rows) x .index
+  unfolding valueAt
+  index-of x h = ap (λ (v : Value). v .index) (value-of x h)
 
   pub ratio-of : (x : ℕ) → x < n → ratioWords W (getD W 1 0) (4 + x * (getD W 1 0 + 3) + 1) ≡ 0 → ⊥
   ratio-of x h = rw vars-of (row-is st (i .valid) W fits (i .is) x h .ok .some)

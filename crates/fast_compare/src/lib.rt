@@ -69,6 +69,16 @@ pub fn label(map: &[u8], row: usize) -> u32
     words::get(map, 4 + row * (variables + 3) + (variables + 2))
 }
 
+// The signature index of a row.
+pub fn index_of(map: &[u8], row: usize) -> u32
+    requires { ⌜ Sound (now map) ⌝ }
+    requires { ⌜ row < getD (words (now map)) 3 0 ⌝ }
+    ensures { λ r. ⌜ ((st : State) → Is st (now (map .entry)) → r ≡ value (st .rows) row .index) ⌝ }
+{
+    let variables = words::get(map, 1) as usize;
+    words::payload(words::get(map, 4 + row * (variables + 3)))
+}
+
 // The value of a row, compared with another.
 pub fn compare(map: &[u8], row: usize, index: u32, ratio: &[u8]) -> CmpOrd
     requires { ⌜ Sound (now map) ⌝ }

@@ -5,5 +5,3 @@ pub mod Scanning
 pub mod Choosing
 pub mod Visiting
 pub mod Rooting
-pub mod Ending
-pub mod Posing

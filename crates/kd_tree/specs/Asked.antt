@@ -2,7 +2,7 @@
 use mathlib.Core.Path.{_≡_}
 use mathlib.Core.Bool.{Bool, true, cond}
 use mathlib.Core.Option.{Option, none, some}
-use mathlib.Core.List.{List, [], _∷_}
+use mathlib.Core.List.{List}
 use Prim.Native.Nat.{ℕ, zero, suc, _+_, _*_, _≤_, _<_}
 use lib.Dec.{leb, ltb}
 use lib.ListN.{length, getD}
@@ -75,13 +75,6 @@ pub record Laid (Q : List ℕ) (s : Shape) : Type 0 where
   pub row : getD Q 84 0 ≡ at.rowAt s 0
   pub row-width : getD Q 85 0 ≡ s .variables + 3
   pub label : getD Q 86 0 ≡ at.labelAt s 0
-
--- the words themselves: where tables stand, and the label of row 0 with the shape
-unfoldable pub placeWords : Shape → List ℕ
-placeWords s = at.nodeAt s 0 ∷ at.nodeWidth (s .variables) ∷ at.permutationAt s ∷ at.entryWidth s ∷ at.rowAt s 0 ∷ (s .variables + 3) ∷ []
-
-unfoldable pub shapeWords : Shape → List ℕ
-shapeWords s = at.labelAt s 0 ∷ s .kind ∷ s .variables ∷ s .capacity ∷ s .entries ∷ s .nodes ∷ []
 
 -- ---- what has been found: 0 for nothing, else the place of an entry + 1
 unfoldable pub optionOf : ℕ → Option ℕ

@@ -2,4 +2,3 @@ pub mod Asked
 pub mod Searched
 pub mod Counted
 pub mod Rooted
-pub mod Ended

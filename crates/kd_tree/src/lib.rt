@@ -1,7 +1,6 @@
 // The k-d tree in the image of an index: searched in place, its long leaves split as they are searched.
 pub mod leaf;
 pub mod query;
-pub mod ranges;
 pub mod step;
 
 use divmask::DivMaskTestResult;

@@ -1,0 +1,66 @@
+use Rattle.kd_query.specs.Posed.{numberOf}
+use borrow.Author.Needs.{needs}
+use Rattle.kd_query.proofs.number.Statement.{statement}
+use Rattle.kd_query.proofs.number.Tie as tie
+use Rattle.kd_query.proofs.number.Reads as reads
+use Rattle.kd_query.proofs.number.Lts as lts
+
+-- src/lib.rt:35:30
+enum-told : tie.Need-enum-told
+enum-told c = search needs
+
+-- src/lib.rt:36:28
+enum-told-2 : tie.Need-enum-told-2
+enum-told-2 c = search needs
+
+-- src/lib.rt:37:25
+enum-told-3 : tie.Need-enum-told-3
+enum-told-3 c = search needs
+
+-- src/lib.rt:38:24
+enum-told-4 : tie.Need-enum-told-4
+enum-told-4 c = search needs
+
+-- src/lib.rt:39:29
+enum-told-5 : tie.Need-enum-told-5
+enum-told-5 c = search needs
+
+-- src/lib.rt:31:1
+returns : tie.Need-returns
+unfolding numberOf
+returns c = search needs
+
+-- src/lib.rt:31:1
+returns-2 : tie.Need-returns-2
+unfolding numberOf
+returns-2 c = search needs
+
+-- src/lib.rt:31:1
+returns-3 : tie.Need-returns-3
+unfolding numberOf
+returns-3 c = search needs
+
+-- src/lib.rt:31:1
+returns-4 : tie.Need-returns-4
+unfolding numberOf
+returns-4 c = search needs
+
+-- src/lib.rt:31:1
+returns-5 : tie.Need-returns-5
+unfolding numberOf
+returns-5 c = search needs
+
+pub number-spec : {M : Type 1} → statement M
+number-spec =
+    tie.close
+    (tie.spec
+    enum-told
+    enum-told-2
+    enum-told-3
+    enum-told-4
+    enum-told-5
+    returns
+    returns-2
+    returns-3
+    returns-4
+    returns-5)

@@ -1,0 +1,34 @@
+use Rattle.words.specs.Words.{words}
+use Rattle.fast_compare.specs.Map.{valueOf}
+use Rattle.kd_query.proofs.Calling.{reducer-posed}
+use borrow.Author.Needs.{needs}
+use Rattle.kd_query.proofs.reducer.Statement.{statement}
+use Rattle.kd_query.proofs.reducer.Tie as tie
+use Rattle.kd_query.proofs.reducer.Reads as reads
+use Rattle.kd_query.proofs.reducer.Lts as lts
+use Rattle.kd_query.proofs.pose.Reads as pose-reads
+use Rattle.kd_query.proofs.ranges.ends_of.Reads as ends-of-reads
+
+-- src/lib.rt:120:9
+ends-of-requires : tie.Need-ends-of-requires
+ends-of-requires c κs = search needs
+
+-- src/lib.rt:121:5
+pose-requires : tie.Need-pose-requires
+pose-requires c κs = search needs
+
+-- src/lib.rt:111:1
+same-length : tie.Need-same-length
+same-length c = search needs
+
+-- src/lib.rt:111:1
+returns : tie.Need-returns
+returns c =
+    let b2 = c .before .before in
+    let b4 = b2 .before .before in
+    let s = b4 .before .before .before .before .before in
+    reducer-posed (s .args .image .now) (s .args .s) (s .pre .1 .0) (s .args .m .now) _ (s .pre .1 .1 .0)
+    (valueOf (s .args .index) (words (s .args .ratio .now))) (b4 .ends-of .result .above) (b4 .ends-of .result .below) (b4 .ends-of .ensures) (b2 .pose .ensures)
+
+pub reducer-spec : {M : Type 1} → statement M
+reducer-spec = tie.close (tie.spec ends-of-requires pose-requires same-length returns)

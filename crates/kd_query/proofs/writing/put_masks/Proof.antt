@@ -1,0 +1,50 @@
+use native.Mathlib.Omega.{arith}
+use Prim.Native.Nat.{_%_, _/_}
+use Rattle.kd_query.proofs.Posing.{node-small, masks-written}
+use borrow.Author.Needs.{needs}
+use Rattle.kd_query.proofs.writing.put_masks.Statement.{statement}
+use Rattle.kd_query.proofs.writing.put_masks.Tie as tie
+use Rattle.kd_query.proofs.writing.put_masks.Reads as reads
+use Rattle.kd_query.proofs.writing.put_masks.Lts as lts
+use Rattle.kd_query.proofs.writing.node_mask.Reads as node-mask-reads
+use Rattle.kd_query.proofs.writing.put_six.Reads as put-six-reads
+
+-- src/writing.rt:47:56
+node-mask-requires : tie.Need-node-mask-requires
+node-mask-requires c κs = search needs
+
+-- src/writing.rt:47:5
+put-six-requires : tie.Need-put-six-requires
+put-six-requires c κs =
+    let s = c .before .before .before in (
+      omega (arith, s .pre .0),
+      (
+        s .pre .1,
+        (
+          omega arith,
+          (
+            omega arith,
+            (
+              omega (arith, s .fits .masks),
+              (node-small (s .args .lm) ((s .args .masks) % 4294967296) (c .node-mask .result) (omega arith) (c .node-mask .ensures), omega arith),
+            ),
+          ),
+        ),
+      ),
+    )
+
+-- src/writing.rt:40:1
+same-length : tie.Need-same-length
+same-length c = search needs
+
+-- src/writing.rt:40:1
+returns : tie.Need-returns
+returns c =
+    let b2 = c .before .before in
+    let b3 = b2 .before in
+    let s = b3 .before .before .before in
+    masks-written _ _ (s .args .search) (s .args .lm) ((s .args .masks) % 4294967296) ((s .args .masks) / 4294967296) (b3 .node-mask .result)
+    (b3 .node-mask .ensures) (b2 .put-six .ensures)
+
+pub put-masks-spec : {M : Type 1} → statement M
+put-masks-spec = tie.close (tie.spec node-mask-requires put-six-requires same-length returns)

@@ -1,0 +1,177 @@
+// From the parts of a call to the words of a query, which `kd_tree::find` reads.
+pub mod limits;
+pub mod ranges;
+pub mod writing;
+
+use index_image::Shape;
+use index_image::fields;
+ghost use mathlib.Core.Path.{_≡_};
+ghost use Prim.Native.Nat.{_+_, _*_, _<_, _≤_};
+ghost use lib.ListN.{length};
+ghost use Rattle.words.specs.Words.{words};
+ghost use Rattle.monomial.specs.Monomial.{Canonical, pow};
+ghost use Rattle.divmask.specs.Mask.{mask, vector};
+ghost use Rattle.divmask.specs.Tracker.{Maxima};
+ghost use Rattle.fast_compare.specs.Map.{valueOf};
+ghost use Rattle.index_theory.specs.Searches.{containment, reducing, high, low, singular};
+ghost use Rattle.index_image.specs.Head.{HeadOk};
+ghost use Rattle.index_image.specs.Layout.{Sound};
+ghost use Rattle.index_image.specs.Shape as at;
+ghost use Rattle.index_image.specs.Walk.{mapMaxima};
+ghost use Rattle.kd_query.specs.Posed.{numberOf, lmDivides, Poses, PosedFor};
+
+pub enum Search {
+    Contained,
+    Reducer,
+    High,
+    Low,
+    Singular,
+}
+
+// Its number in the words of a query.
+fn number(search: Search) -> usize
+    ensures { λ r. ⌜ r ≡ numberOf search ⌝ }
+{
+    match search {
+        Search::Contained => 0,
+        Search::Reducer => 1,
+        Search::High => 2,
+        Search::Low => 3,
+        Search::Singular => 4,
+    }
+}
+
+// Whether lms are to divide, or else signature monomials.
+fn by_lm(search: Search) -> bool
+    ensures { λ r. ⌜ r ≡ lmDivides search ⌝ }
+{
+    match search {
+        Search::Contained => true,
+        Search::Reducer => true,
+        Search::High => true,
+        Search::Low => false,
+        Search::Singular => false,
+    }
+}
+
+// Mask and short exponent vector of a monomial, by the map of the image.
+fn masks_of(image: &[u8], s: Shape, m: &[u8]) -> u64
+    requires { ⌜ at.InRange s ⌝ }
+    requires { ⌜ 4 * at.size s ≤ length (now image) ⌝ }
+    requires { ⌜ Maxima (s .variables) (mapMaxima (words (now image)) s) ⌝ }
+    requires { ⌜ Canonical 1 (s .variables) (words (now m)) ⌝ }
+    ensures { λ r. ⌜ r ≡ mask (s .variables) (mapMaxima (words (now (image .entry))) s) (pow 1 (words (now (m .entry)))) + 4294967296 * vector (s .variables) (pow 1 (words (now (m .entry)))) ⌝ }
+{
+    let n = s.variables;
+    let a = 4 * (fields::HEADER + n);
+    let b = a + 4 * n;
+    divmask::pairs::map(&image[a..b], n as u32, m)
+}
+
+// Writes the words of a query: what is searched for, the monomial m to be divided, and the range of labels that count.
+// A reducer's label below `floor` is a regular one's.
+pub fn pose(
+    image: &[u8],
+    s: Shape,
+    q: &mut [u8],
+    m: &[u8],
+    search: Search,
+    from: u64,
+    to: u64,
+    floor: u64,
+)
+    requires { ⌜ Sound (now image) ⌝ }
+    requires { ⌜ HeadOk (words (now image)) (length (now image)) s ⌝ }
+    requires { ⌜ 368 ≤ length (now q) ⌝ }
+    requires { ⌜ Canonical 1 (s .variables) (words (now m)) ⌝ }
+    ensures { λ _. ⌜ Poses (now (image .entry)) (now (m .entry)) (numberOf search) from to floor (words (now (q .exit))) ⌝ }
+{
+    let lm = by_lm(search);
+    limits::limit(q, s, lm, m);
+    writing::put_masks(q, number(search), lm, masks_of(image, s, m));
+    writing::put_range(q, from, to, floor);
+    writing::put_slot(q, s, lm);
+    writing::lay(q, s);
+}
+
+// The query of call 1: some monomial divides m.
+pub fn contained(image: &[u8], s: Shape, q: &mut [u8], m: &[u8])
+    requires { ⌜ Sound (now image) ⌝ }
+    requires { ⌜ HeadOk (words (now image)) (length (now image)) s ⌝ }
+    requires { ⌜ s .kind ≡ 0 ⌝ }
+    requires { ⌜ 368 ≤ length (now q) ⌝ }
+    requires { ⌜ Canonical 1 (s .variables) (words (now m)) ⌝ }
+    ensures { λ _. ⌜ PosedFor (now (image .entry)) (now (m .entry)) (containment (words (now (m .entry)))) (words (now (q .exit))) ⌝ }
+{
+    pose(image, s, q, m, Search::Contained, 0, 0, 0);
+}
+
+// The query of call 3: an lm divides m, and its ratio is not above this one.
+pub fn reducer(image: &[u8], s: Shape, q: &mut [u8], index: u32, ratio: &[u8], m: &[u8])
+    requires { ⌜ Sound (now image) ⌝ }
+    requires { ⌜ HeadOk (words (now image)) (length (now image)) s ⌝ }
+    requires { ⌜ s .kind ≡ 1 ⌝ }
+    requires { ⌜ 368 ≤ length (now q) ⌝ }
+    requires { ⌜ Canonical 2 4096 (words (now ratio)) ⌝ }
+    requires { ⌜ Canonical 1 (s .variables) (words (now m)) ⌝ }
+    ensures { λ _. ⌜ PosedFor (now (image .entry)) (now (m .entry)) (reducing (valueOf index (words (now (ratio .entry)))) (words (now (m .entry)))) (words (now (q .exit))) ⌝ }
+{
+    let e = ranges::ends_of(image, s, index, ratio);
+    pose(image, s, q, m, Search::Reducer, 0, e.above, e.below);
+}
+
+// The query of call 4: an lm divides m, and its ratio is above this one.
+pub fn high(image: &[u8], s: Shape, q: &mut [u8], index: u32, ratio: &[u8], m: &[u8])
+    requires { ⌜ Sound (now image) ⌝ }
+    requires { ⌜ HeadOk (words (now image)) (length (now image)) s ⌝ }
+    requires { ⌜ s .kind ≡ 1 ⌝ }
+    requires { ⌜ 368 ≤ length (now q) ⌝ }
+    requires { ⌜ Canonical 2 4096 (words (now ratio)) ⌝ }
+    requires { ⌜ Canonical 1 (s .variables) (words (now m)) ⌝ }
+    ensures { λ _. ⌜ PosedFor (now (image .entry)) (now (m .entry)) (high (valueOf index (words (now (ratio .entry)))) (words (now (m .entry)))) (words (now (q .exit))) ⌝ }
+{
+    let e = ranges::ends_of(image, s, index, ratio);
+    pose(image, s, q, m, Search::High, e.above, 4294967296, 0);
+}
+
+// The query of call 5: a signature monomial of this index divides m.
+pub fn low(image: &[u8], s: Shape, q: &mut [u8], index: u32, m: &[u8])
+    requires { ⌜ Sound (now image) ⌝ }
+    requires { ⌜ HeadOk (words (now image)) (length (now image)) s ⌝ }
+    requires { ⌜ s .kind ≡ 1 ⌝ }
+    requires { ⌜ 368 ≤ length (now q) ⌝ }
+    requires { ⌜ index < 268435456 ⌝ }
+    requires { ⌜ Canonical 1 (s .variables) (words (now m)) ⌝ }
+    ensures { λ _. ⌜ PosedFor (now (image .entry)) (now (m .entry)) (low index (words (now (m .entry)))) (words (now (q .exit))) ⌝ }
+{
+    let from = ranges::from_of(image, s, index);
+    let to = ranges::from_of(image, s, index + 1);
+    pose(image, s, q, m, Search::Low, from, to, 0);
+}
+
+// The query of call 6: a signature monomial of this index divides m, and its ratio is above that of m and lm, which is made in the scratch.
+pub fn singular(
+    image: &[u8],
+    s: Shape,
+    q: &mut [u8],
+    scratch: &mut [u8],
+    index: u32,
+    m: &[u8],
+    lm: &[u8],
+)
+    requires { ⌜ Sound (now image) ⌝ }
+    requires { ⌜ HeadOk (words (now image)) (length (now image)) s ⌝ }
+    requires { ⌜ s .kind ≡ 1 ⌝ }
+    requires { ⌜ 368 ≤ length (now q) ⌝ }
+    requires { ⌜ 4 * (s .variables + 1) ≤ length (now scratch) ⌝ }
+    requires { ⌜ index < 268435456 ⌝ }
+    requires { ⌜ Canonical 1 (s .variables) (words (now m)) ⌝ }
+    requires { ⌜ Canonical 1 (s .variables) (words (now lm)) ⌝ }
+    ensures { λ _. ⌜ PosedFor (now (image .entry)) (now (m .entry)) (singular index (words (now (m .entry))) (words (now (lm .entry)))) (words (now (q .exit))) ⌝ }
+{
+    let n = monomial::fraction_division(m, lm, scratch);
+    let e = 4 * n;
+    let ends = ranges::ends_of(image, s, index, &scratch[..e]);
+    let next = ranges::from_of(image, s, index + 1);
+    pose(image, s, q, m, Search::Singular, ends.above, next, 0);
+}
