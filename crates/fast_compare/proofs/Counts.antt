@@ -8,9 +8,9 @@ use native.Mathlib.Decide.{ℕ-discrete}
 use lib.Dec.{eqb}
 use borrow.Author.Tests.{eq-eqb, eqb-true}
 use Rattle.words.proofs.Tables.{never}
-use Rattle.fast_compare.specs.Labels.{one, count, pick}
+use Rattle.fast_compare.specs.Labels.{oneIf, count, pick}
 
-pub count-suc : (n : ℕ) (p : ℕ → Bool) → count (suc n) p ≡ one (p n) + count n p
+pub count-suc : (n : ℕ) (p : ℕ → Bool) → count (suc n) p ≡ oneIf (p n) + count n p
 unfolding count
 count-suc n p = refl
 
@@ -24,19 +24,19 @@ unfolding count
 count-most zero p = omega arith
 count-most (suc n) p = go (p n) (count-most n p)
   where
-    go : (b : Bool) → count n p ≤ n → one b + count n p ≤ suc n
+    go : (b : Bool) → count n p ≤ n → oneIf b + count n p ≤ suc n
     go true h = omega arith
     go false h = omega arith
 
-one-le : (a b : Bool) → (a ≡ true → b ≡ true) → one a ≤ one b
-one-le true b h = rw (h refl) (omega arith)
-one-le false b h = omega arith
+oneIf-le : (a b : Bool) → (a ≡ true → b ≡ true) → oneIf a ≤ oneIf b
+oneIf-le true b h = rw (h refl) (omega arith)
+oneIf-le false b h = omega arith
 
 pub count-le : (n : ℕ) (p q : ℕ → Bool) → ((i : ℕ) → i < n → p i ≡ true → q i ≡ true) → count n p ≤ count n q
 unfolding count
 count-le zero p q h = omega arith
 count-le (suc n) p q h =
-    omega (arith, one-le (p n) (q n) (h n (omega arith)), count-le n p q (λ i l. h i (omega arith)))
+    omega (arith, oneIf-le (p n) (q n) (h n (omega arith)), count-le n p q (λ i l. h i (omega arith)))
 
 -- one more passes
 pub count-lt : (n : ℕ) (p q : ℕ → Bool) (j : ℕ) → j < n → ((i : ℕ) → i < n → p i ≡ true → q i ≡ true) → p j ≡ false → q j ≡ true → count n p < count n q
@@ -45,7 +45,7 @@ count-lt zero p q j l h a b = absurd (omega arith)
 count-lt (suc n) p q j l h a b =
     elim (ℕ-discrete j n) [
       | yes e ↦ rw (rw e at a, rw e at b) (omega (arith, count-le n p q (λ i k. h i (omega arith))))
-      | no e ↦ omega (arith, one-le (p n) (q n) (h n (omega arith)), count-lt n p q j (omega arith) (λ i k. h i (omega arith)) a b)
+      | no e ↦ omega (arith, oneIf-le (p n) (q n) (h n (omega arith)), count-lt n p q j (omega arith) (λ i k. h i (omega arith)) a b)
     ]
 
 -- two more pass

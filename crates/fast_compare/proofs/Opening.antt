@@ -21,8 +21,8 @@ empty-words m c =
     let z : zeros (1 + c * (m + 3) + c) ≡ 0 ∷ (zeros (c * (m + 3)) ++ zeros c) = zeros-add (1 + c * (m + 3)) c ∙ rw (zeros-add 1 (c * (m + 3)), zeros-suc 0, zeros-nil) in
     rw (e, z)
 
-pub opened : (bs b1 b2 b3 b4 : List ℕ) (m c : ℕ) → 4 * size m c ≤ length bs → b1 ≡ putW bs 0 1 → b2 ≡ putW b1 1 m → b3 ≡ putW b2 2 c → b4 ≡ pasteW b3 3 (zeros (1 + c * (m + 3) + c)) → b4 ≡ pasteW bs 0 (encode (empty m c))
-opened bs b1 b2 b3 b4 m c h e1 e2 e3 e4 =
+pub open-is : (bs b1 b2 b3 b4 : List ℕ) (m c : ℕ) → 4 * size m c ≤ length bs → b1 ≡ putW bs 0 1 → b2 ≡ putW b1 1 m → b3 ≡ putW b2 2 c → b4 ≡ pasteW b3 3 (zeros (1 + c * (m + 3) + c)) → b4 ≡ pasteW bs 0 (encode (empty m c))
+open-is bs b1 b2 b3 b4 m c h e1 e2 e3 e4 =
     let q1 : b1 ≡ pasteW bs 0 (1 ∷ []) = e1 ∙ putW-paste bs 0 1 (omega arith) in
     let q2 : b2 ≡ pasteW bs 0 (1 ∷ m ∷ []) = e2 ∙ rw q1 (pasteW-snoc bs 0 (1 ∷ []) 1 m (omega arith) (omega arith)) in
     let q3 : b3 ≡ pasteW bs 0 (1 ∷ m ∷ c ∷ []) = e3 ∙ rw q2 (pasteW-snoc bs 0 (1 ∷ m ∷ []) 2 c (omega arith) (omega arith)) in

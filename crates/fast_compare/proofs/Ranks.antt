@@ -10,7 +10,7 @@ use lib.Seq.{ext-getD, getD-take, getD-drop, getD-append-add, length-take-le}
 use Rattle.monomial.specs.declared.monomial_ordering.CmpOrd.{CmpOrd}
 use Rattle.monomial.specs.declared.monomial_ordering.CmpOrd.the-variants.{Less, Equal, Greater}
 use Rattle.monomial.proofs.Lawful.{Lawful, flip, alike-right}
-use Rattle.fast_compare.specs.Labels.{isLess, isEqual, one, count, insertAt, below, sorted}
+use Rattle.fast_compare.specs.Labels.{isLess, isEqual, oneIf, count, insertAt, below, sorted}
 use Rattle.words.proofs.Tables.{never}
 use Rattle.fast_compare.proofs.Counts.{count-suc, count-ext, count-most, count-le, count-lt, count-two}
 
@@ -182,7 +182,7 @@ module _ {A : Type 0} {c : A → A → CmpOrd} (law : Lawful c) where
       unfolding p
       fits = omega (arith, r .long, below-most n (f n))
 
-      more : (q : A) → below c f (suc n) q ≡ one (isLess (c (f n) q)) + below c f n q
+      more : (q : A) → below c f (suc n) q ≡ oneIf (isLess (c (f n) q)) + below c f n q
       unfolding below
       more q = count-suc n (λ i. isLess (c (f i) q))
 

@@ -18,7 +18,7 @@ use Rattle.monomial.proofs.Sizing.{sizes-fit}
 use Rattle.monomial.proofs.Laws.{lent-canonical}
 use Rattle.fast_compare.specs.Map.{Value, valueOf, Good, State, empty, rebuild}
 use Rattle.fast_compare.specs.Layout.{encode, size, Is, Sound, Gave}
-use Rattle.fast_compare.specs.Door.{lengthFor, openingFor, openedBytes, number, told, valueLent, asked, left, Asking, Replied, Rebuilt}
+use Rattle.fast_compare.specs.Door.{lengthFor, openingFor, openedBytes, number, told, valueLent, answerFor, left, Asking, Replied, Rebuilt}
 use Rattle.fast_compare.specs.declared.Comparer.{Comparer}
 use Rattle.fast_compare.specs.declared.Comparer.the-variants.{New}
 use Rattle.fast_compare.specs.declared.doors.Answer.{Answer}
@@ -94,7 +94,7 @@ module _ (i : ℕ) (ratio bs : List ℕ) where
   asking-unsound h = record { unsound = λ _. refl; sound = λ st s. absurd (h (record { state = st; is = s })); refused = λ _. refl }
 
   pub asking-bad : Bytes bs → Sound bs → ((st : State) → Is st bs → valueLent (st .variables) i ratio ≡ false) → Asking i ratio BadValue bs bs
-  unfolding asked left
+  unfolding answerFor left
   asking-bad b s h = record {
     unsound = λ z. absurd (z s);
     sound = λ st k. rw (h st k) (refl, holds bs st b k);
@@ -103,7 +103,7 @@ module _ (i : ℕ) (ratio bs : List ℕ) where
 
   pub asking-given : Bytes bs → Sound bs → ((st : State) → Is st bs → valueLent (st .variables) i ratio ≡ true) → (c : Comparer) (exit : List ℕ)
       → ((st : State) → Is st bs → Gave st (valueOf i (words ratio)) c bs exit) → (r : Answer) → r ≡ told c → Asking i ratio r bs exit
-  unfolding asked left
+  unfolding answerFor left
   asking-given b s h c exit g r e = record {
     unsound = λ z. absurd (z s);
     sound = λ st k. let w = g st k in rw (h st k) (e ∙ ap told (w .answers), w .bytes);

@@ -52,8 +52,8 @@ unfoldable pub valueLent : ℕ → ℕ → List ℕ → Bool
 valueLent m i ratio = ltb i 268435456 && lent 2 m ratio
 
 -- what a sound map answers, and what is left of it
-unfoldable pub asked : State → ℕ → List ℕ → Answer
-asked st i ratio = cond (valueLent (st .variables) i ratio) (told (answer st (valueOf i (words ratio)))) BadValue
+unfoldable pub answerFor : State → ℕ → List ℕ → Answer
+answerFor st i ratio = cond (valueLent (st .variables) i ratio) (told (answer st (valueOf i (words ratio)))) BadValue
 
 unfoldable pub left : State → ℕ → List ℕ → State
 left st i ratio = cond (valueLent (st .variables) i ratio) (after st (valueOf i (words ratio))) st
@@ -61,13 +61,13 @@ left st i ratio = cond (valueLent (st .variables) i ratio) (after st (valueOf i 
 -- the answer and every byte after, for all bytes lent
 pub record Asking (i : ℕ) (ratio : List ℕ) (r : Answer) (entry exit : List ℕ) : Type 0 where
   pub unsound : (Sound entry → ⊥) → r ≡ Unsound
-  pub sound : (st : State) → Is st entry → (r ≡ asked st i ratio) × (exit ≡ pasteW entry 0 (encode (left st i ratio)))
+  pub sound : (st : State) → Is st entry → (r ≡ answerFor st i ratio) × (exit ≡ pasteW entry 0 (encode (left st i ratio)))
   pub refused : ((x : ℕ) → r ≡ Label x → ⊥) → exit ≡ entry
 
 -- the same as C gets it
 pub record Replied (i : ℕ) (ratio : List ℕ) (r : ℕ) (entry exit : List ℕ) : Type 0 where
   pub unsound : (Sound entry → ⊥) → r ≡ refusal 3
-  pub sound : (st : State) → Is st entry → (r ≡ number (asked st i ratio)) × (exit ≡ pasteW entry 0 (encode (left st i ratio)))
+  pub sound : (st : State) → Is st entry → (r ≡ number (answerFor st i ratio)) × (exit ≡ pasteW entry 0 (encode (left st i ratio)))
   pub refused : 4294967296 ≤ r → exit ≡ entry
 
 -- ---- rebuild

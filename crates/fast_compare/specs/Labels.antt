@@ -24,14 +24,14 @@ isEqual Less = false
 isEqual Equal = true
 isEqual Greater = false
 
-abbrev pub one : Bool → ℕ
-one true = 1
-one false = 0
+abbrev pub oneIf : Bool → ℕ
+oneIf true = 1
+oneIf false = 0
 
 -- how many numbers below n pass the test
 unfoldable pub count : ℕ → (ℕ → Bool) → ℕ
 count zero p = 0
-count (suc n) p = one (p n) + count n p
+count (suc n) p = oneIf (p n) + count n p
 
 -- a number below n that passes the test
 unfoldable pub pick : ℕ → (ℕ → Bool) → Option ℕ

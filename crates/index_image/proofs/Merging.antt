@@ -39,13 +39,13 @@ module _ {A B C : List ℕ} {i j n : ℕ} (s : Merging A B C i j n) (room : leng
   abbrev P : ℕ → ℕ
   P = powers Op.Ratio A B
 
-  pub record Fits : Type 0 where
+  pub record MergeFits : Type 0 where
     pub ia : i < length A
     pub jb : j < length B
     pub few : n ≤ 4096
     pub free : n < length C
 
-  pub fits : Fits
+  pub fits : MergeFits
   unfolding result monomialOf
   fits =
       let l : length (varsOf 2 4096 P) ≡ n + length (varsOf 2 (s .b) P) = ap length (s .split) ∙ length-append (s .done) _ ∙ rw (s .count) in

@@ -68,12 +68,12 @@ module _ (a b : List ℕ) (ca : Canonical 1 64 a) (cb : Canonical 1 64 b) where
   gcd-small = result-small 64 a b ca cb Gcd
 
 -- bytes whose first n words are a monomial hold its gcd with a multiple of it
-pub record Held (acc : List ℕ) (n : ℕ) (ws : List ℕ) : Type 0 where
+pub record AtFront (acc : List ℕ) (n : ℕ) (ws : List ℕ) : Type 0 where
   pub long : n ≡ length ws
   pub kept : acc ≡ pasteW acc 0 ws
 
 pub gcd-held : (acc : List ℕ) (n : ℕ) (b : List ℕ) → Bytes acc → 4 * n ≤ length acc → Canonical 1 64 (part (words acc) 0 n) → Canonical 1 64 b
-    → divides (part (words acc) 0 n) b ≡ true → Held acc n (result Gcd (part (words acc) 0 n) b)
+    → divides (part (words acc) 0 n) b ≡ true → AtFront acc n (result Gcd (part (words acc) 0 n) b)
 gcd-held acc n b by room ca cb d =
     let e : result Gcd (part (words acc) 0 n) b ≡ part (words acc) 0 n = gcd-divided 64 (part (words acc) 0 n) b ca cb (omega arith) d in
     rw e (record { long = sym (length-part (words acc) 0 n (omega (arith, length-words acc))); kept = sym (paste-own acc n by room) })

@@ -20,7 +20,7 @@ use Rattle.index_image.specs.Shape as at
 use Rattle.index_image.specs.declared.Shape.{Shape}
 use Rattle.index_image.proofs.Trees.{some-node, nodes-branch, nodes-leaf}
 use Rattle.index_image.proofs.Once.{get-in}
-use Rattle.kd_split.specs.Held.{Holds, Stands, Held, Became}
+use Rattle.kd_split.specs.HasTree.{Holds, Stands, HasTree, Became}
 use Rattle.kd_split.proofs.Standing.{Based, based, part-same, part-kept, node-add, node-next, node-le, Row, row-same, ordered-small, row-inside, Cut, cut, uncut, leaf-row, count-at}
 
 -- words written in the image leave the bytes past it
@@ -51,7 +51,7 @@ module _ (s : Shape) (n n′ a b : ℕ) (e : n′ + a ≡ n + b) where
   node-grown = let z = ap (λ (x : ℕ). x * (s .variables + 6)) e in omega (arith, z, add-mul n′ a (s .variables + 6), add-mul n b (s .variables + 6))
 
 module _ (st : State) (s : Shape) where
-  pub became-refl : (bs : List ℕ) (k lo rows : ℕ) (t : Tree) → Held st (words bs) s k lo rows t → Became st bs bs s k lo rows rows t t
+  pub became-refl : (bs : List ℕ) (k lo rows : ℕ) (t : Tree) → HasTree st (words bs) s k lo rows t → Became st bs bs s k lo rows rows t t
   became-refl bs k lo rows t h = record {
     long = refl;
     rest = refl;
@@ -80,7 +80,7 @@ module _ (st : State) (s : Shape) where
   }
 
   -- ---- what else the image holds is kept
-  module _ (bs bs′ : List ℕ) (k lo rows rows′ : ℕ) (t u : Tree) (h : Held st (words bs) s k lo rows t) (x : Became st bs bs′ s k lo rows rows′ t u) where
+  module _ (bs bs′ : List ℕ) (k lo rows rows′ : ℕ) (t u : Tree) (h : HasTree st (words bs) s k lo rows t) (x : Became st bs bs′ s k lo rows rows′ t u) where
     abbrev W : List ℕ
     W = words bs
 
@@ -131,8 +131,8 @@ module _ (st : State) (s : Shape) where
     }
 
     -- the tree that stands there now may be searched on
-    pub held-became : Kept (keys st) t u → Held st (words bs′) s k lo rows′ u
-    held-became q = record {
+    pub tree-became : Kept (keys st) t u → HasTree st (words bs′) s k lo rows′ u
+    tree-became q = record {
       holds = holds (q .ordered);
       stands = x .stands;
       ordered = q .ordered;
@@ -146,7 +146,7 @@ module _ (st : State) (s : Shape) where
     }
 
   -- ---- the sides of a branch
-  module _ (W : List ℕ) (k lo rows d key : ℕ) (a b : Tree) (h : Held st W s k lo rows (branch d key a b)) where
+  module _ (W : List ℕ) (k lo rows d key : ℕ) (a b : Tree) (h : HasTree st W s k lo rows (branch d key a b)) where
     pub parts : Cut st W s (based (h .holds)) k lo d key a b
     parts =
         cut st W s (based (h .holds)) k lo d key a b rows (omega (arith, h .fits, nodes-branch d key a b)) (h .rows-to) (omega (arith, h .inside, length-append (inorder a) (inorder b))) (h .stands)
@@ -157,8 +157,8 @@ module _ (st : State) (s : Shape) where
     pub some-two : 0 < count b
     some-two = some-length (inorder b) (h .ordered .0 .some-other)
 
-    pub held-less : Held st W s (k + 1) lo rows a
-    held-less = record {
+    pub tree-less : HasTree st W s (k + 1) lo rows a
+    tree-less = record {
       holds = h .holds;
       stands = parts .one;
       ordered = h .ordered .1;
@@ -168,8 +168,8 @@ module _ (st : State) (s : Shape) where
       room = omega (arith, h .room, nodes-branch d key a b, length-append (inorder a) (inorder b), few-nodes (keys st) b (h .ordered .2) some-two);
     }
 
-    pub held-other : Held st W s (k + 1 + nodes a) (lo + count a) rows b
-    held-other = record {
+    pub tree-other : HasTree st W s (k + 1 + nodes a) (lo + count a) rows b
+    tree-other = record {
       holds = h .holds;
       stands = parts .two;
       ordered = h .ordered .2;
@@ -185,7 +185,7 @@ module _ (st : State) (s : Shape) where
       let e : k + nodes (branch d key a b) ≡ k + 1 + nodes a + nodes b = omega (arith, nodes-branch d key a b) in
       ap (at.nodeAt s) e ∙ node-add s (k + 1 + nodes a) (nodes b)
 
-  module _ (bs bs₁ : List ℕ) (k lo rows rows₁ d key : ℕ) (a b : Tree) (h : Held st (words bs) s k lo rows (branch d key a b)) where
+  module _ (bs bs₁ : List ℕ) (k lo rows rows₁ d key : ℕ) (a b : Tree) (h : HasTree st (words bs) s k lo rows (branch d key a b)) where
     abbrev w : ℕ
     w = s .variables + 6
 
@@ -236,7 +236,7 @@ module _ (st : State) (s : Shape) where
           grown = omega (arith, x .grown);
           more = omega (arith, x .more);
           same = omega (arith, both, both₁, x .same);
-          stands = uncut st U s B₁ k lo d key a b₁ rows₁ (omega (arith, x .grown, h .fits)) (held-became bs bs₁ (k + 1 + nodes a) (lo + count a) rows rows₁ b b₁ (held-other (words bs) k lo rows d key a b h) x q .rows-to) (omega (arith, h .inside, both, x .same)) (record {
+          stands = uncut st U s B₁ k lo d key a b₁ rows₁ (omega (arith, x .grown, h .fits)) (tree-became bs bs₁ (k + 1 + nodes a) (lo + count a) rows rows₁ b b₁ (tree-other (words bs) k lo rows d key a b h) x q .rows-to) (omega (arith, h .inside, both, x .same)) (record {
             here = row-same (s .variables) (st .mapMaxima) (powerIn (st .entries)) U (at.nodeAt s k) (suc d) key (nodes a) (inorder a ++ inorder b) (inorder a ++ inorder b₁) mixed (omega (arith, both, both₁, x .same)) (omega (arith, both, some-one (words bs) k lo rows d key a b h)) here₀;
             one = record {
               rows = part-kept W U (at.nodeAt s (k + 1)) (nodes a * w) (omega (arith, ends, fit)) long (λ i l r. kept i (omega (arith, next)) (omega (arith, ends))) ∙ p .one .rows;
@@ -264,7 +264,7 @@ module _ (st : State) (s : Shape) where
         let W = words bs in
         let U = words bs₁ in
         let X = words bs₂ in
-        let hl = held-became bs bs₁ (k + 1) lo rows rows₁ a a₁ (held-less (words bs) k lo rows d key a b h) x q in
+        let hl = tree-became bs bs₁ (k + 1) lo rows rows₁ a a₁ (tree-less (words bs) k lo rows d key a b h) x q in
         let long₁ : length U ≡ length W = length-words bs₁ ∙ rw (x .long) (sym (length-words bs)) in
         let skip-in : 4 * (at.nodeAt s k + 3) + 4 ≤ length bs₁ = omega (arith, row-in, length-words bs, x .long) in
         let small : nodes a₁ < 2 ^ 32 = omega (arith, hl .fits, hl .rows-to, h .holds .range .cap-to) in

@@ -18,7 +18,7 @@ use Rattle.index_image.specs.Walk as walk
 use Rattle.index_image.specs.Walk.{power, mapMaxima}
 use Rattle.index_image.specs.Rows.{entriesFrom}
 use Rattle.index_image.specs.declared.Shape.{Shape}
-use Rattle.kd_split.specs.Held.{Holds, Held, Became}
+use Rattle.kd_split.specs.HasTree.{Holds, HasTree, Became}
 use Rattle.kd_split.specs.Split.{keyIn, markIn, onSide, lesses, others, leafWords, Splittable, SplitAt}
 use Rattle.kd_split.proofs.Standing.{based, leaf-row, length-row}
 use Rattle.index_image.proofs.Bounds.{size-small}
@@ -32,7 +32,7 @@ part-small bs a n by h = small-each (part (words bs) a n) (λ i l. rw (part-get 
 
 -- what `mark` asks
 pub before-split : (bs : List ℕ) (s : Shape) (k lo rows c d : ℕ) → Splittable bs s k lo rows c d → walk.Ready (words bs) s × (lo + c ≤ s .entries)
-before-split bs s k lo rows c d u = (holds-ready (u .state) (words bs) s (u .held .holds), omega (arith, u .held .inside, u .count))
+before-split bs s k lo rows c d u = (holds-ready (u .state) (words bs) s (u .has .holds), omega (arith, u .has .inside, u .count))
 
 module _ (bs : List ℕ) (s : Shape) (k lo rows c d x key : ℕ) (u : Splittable bs s k lo rows c d) (small-x : key < 2 ^ 32) (ek : key ≡ markIn (words bs) s d x (others (words bs) s d x lo c)) where
   abbrev W : List ℕ
@@ -49,17 +49,17 @@ module _ (bs : List ℕ) (s : Shape) (k lo rows c d x key : ℕ) (u : Splittable
 
   -- a leaf that stands there
   record Stood (st : State) (es : List ℕ) : Type 0 where
-    held : Held st (words bs) s k lo rows (leaf es)
+    has : HasTree st (words bs) s k lo rows (leaf es)
     count : c ≡ length es
     are : entriesFrom (words bs) s lo c ≡ es
 
-  row-of-leaf : (st : State) (es : List ℕ) → Held st (words bs) s k lo rows (leaf es) → getD (words bs) (at.nodeAt s k + 2) 0 ≡ length es
+  row-of-leaf : (st : State) (es : List ℕ) → HasTree st (words bs) s k lo rows (leaf es) → getD (words bs) (at.nodeAt s k + 2) 0 ≡ length es
   row-of-leaf st es h = leaf-row st (words bs) s (based (h .holds)) k lo rows es (omega (arith, h .fits, nodes-leaf es)) (h .rows-to) (h .stands) .count-is
 
-  stood : (st : State) (es : List ℕ) → Held st (words bs) s k lo rows (leaf es) → Stood st es
+  stood : (st : State) (es : List ℕ) → HasTree st (words bs) s k lo rows (leaf es) → Stood st es
   stood st es h =
-      let e : c ≡ length es = u .count ∙ sym (row-of-leaf (u .state) (u .es) (u .held)) ∙ row-of-leaf st es h in
-      record { held = h; count = e; are = rw e (h .stands .perm) }
+      let e : c ≡ length es = u .count ∙ sym (row-of-leaf (u .state) (u .es) (u .has)) ∙ row-of-leaf st es h in
+      record { has = h; count = e; are = rw e (h .stands .perm) }
 
   -- the numbers of the calls
   pub record SplitNumbers : Type 0 where
@@ -73,18 +73,18 @@ module _ (bs : List ℕ) (s : Shape) (k lo rows c d x key : ℕ) (u : Splittable
     pub three : 4 * (at.nodeAt s k + 3 * (s .variables + 6)) ≤ length bs
     pub small : at.nodeAt s k + 3 * (s .variables + 6) ≤ 1413206
 
-  my-rooms : (st : State) (es : List ℕ) (z : Stood st es) → Rooms st s bs k lo rows c d x key es (z .held) (z .count) (u .many) (keyIn (words bs) s)
-  my-rooms st es z = rooms st s bs k lo rows c d x key es (z .held) (z .count) (u .many) pw₀
+  my-rooms : (st : State) (es : List ℕ) (z : Stood st es) → Rooms st s bs k lo rows c d x key es (z .has) (z .count) (u .many) (keyIn (words bs) s)
+  my-rooms st es z = rooms st s bs k lo rows c d x key es (z .has) (z .count) (u .many) pw₀
 
   pub split-numbers : SplitNumbers
   split-numbers =
-      let z = stood (u .state) (u .es) (u .held) in
+      let z = stood (u .state) (u .es) (u .has) in
       let r = my-rooms (u .state) (u .es) z in
-      let H = u .held .holds in
+      let H = u .has .holds in
       record {
         ready = holds-ready (u .state) W s H;
-        few = omega (arith, u .held .inside, u .count);
-        count = omega (arith, u .held .inside, u .count, H .range .few, H .range .cap-to);
+        few = omega (arith, u .has .inside, u .count);
+        count = omega (arith, u .has .inside, u .count, H .range .few, H .range .cap-to);
         dim = omega (arith, u .dim, H .range .vars-to, H .range .kind-to);
         vars = H .range .vars-to;
         row = r .row;
@@ -94,7 +94,7 @@ module _ (bs : List ℕ) (s : Shape) (k lo rows c d x key : ℕ) (u : Splittable
       }
 
   pub less-few : (n : ℕ) → n ≡ length (lesses (words bs) s d x lo c) → n ≤ c
-  less-few n en = let z = stood (u .state) (u .es) (u .held) in let e : n ≡ length (keep (onSide pw₀ d x true) (u .es)) = en ∙ rw (z .are) refl in omega (arith, e, sides-length pw₀ d x (u .es), z .count)
+  less-few n en = let z = stood (u .state) (u .es) (u .has) in let e : n ≡ length (keep (onSide pw₀ d x true) (u .es)) = en ∙ rw (z .are) refl in omega (arith, e, sides-length pw₀ d x (u .es), z .count)
 
   module _ (bs₁ : List ℕ) (by₁ : Bytes bs₁) (e₁ : bs₁ ≡ pasteW bs (at.permutationAt s + lo) (lesses (words bs) s d x lo c ++ others (words bs) s d x lo c)) where
     one : (st : State) (es : List ℕ) → Stood st es → Wrote bs bs₁ (at.permutationAt s + lo) (keep (onSide (keyIn (words bs) s) d x true) es ++ keep (onSide (keyIn (words bs) s) d x false) es)
@@ -127,14 +127,14 @@ module _ (bs : List ℕ) (s : Shape) (k lo rows c d x key : ℕ) (u : Splittable
           wrote bs₂ bs₃ A ((d + 1) ∷ key ∷ c ∷ 1 ∷ q ∷ []) (all .each) (omega (arith, N .three, w₂ .long, one st es z .long)) e₃
 
       held₃ : (st : State) (es : List ℕ) → Stood st es → Holds st (words bs₃) s
-      held₃ st es z = holds₃ st s bs k lo rows c d x key es (z .held) (z .count) (u .many) pw₀ bs₁ (one st es z) bs₂ bs₃ q (two st es z) eq (three st es z)
+      held₃ st es z = holds₃ st s bs k lo rows c d x key es (z .has) (z .count) (u .many) pw₀ bs₁ (one st es z) bs₂ bs₃ q (two st es z) eq (three st es z)
 
       -- what the first `write_leaf` asks
       pub ready₃ : walk.Ready (words bs₃) s
-      ready₃ = holds-ready (u .state) (words bs₃) s (held₃ (u .state) (u .es) (stood (u .state) (u .es) (u .held)))
+      ready₃ = holds-ready (u .state) (words bs₃) s (held₃ (u .state) (u .es) (stood (u .state) (u .es) (u .has)))
 
       pub long₃ : length bs₃ ≡ length bs
-      long₃ = let z = stood (u .state) (u .es) (u .held) in three (u .state) (u .es) z .long ∙ two (u .state) (u .es) z .long ∙ one (u .state) (u .es) z .long
+      long₃ = let z = stood (u .state) (u .es) (u .has) in three (u .state) (u .es) z .long ∙ two (u .state) (u .es) z .long ∙ one (u .state) (u .es) z .long
 
       module _ (n : ℕ) (en : n ≡ length (lesses (words bs) s d x lo c)) (bs₄ : List ℕ) (e₄ : bs₄ ≡ pasteW bs₃ (at.nodeAt s k + (s .variables + 6)) (leafWords (words bs₃) s lo n)) where
         n-is : (st : State) (es : List ℕ) → Stood st es → n ≡ length (keep (onSide (keyIn (words bs) s) d x true) es)
@@ -145,20 +145,20 @@ module _ (bs : List ℕ) (s : Shape) (k lo rows c d x key : ℕ) (u : Splittable
             let N = split-numbers in
             let Ls = keep (onSide pw₀ d x true) es in
             let H = held₃ st es z in
-            let ent : entriesFrom (words bs₃) s lo n ≡ Ls = rw (n-is st es z) (less-entries st s bs k lo rows c d x key es (z .held) (z .count) (u .many) pw₀ bs₁ (one st es z) bs₂ bs₃ q (two st es z) eq (three st es z)) in
-            let same = leaf-words st (words bs₃) s lo n Ls H ent (small-less st s bs k lo rows c d x key es (z .held) (z .count) (u .many) pw₀) in
+            let ent : entriesFrom (words bs₃) s lo n ≡ Ls = rw (n-is st es z) (less-entries st s bs k lo rows c d x key es (z .has) (z .count) (u .many) pw₀ bs₁ (one st es z) bs₂ bs₃ q (two st es z) eq (three st es z)) in
+            let same = leaf-words st (words bs₃) s lo n Ls H ent (small-less st s bs k lo rows c d x key es (z .has) (z .count) (u .many) pw₀) in
             let small = rw same at (leaf-small (words bs₃) s lo n (N .vars) (rw ent (omega (arith, sides-length pw₀ d x es, z .count, N .count)))) in
-            let l = length-row st W s (based (z .held .holds)) 0 0 0 Ls in
+            let l = length-row st W s (based (z .has .holds)) 0 0 0 Ls in
             wrote bs₃ bs₄ (A + w) (nodeWords (s .variables) (st .mapMaxima) (powerIn (st .entries)) 0 0 0 Ls) small (omega (arith, l, N .three, long₃)) (rw same at e₄)
 
         held₄ : (st : State) (es : List ℕ) → Stood st es → Holds st (words bs₄) s
-        held₄ st es z = holds₄ st s bs k lo rows c d x key es (z .held) (z .count) (u .many) pw₀ bs₁ (one st es z) bs₂ bs₃ q (two st es z) eq (three st es z) bs₄ (four st es z)
+        held₄ st es z = holds₄ st s bs k lo rows c d x key es (z .has) (z .count) (u .many) pw₀ bs₁ (one st es z) bs₂ bs₃ q (two st es z) eq (three st es z) bs₄ (four st es z)
 
         pub ready₄ : walk.Ready (words bs₄) s
-        ready₄ = holds-ready (u .state) (words bs₄) s (held₄ (u .state) (u .es) (stood (u .state) (u .es) (u .held)))
+        ready₄ = holds-ready (u .state) (words bs₄) s (held₄ (u .state) (u .es) (stood (u .state) (u .es) (u .has)))
 
         pub long₄ : length bs₄ ≡ length bs
-        long₄ = four (u .state) (u .es) (stood (u .state) (u .es) (u .held)) .long ∙ long₃
+        long₄ = four (u .state) (u .es) (stood (u .state) (u .es) (u .has)) .long ∙ long₃
 
         pub split-done : (bs₅ : List ℕ) → bs₅ ≡ pasteW bs₄ (at.nodeAt s k + 2 * (s .variables + 6)) (leafWords (words bs₄) s (lo + n) (c - n)) → SplitAt bs bs₅ s k lo rows d x
         unfolding SplitAt
@@ -167,13 +167,13 @@ module _ (bs : List ℕ) (s : Shape) (k lo rows c d x key : ℕ) (u : Splittable
             let N = split-numbers in
             let Os = keep (onSide pw₀ d x false) es in
             let H = held₄ st es z in
-            let ent : entriesFrom (words bs₄) s (lo + n) (c - n) ≡ Os = rw (n-is st es z) (other-entries st s bs k lo rows c d x key es (z .held) (z .count) (u .many) pw₀ bs₁ (one st es z) bs₂ bs₃ q (two st es z) eq (three st es z) bs₄ (four st es z)) in
-            let same = leaf-words st (words bs₄) s (lo + n) (c - n) Os H ent (small-other st s bs k lo rows c d x key es (z .held) (z .count) (u .many) pw₀) in
+            let ent : entriesFrom (words bs₄) s (lo + n) (c - n) ≡ Os = rw (n-is st es z) (other-entries st s bs k lo rows c d x key es (z .has) (z .count) (u .many) pw₀ bs₁ (one st es z) bs₂ bs₃ q (two st es z) eq (three st es z) bs₄ (four st es z)) in
+            let same = leaf-words st (words bs₄) s (lo + n) (c - n) Os H ent (small-other st s bs k lo rows c d x key es (z .has) (z .count) (u .many) pw₀) in
             let small = rw same at (leaf-small (words bs₄) s (lo + n) (c - n) (N .vars) (rw ent (omega (arith, sides-length pw₀ d x es, z .count, N .count)))) in
-            let l = length-row st W s (based (z .held .holds)) 0 0 0 Os in
+            let l = length-row st W s (based (z .has .holds)) 0 0 0 Os in
             let five : Wrote bs₄ bs₅ (A + 2 * w) (nodeWords (s .variables) (st .mapMaxima) (powerIn (st .entries)) 0 0 0 Os) =
             wrote bs₄ bs₅ (A + 2 * w) (nodeWords (s .variables) (st .mapMaxima) (powerIn (st .entries)) 0 0 0 Os) small (omega (arith, l, N .three, long₄)) (rw same at e₅) in
-            turned (ek ∙ rw (z .are) refl) (split-became st s bs k lo rows c d x key es (z .held) (z .count) (u .many) pw₀ bs₁ (one st es z) bs₂ bs₃ q (two st es z) eq (three st es z) bs₄ (four st es z) bs₅ five)
+            turned (ek ∙ rw (z .are) refl) (split-became st s bs k lo rows c d x key es (z .has) (z .count) (u .many) pw₀ bs₁ (one st es z) bs₂ bs₃ q (two st es z) eq (three st es z) bs₄ (four st es z) bs₅ five)
           where
             turned : {a b : ℕ} {st : State} {es Ls Os : List ℕ} → a ≡ b → Became st bs bs₅ s k lo rows (rows + 2) (leaf es) (branch d a (leaf Ls) (leaf Os)) → Became st bs bs₅ s k lo rows (rows + 2) (leaf es) (branch d b (leaf Ls) (leaf Os))
             turned e y = rw e at y

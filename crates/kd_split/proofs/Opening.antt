@@ -29,8 +29,8 @@ use Rattle.index_image.proofs.EntryWords.{no-ratio}
 use Rattle.kd_split.specs.declared.Average.{Average}
 use Rattle.kd_split.specs.declared.Dimension.{Dimension}
 use Rattle.kd_split.specs.declared.Dimension.the-variants.{At, Flat}
-use Rattle.kd_split.specs.Held.{Holds, Stands, Held, Became}
-use Rattle.kd_split.specs.Split.{Stays, Opens, OpenedAs, Opened}
+use Rattle.kd_split.specs.HasTree.{Holds, Stands, HasTree, Became}
+use Rattle.kd_split.specs.Split.{Stays, RootBranch, RootSplitAs, RootSplit}
 use Rattle.kd_split.specs.Split.{keyBy, leastPlace, markBy, keyIn, markIn, Standing, Chose, onSide, Splittable, SplitAt}
 use Rattle.kd_split.proofs.Standing.{based, node-next, row-inside, Row, leaf-row, ordered-small}
 use Rattle.kd_split.proofs.Becoming.{became-refl, parts}
@@ -138,7 +138,7 @@ module _ (es : List Entry) (l : map.State) (k : ℕ) (one : k ≡ 1) (pw : ℕ �
   ratio-mark (suc v) m xs h = sym (mark-by-power k lb (suc v) m xs one (λ z. omega arith))
 
 -- the split of a leaf, by the words
-split-is : (st : State) (W : List ℕ) (s : Shape) (k lo rows n : ℕ) (es : List ℕ) → Held st W s k lo rows (leaf es) → split st n es ≡ tryFrom (keyIn W s) (markIn W s) (dims s) (dims s) n es
+split-is : (st : State) (W : List ℕ) (s : Shape) (k lo rows n : ℕ) (es : List ℕ) → HasTree st W s k lo rows (leaf es) → split st n es ≡ tryFrom (keyIn W s) (markIn W s) (dims s) (dims s) n es
 unfolding bifurcate keyIn markIn
 split-is st W s k lo rows n es h = go (st .kind) refl
   where
@@ -166,7 +166,7 @@ module _ (bs : List ℕ) (s : Shape) (k lo rows : ℕ) where
   abbrev W : List ℕ
   W = words bs
 
-  leaf-of : (st : State) (es : List ℕ) → Held st (words bs) s k lo rows (leaf es) → Row (words bs) (s .variables) (st .mapMaxima) (powerIn (st .entries)) (at.nodeAt s k) 0 0 0 es
+  leaf-of : (st : State) (es : List ℕ) → HasTree st (words bs) s k lo rows (leaf es) → Row (words bs) (s .variables) (st .mapMaxima) (powerIn (st .entries)) (at.nodeAt s k) 0 0 0 es
   leaf-of st es h = leaf-row st (words bs) s (based (h .holds)) k lo rows es (omega (arith, h .fits, nodes-leaf es)) (h .rows-to) (h .stands)
 
   pub record NodeNumbers : Type 0 where
@@ -178,7 +178,7 @@ module _ (bs : List ℕ) (s : Shape) (k lo rows : ℕ) where
 
   pub node-numbers : Standing bs s k lo rows → NodeNumbers
   node-numbers w =
-      let h = w .held in
+      let h = w .has in
       record {
         range = h .holds .range;
         row = omega (arith, h .fits, some-node (w .tree), h .rows-to, h .holds .range .cap-to);
@@ -188,15 +188,15 @@ module _ (bs : List ℕ) (s : Shape) (k lo rows : ℕ) where
       }
 
   -- a branch stays as it is
-  pub node-branch : (dim : ℕ) → (getD (words bs) (at.nodeAt s k) 0 ≡ 0 → ⊥) → Opened bs bs s dim k lo rows rows
-  unfolding Opened OpenedAs splitRoot
+  pub node-branch : (dim : ℕ) → (getD (words bs) (at.nodeAt s k) 0 ≡ 0 → ⊥) → RootSplit bs bs s dim k lo rows rows
+  unfolding RootSplit RootSplitAs splitRoot
   node-branch dim z st t h = go t h
     where
-      branch-as : (d key : ℕ) (a b : Tree) (n : ℕ) → n ≡ rows → Held st (words bs) s k lo rows (branch d key a b) → OpenedAs st bs bs s dim k lo rows (branch d key a b) n
+      branch-as : (d key : ℕ) (a b : Tree) (n : ℕ) → n ≡ rows → HasTree st (words bs) s k lo rows (branch d key a b) → RootSplitAs st bs bs s dim k lo rows (branch d key a b) n
       branch-as d key a b zero e h = absurd (omega (arith, h .fits, some-node (branch d key a b)))
-      branch-as d key a b (suc n) e h = record { d = d; key = key; less = a; other = b; opened-is = refl; became = rw e (became-refl st s bs k lo rows (branch d key a b) h) }
+      branch-as d key a b (suc n) e h = record { d = d; key = key; less = a; other = b; splitRoot-is = refl; became = rw e (became-refl st s bs k lo rows (branch d key a b) h) }
 
-      go : (t : Tree) → Held st (words bs) s k lo rows t → OpenedAs st bs bs s dim k lo rows t rows
+      go : (t : Tree) → HasTree st (words bs) s k lo rows t → RootSplitAs st bs bs s dim k lo rows t rows
       go (leaf es) h = absurd (z (leaf-of st es h .tag-is))
       go (branch d key a b) h = branch-as d key a b rows refl h
 
@@ -205,16 +205,16 @@ module _ (bs : List ℕ) (s : Shape) (k lo rows : ℕ) where
     record IsLeaf (st : State) (t : Tree) : Type 0 where
       es : List ℕ
       is : t ≡ leaf es
-      held : Held st (words bs) s k lo rows (leaf es)
+      has : HasTree st (words bs) s k lo rows (leaf es)
       count : getD (words bs) (at.nodeAt s k + 2) 0 ≡ length es
 
-    is-leaf : (st : State) (t : Tree) → Held st (words bs) s k lo rows t → IsLeaf st t
-    is-leaf st (leaf es) h = record { es = es; is = refl; held = h; count = leaf-of st es h .count-is }
+    is-leaf : (st : State) (t : Tree) → HasTree st (words bs) s k lo rows t → IsLeaf st t
+    is-leaf st (leaf es) h = record { es = es; is = refl; has = h; count = leaf-of st es h .count-is }
     is-leaf st (branch d key a b) h = absurd (omega (arith, parts st s (words bs) k lo rows d key a b h .here .tag-is))
 
-    opened-stays : (st : State) (dim : ℕ) (es : List ℕ) (b : Bool) (o : Option Split) → ltb 64 (length es) ≡ b → split st dim es ≡ o → splitRoot (split st) dim (leaf es) ≡ splitLeaf es b o
+    splitRoot-stays : (st : State) (dim : ℕ) (es : List ℕ) (b : Bool) (o : Option Split) → ltb 64 (length es) ≡ b → split st dim es ≡ o → splitRoot (split st) dim (leaf es) ≡ splitLeaf es b o
     unfolding splitRoot limit
-    opened-stays st dim es b o e f = rw (e, f) refl
+    splitRoot-stays st dim es b o e f = rw (e, f) refl
 
     leaf-false : (es : List ℕ) (o : Option Split) → splitLeaf es false o ≡ leaf es
     unfolding splitLeaf
@@ -228,33 +228,33 @@ module _ (bs : List ℕ) (s : Shape) (k lo rows : ℕ) where
     unfolding splitLeaf
     leaf-some es x = refl
 
-    as-zero : (st : State) (dim : ℕ) (t : Tree) (l : IsLeaf st t) → splitRoot (split st) dim (leaf (l .es)) ≡ leaf (l .es) → OpenedAs st bs bs s dim k lo rows t 0
-    unfolding OpenedAs
-    as-zero st dim t l e = record { es = l .es; is = l .is; opened-is = ap (splitRoot (split st) dim) (l .is) ∙ e; bytes = refl }
+    as-zero : (st : State) (dim : ℕ) (t : Tree) (l : IsLeaf st t) → splitRoot (split st) dim (leaf (l .es)) ≡ leaf (l .es) → RootSplitAs st bs bs s dim k lo rows t 0
+    unfolding RootSplitAs
+    as-zero st dim t l e = record { es = l .es; is = l .is; splitRoot-is = ap (splitRoot (split st) dim) (l .is) ∙ e; bytes = refl }
 
-    pub node-short : (dim : ℕ) → getD (words bs) (at.nodeAt s k + 2) 0 ≤ 64 → Opened bs bs s dim k lo rows 0
-    unfolding Opened
+    pub node-short : (dim : ℕ) → getD (words bs) (at.nodeAt s k + 2) 0 ≤ 64 → RootSplit bs bs s dim k lo rows 0
+    unfolding RootSplit
     node-short dim h st t w =
         let l = is-leaf st t w in
-        as-zero st dim t l (opened-stays st dim (l .es) false (split st dim (l .es)) (le-ltb 64 (length (l .es)) (omega (arith, l .count))) refl ∙ leaf-false (l .es) (split st dim (l .es)))
+        as-zero st dim t l (splitRoot-stays st dim (l .es) false (split st dim (l .es)) (le-ltb 64 (length (l .es)) (omega (arith, l .count))) refl ∙ leaf-false (l .es) (split st dim (l .es)))
 
     pub record LeafHere (c : ℕ) : Type 0 where
       pub few : lo + c ≤ s .entries
       pub is : c ≡ getD (words bs) (at.nodeAt s k + 2) 0
 
     pub leaf-here : (c : ℕ) → c ≡ getD (words bs) (at.nodeAt s k + 2) 0 → Standing bs s k lo rows → LeafHere c
-    leaf-here c e w = let l = is-leaf (w .state) (w .tree) (w .held) in record { few = omega (arith, l .count, l .held .inside); is = e }
+    leaf-here c e w = let l = is-leaf (w .state) (w .tree) (w .has) in record { few = omega (arith, l .count, l .has .inside); is = e }
 
     module _ (c : ℕ) (ec : c ≡ getD (words bs) (at.nodeAt s k + 2) 0) (many : 64 < c) (dim : ℕ) (D : Dimension) (C : Chose (keyIn (words bs) s) (markIn (words bs) s) (dims s) (dims s) dim (entriesFrom (words bs) s lo c) D) where
       entries-are : (st : State) (t : Tree) (l : IsLeaf st t) → entriesFrom (words bs) s lo c ≡ l .es
-      entries-are st t l = let e : c ≡ length (l .es) = ec ∙ l .count in rw e (l .held .stands .perm)
+      entries-are st t l = let e : c ≡ length (l .es) = ec ∙ l .count in rw e (l .has .stands .perm)
 
-      pub node-flat : D ≡ Flat → Opened bs bs s dim k lo rows 0
-      unfolding Opened Chose
+      pub node-flat : D ≡ Flat → RootSplit bs bs s dim k lo rows 0
+      unfolding RootSplit Chose
       node-flat e st t w =
           let l = is-leaf st t w in
           let n : tryFrom (keyIn (words bs) s) (markIn (words bs) s) (dims s) (dims s) dim (l .es) ≡ none = rw (entries-are st t l) at (flat e C) in
-          as-zero st dim t l (opened-stays st dim (l .es) true none (lt-ltb 64 (length (l .es)) (omega (arith, l .count))) (split-is st (words bs) s k lo rows dim (l .es) (l .held) ∙ n) ∙ leaf-none (l .es))
+          as-zero st dim t l (splitRoot-stays st dim (l .es) true none (lt-ltb 64 (length (l .es)) (omega (arith, l .count))) (split-is st (words bs) s k lo rows dim (l .es) (l .has) ∙ n) ∙ leaf-none (l .es))
         where
           flat : {D : Dimension} → D ≡ Flat → Chose (keyIn (words bs) s) (markIn (words bs) s) (dims s) (dims s) dim (entriesFrom (words bs) s lo c) D → tryFrom (keyIn (words bs) s) (markIn (words bs) s) (dims s) (dims s) dim (entriesFrom (words bs) s lo c) ≡ none
           flat e x = rw e at x
@@ -269,30 +269,30 @@ module _ (bs : List ℕ) (s : Shape) (k lo rows : ℕ) where
 
       pub splittable : (a : Average) → D ≡ At a → Standing bs s k lo rows → Splittable bs s k lo rows c (a .dim)
       splittable a e w =
-          let l = is-leaf (w .state) (w .tree) (w .held) in
-          record { state = w .state; es = l .es; held = l .held; count = ec ∙ l .count; many = many; dim = chosen a e .small }
+          let l = is-leaf (w .state) (w .tree) (w .has) in
+          record { state = w .state; es = l .es; has = l .has; count = ec ∙ l .count; many = many; dim = chosen a e .small }
 
       cut-is : (d m : ℕ) (es : List ℕ) → branch (cut (keyIn (words bs) s) (markIn (words bs) s) d m es .dim) (cut (keyIn (words bs) s) (markIn (words bs) s) d m es .key) (leaf (cut (keyIn (words bs) s) (markIn (words bs) s) d m es .less)) (leaf (cut (keyIn (words bs) s) (markIn (words bs) s) d m es .other))
           ≡ branch d (markIn (words bs) s d m (keep (onSide (keyIn (words bs) s) d m false) es)) (leaf (keep (onSide (keyIn (words bs) s) d m true) es)) (leaf (keep (onSide (keyIn (words bs) s) d m false) es))
       unfolding cut onSide
       cut-is d m es = refl
 
-      as-more : (st : State) (t : Tree) (d key : ℕ) (x y : Tree) (bs′ : List ℕ) (n : ℕ) → 0 < n → splitRoot (split st) dim t ≡ branch d key x y → Became st bs bs′ s k lo rows n t (branch d key x y) → OpenedAs st bs bs′ s dim k lo rows t n
-      unfolding OpenedAs
+      as-more : (st : State) (t : Tree) (d key : ℕ) (x y : Tree) (bs′ : List ℕ) (n : ℕ) → 0 < n → splitRoot (split st) dim t ≡ branch d key x y → Became st bs bs′ s k lo rows n t (branch d key x y) → RootSplitAs st bs bs′ s dim k lo rows t n
+      unfolding RootSplitAs
       as-more st t d key x y bs′ zero h e b = absurd (omega arith)
-      as-more st t d key x y bs′ (suc n) h e b = record { d = d; key = key; less = x; other = y; opened-is = e; became = b }
+      as-more st t d key x y bs′ (suc n) h e b = record { d = d; key = key; less = x; other = y; splitRoot-is = e; became = b }
 
-      pub node-split : (a : Average) → D ≡ At a → (bs′ : List ℕ) → SplitAt bs bs′ s k lo rows (a .dim) (a .value) → Opened bs bs′ s dim k lo rows (rows + 2)
-      unfolding Opened SplitAt
+      pub node-split : (a : Average) → D ≡ At a → (bs′ : List ℕ) → SplitAt bs bs′ s k lo rows (a .dim) (a .value) → RootSplit bs bs′ s dim k lo rows (rows + 2)
+      unfolding RootSplit SplitAt
       node-split a e bs′ S st t w =
           let l = is-leaf st t w in
           let es = l .es in
           let y : tryFrom (keyIn (words bs) s) (markIn (words bs) s) (dims s) (dims s) dim es ≡ some (cut (keyIn (words bs) s) (markIn (words bs) s) (a .dim) (a .value) es) = rw (entries-are st t l) at (chosen a e .is) in
           let o : splitRoot (split st) dim t ≡ branch (a .dim) (markIn (words bs) s (a .dim) (a .value) (keep (onSide (keyIn (words bs) s) (a .dim) (a .value) false) es)) (leaf (keep (onSide (keyIn (words bs) s) (a .dim) (a .value) true) es)) (leaf (keep (onSide (keyIn (words bs) s) (a .dim) (a .value) false) es)) =
           ap (splitRoot (split st) dim) (l .is)
-          ∙ opened-stays st dim es true (some (cut (keyIn (words bs) s) (markIn (words bs) s) (a .dim) (a .value) es)) (lt-ltb 64 (length es) (omega (arith, l .count))) (split-is st (words bs) s k lo rows dim es (l .held) ∙ y)
+          ∙ splitRoot-stays st dim es true (some (cut (keyIn (words bs) s) (markIn (words bs) s) (a .dim) (a .value) es)) (lt-ltb 64 (length es) (omega (arith, l .count))) (split-is st (words bs) s k lo rows dim es (l .has) ∙ y)
           ∙ leaf-some es (cut (keyIn (words bs) s) (markIn (words bs) s) (a .dim) (a .value) es) ∙ cut-is (a .dim) (a .value) es in
-          as-more st t (a .dim) _ _ _ bs′ (rows + 2) (omega arith) o (turned (l .is) (S st es (l .held)))
+          as-more st t (a .dim) _ _ _ bs′ (rows + 2) (omega arith) o (turned (l .is) (S st es (l .has)))
         where
           turned : {t u v : Tree} → t ≡ u → Became st bs bs′ s k lo rows (rows + 2) u v → Became st bs bs′ s k lo rows (rows + 2) t v
           turned e b = rw e b

@@ -25,7 +25,7 @@ use Rattle.index_image.specs.declared.Shape.{Shape}
 use Rattle.index_image.proofs.Trees.{nodes-branch, nodes-leaf}
 use Rattle.index_image.proofs.Keys.{tree-words-ext}
 use Rattle.index_image.proofs.Once.{get-in}
-use Rattle.kd_split.specs.Held.{Holds, Stands, Held, Became}
+use Rattle.kd_split.specs.HasTree.{Holds, Stands, HasTree, Became}
 use Rattle.kd_split.specs.Split.{onSide, leafWords}
 use Rattle.kd_split.proofs.Standing.{Based, based, part-same, part-kept, node-add, node-next, node-le, Row, row-of, row-same, row-inside, length-row, leaf-row, uncut, ordered-small}
 use Rattle.kd_split.proofs.Becoming.{paste-rest}
@@ -110,7 +110,7 @@ module _ (pw : ℕ → ℕ → ℕ) (d x : ℕ) (es : List ℕ) where
   unfolding onSide
   sides-same n = keep-same (onSide pw d x true) n es ∙ sym (occurs-append n (keep (onSide pw d x true) es) (keep (onSide pw d x false) es))
 
-module _ (st : State) (s : Shape) (bs : List ℕ) (k lo rows c d x key : ℕ) (es : List ℕ) (h : Held st (words bs) s k lo rows (leaf es)) (ec : c ≡ length es) (many : 64 < c) (pw₀ : ℕ → ℕ → ℕ) where
+module _ (st : State) (s : Shape) (bs : List ℕ) (k lo rows c d x key : ℕ) (es : List ℕ) (h : HasTree st (words bs) s k lo rows (leaf es)) (ec : c ≡ length es) (many : 64 < c) (pw₀ : ℕ → ℕ → ℕ) where
   abbrev A : ℕ
   A = at.nodeAt s k
 

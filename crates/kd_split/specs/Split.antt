@@ -22,13 +22,13 @@ use Rattle.index_theory.specs.Searches.{split}
 use Rattle.kd_split.specs.declared.Average.{Average}
 use Rattle.kd_split.specs.declared.Dimension.{Dimension}
 use Rattle.kd_split.specs.declared.Dimension.the-variants.{At, Flat}
-use Rattle.kd_split.specs.Held.{Held, Became}
+use Rattle.kd_split.specs.HasTree.{HasTree, Became}
 
 -- some tree of some state stands there
 pub record Standing (bs : List ℕ) (s : Shape) (k lo rows : ℕ) : Type 0 where
   pub state : State
   pub tree : Tree
-  pub held : Held state (words bs) s k lo rows tree
+  pub has : HasTree state (words bs) s k lo rows tree
 
 -- ---- over the words alone: the c entries from place lo of the permutation on, and their keys
 -- the number of entry e in dimension d, by the index kind: dimension 0 of a ratio index is the label of the ratio
@@ -82,7 +82,7 @@ leafWords W s lo c = nodeWords (s .variables) (mapMaxima W s) (power W s) 0 0 0 
 pub record Splittable (bs : List ℕ) (s : Shape) (k lo rows c d : ℕ) : Type 0 where
   pub state : State
   pub es : List ℕ
-  pub held : Held state (words bs) s k lo rows (leaf es)
+  pub has : HasTree state (words bs) s k lo rows (leaf es)
   pub count : c ≡ length es
   pub many : 64 < c
   pub dim : d < dims s
@@ -90,7 +90,7 @@ pub record Splittable (bs : List ℕ) (s : Shape) (k lo rows c d : ℕ) : Type 0
 -- it is split in dimension d at x
 unfoldable pub SplitAt : (bs bs′ : List ℕ) (s : Shape) (k lo rows d x : ℕ) → Type 0
 SplitAt bs bs′ s k lo rows d x =
-    (st : State) (es : List ℕ) → Held st (words bs) s k lo rows (leaf es)
+    (st : State) (es : List ℕ) → HasTree st (words bs) s k lo rows (leaf es)
     → Became st bs bs′ s k lo rows (rows + 2) (leaf es)
     (branch d (markIn (words bs) s d x (keep (onSide (keyIn (words bs) s) d x false) es)) (leaf (keep (onSide (keyIn (words bs) s) d x true) es)) (leaf (keep (onSide (keyIn (words bs) s) d x false) es)))
 
@@ -98,20 +98,20 @@ SplitAt bs bs′ s k lo rows d x =
 pub record Stays (st : State) (bs bs′ : List ℕ) (dim : ℕ) (t : Tree) : Type 0 where
   pub es : List ℕ
   pub is : t ≡ leaf es
-  pub opened-is : splitRoot (split st) dim t ≡ leaf es
+  pub splitRoot-is : splitRoot (split st) dim t ≡ leaf es
   pub bytes : bs′ ≡ bs
 
-pub record Opens (st : State) (bs bs′ : List ℕ) (s : Shape) (dim k lo rows : ℕ) (t : Tree) (n : ℕ) : Type 0 where
+pub record RootBranch (st : State) (bs bs′ : List ℕ) (s : Shape) (dim k lo rows : ℕ) (t : Tree) (n : ℕ) : Type 0 where
   pub d : ℕ
   pub key : ℕ
   pub less : Tree
   pub other : Tree
-  pub opened-is : splitRoot (split st) dim t ≡ branch d key less other
+  pub splitRoot-is : splitRoot (split st) dim t ≡ branch d key less other
   pub became : Became st bs bs′ s k lo rows n t (branch d key less other)
 
-unfoldable pub OpenedAs : (st : State) (bs bs′ : List ℕ) (s : Shape) (dim k lo rows : ℕ) (t : Tree) → ℕ → Type 0
-OpenedAs st bs bs′ s dim k lo rows t zero = Stays st bs bs′ dim t
-OpenedAs st bs bs′ s dim k lo rows t (suc n) = Opens st bs bs′ s dim k lo rows t (suc n)
+unfoldable pub RootSplitAs : (st : State) (bs bs′ : List ℕ) (s : Shape) (dim k lo rows : ℕ) (t : Tree) → ℕ → Type 0
+RootSplitAs st bs bs′ s dim k lo rows t zero = Stays st bs bs′ dim t
+RootSplitAs st bs bs′ s dim k lo rows t (suc n) = RootBranch st bs bs′ s dim k lo rows t (suc n)
 
-unfoldable pub Opened : (bs bs′ : List ℕ) (s : Shape) (dim k lo rows n : ℕ) → Type 0
-Opened bs bs′ s dim k lo rows n = (st : State) (t : Tree) → Held st (words bs) s k lo rows t → OpenedAs st bs bs′ s dim k lo rows t n
+unfoldable pub RootSplit : (bs bs′ : List ℕ) (s : Shape) (dim k lo rows n : ℕ) → Type 0
+RootSplit bs bs′ s dim k lo rows n = (st : State) (t : Tree) → HasTree st (words bs) s k lo rows t → RootSplitAs st bs bs′ s dim k lo rows t n

@@ -13,7 +13,7 @@ ghost use Rattle.index_image.specs.Walk as walk;
 ghost use Rattle.index_image.specs.Rows.{entriesFrom};
 ghost use Rattle.kd_theory.specs.Bag.{keep};
 ghost use Rattle.kd_theory.specs.Bifurcate as bif;
-ghost use Rattle.kd_split.specs.Split.{keyIn, markIn, leastPlace, lowerOf, Chose, onSide, lesses, others, leafWords, Standing, Splittable, SplitAt, Opened};
+ghost use Rattle.kd_split.specs.Split.{keyIn, markIn, leastPlace, lowerOf, Chose, onSide, lesses, others, leafWords, Standing, Splittable, SplitAt, RootSplit};
 
 pub struct Spread {
     pub least: u64,
@@ -300,7 +300,7 @@ pub fn split_leaf(
 pub fn split_node(image: &mut [u8], s: Shape, dim: usize, k: usize, lo: usize, rows: usize) -> usize
     requires { ⌜ Standing (now image) s k lo rows ⌝ }
     requires { ⌜ dim ≤ 65 ⌝ }
-    ensures { λ r. ⌜ Opened (now (image .entry)) (now (image .exit)) s dim k lo rows r ⌝ }
+    ensures { λ r. ⌜ RootSplit (now (image .entry)) (now (image .exit)) s dim k lo rows r ⌝ }
 {
     let at = s.node_at(k);
     if words::get(image, at) != 0 {

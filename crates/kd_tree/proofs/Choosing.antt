@@ -29,7 +29,7 @@ use Rattle.index_image.specs.Walk.{label, dims}
 use Rattle.index_image.specs.declared.Shape.{Shape}
 use Rattle.index_image.proofs.Shapes.{code-ratio}
 use Rattle.index_image.proofs.Trees.{some-node, nodes-branch}
-use Rattle.kd_split.specs.Held.{Held}
+use Rattle.kd_split.specs.HasTree.{HasTree}
 use Rattle.kd_split.proofs.Standing.{based, node-next, row-inside}
 use Rattle.kd_split.proofs.Becoming.{parts}
 use Rattle.kd_split.proofs.Reading.{kind-one, label-of-entry, holds-ready}
@@ -47,8 +47,8 @@ dim-is monomials m es l s d key ek em ee v = record { small = omega (arith, v); 
 dim-is ratioed m es l s zero key ek em ee v = record { small = omega arith; entry = λ z. omega (arith, v); variable = λ z. absurd (z (sym ek)) }
 dim-is ratioed m es l s (suc d) key ek em ee v = record { small = omega (arith, v); entry = λ z. absurd (omega arith); variable = λ z. omega arith }
 
-held-dim : (st : State) (W : List ℕ) (s : Shape) (k lo rows d key : ℕ) (a b : Tree) → Held st W s k lo rows (branch d key a b) → DimIs s d key
-held-dim st W s k lo rows d key a b h = dim-is (st .kind) (st .variables) (st .entries) (st .labels) s d key (h .holds .kind) (h .holds .vars) (h .holds .size) (h .ordered .0 .key)
+tree-dim : (st : State) (W : List ℕ) (s : Shape) (k lo rows d key : ℕ) (a b : Tree) → HasTree st W s k lo rows (branch d key a b) → DimIs s d key
+tree-dim st W s k lo rows d key a b h = dim-is (st .kind) (st .variables) (st .entries) (st .labels) s d key (h .holds .kind) (h .holds .vars) (h .holds .size) (h .ordered .0 .key)
 
 pub record BranchNumbers (bs : List ℕ) (s : Shape) (k : ℕ) : Type 0 where
   pub ready : walk.Ready (words bs) s
@@ -60,12 +60,12 @@ pub record BranchNumbers (bs : List ℕ) (s : Shape) (k : ℕ) : Type 0 where
 
 pub branch-numbers : (bs ms : List ℕ) (s : Shape) (Q : List ℕ) (k lo rows best : ℕ) → ReadyBranch bs ms s Q k lo rows best → BranchNumbers bs s k
 branch-numbers bs ms s Q k lo rows best w =
-    let h = w .held in
+    let h = w .has in
     let st = w .state in
     let W = words bs in
     let n = nodes-branch (w .dim) (w .key) (w .less) (w .other) in
     let p = parts st s W k lo rows (w .dim) (w .key) (w .less) (w .other) h .here in
-    let d = held-dim st W s k lo rows (w .dim) (w .key) (w .less) (w .other) h in
+    let d = tree-dim st W s k lo rows (w .dim) (w .key) (w .less) (w .other) h in
     record {
       ready = holds-ready st W s (h .holds);
       row = omega (arith, h .fits, h .rows-to, h .holds .range .cap-to);
@@ -112,11 +112,11 @@ module _ (bs ms : List ℕ) (s : Shape) (Q : List ℕ) (k lo rows tag : ℕ) (et
     dim : DimIs s d key
     small : suc d ≤ 65
 
-  seen : (st : State) (r : Query) (d key : ℕ) (a b : Tree) → Asks st r ms s Q → Held st (words bs) s k lo rows (branch d key a b) → Seen st r d key a b
+  seen : (st : State) (r : Query) (d key : ℕ) (a b : Tree) → Asks st r ms s Q → HasTree st (words bs) s k lo rows (branch d key a b) → Seen st r d key a b
   unfolding mayGo
   seen st r d key a b q h =
       let p = parts st s (words bs) k lo rows d key a b h .here in
-      let dd = held-dim st (words bs) s k lo rows d key a b h in
+      let dd = tree-dim st (words bs) s k lo rows d key a b h in
       record {
         may-now = go (byLm r) (q .node-masked) (may-is st (dividend r) (inorder a ++ inorder b) m (maskIn Q) (p .mask-is ∙ rw (h .holds .vars) refl) (q .masked));
         tag-is = et ∙ p .tag-is;
@@ -133,7 +133,7 @@ module _ (bs ms : List ℕ) (s : Shape) (Q : List ℕ) (k lo rows tag : ℕ) (et
   goes st r d key a b u v u′ v′ z e f g = record { less-is = sym (g .less-is ∙ e); other-is = sym (g .other-is ∙ f); next-is = z .tag-is; next-to = omega (arith, z .tag-is, z .small) }
 
   -- a ratio's branch has dimension 0
-  module _ (st : State) (r : Query) (d key : ℕ) (a b : Tree) (q : Asks st r ms s Q) (h : Held st (words bs) s k lo rows (branch d key a b)) where
+  module _ (st : State) (r : Query) (d key : ℕ) (a b : Tree) (q : Asks st r ms s Q) (h : HasTree st (words bs) s k lo rows (branch d key a b)) where
     z : Seen st r d key a b
     z = seen st r d key a b q h
 

@@ -26,9 +26,9 @@ use Rattle.index_image.proofs.Encoding.{Pieces, Fits, entry-length, of-pieces, 
 use Rattle.index_image.proofs.Heads.{words-of-head}
 use Rattle.index_image.proofs.Images as image
 use Rattle.index_image.proofs.Lengths.{valid-fits}
-use Rattle.kd_split.specs.Held.{Held, Became}
+use Rattle.kd_split.specs.HasTree.{HasTree, Became}
 use Rattle.kd_split.proofs.Standing.{part-same, part-kept}
-use Rattle.kd_split.proofs.Becoming.{put-rest, held-became}
+use Rattle.kd_split.proofs.Becoming.{put-rest, tree-became}
 use Rattle.kd_tree.specs.Asked.{shapeIn, optionOf, Asks}
 use Rattle.kd_tree.specs.Searched.{searchFrom, Ready, Found, Searched}
 use Rattle.kd_tree.specs.Rooted.{Rooted, RootReady, Answer, Answered}
@@ -68,8 +68,8 @@ module _ (bs : List ℕ) (st : State) (I : Is st bs) where
       let inside : at.entriesAt m + n * ew ≤ length W = omega (arith, image.long bs st I, split-rows n c ew (I .valid .few)) in
       table-iff W (at.entriesAt m) n ew (λ i. entryWords (st .kind) m (st .mapMaxima) (st .labels) (entryAt (st .entries) i)) inside (λ i h. entry-length (st .kind) m (st .mapMaxima) (st .labels) (entryAt (st .entries) i) (I .valid .map-good .few) (I .valid .canonical i h)) .0 (P .entries) i h
 
-  pub root-held : Held st (words bs) (shapeOf st) 0 0 (nodes (st .tree)) (st .tree)
-  root-held = record {
+  pub root-tree : HasTree st (words bs) (shapeOf st) 0 0 (nodes (st .tree)) (st .tree)
+  root-tree = record {
     holds = record {
       valid = I .valid;
       kind = refl;
@@ -212,11 +212,11 @@ root-ready bs ms Q w = record {
   request = w .request;
   tree = w .state .tree;
   asks = w .root .asks;
-  held = turned (w .root .shape) (root-held bs (w .state) (w .root .is));
+  has = turned (w .root .shape) (root-tree bs (w .state) (w .root .is));
   small = omega arith;
 }
   where
-    turned : {s : Shape} → s ≡ shapeOf (w .state) → Held (w .state) (words bs) (shapeOf (w .state)) 0 0 (nodes (w .state .tree)) (w .state .tree) → Held (w .state) (words bs) s 0 0 (s .nodes) (w .state .tree)
+    turned : {s : Shape} → s ≡ shapeOf (w .state) → HasTree (w .state) (words bs) (shapeOf (w .state)) 0 0 (nodes (w .state .tree)) (w .state .tree) → HasTree (w .state) (words bs) s 0 0 (s .nodes) (w .state .tree)
     turned e h = rw e h
 
 pub root-rows : (bs ms Q : List ℕ) → RootReady bs ms Q → shapeIn Q .nodes ≤ 8191
@@ -232,7 +232,7 @@ module _ (bs bs₁ ms Q : List ℕ) (best : ℕ) (on : Bool) (rows : ℕ) (S : S
   found-root st r R = rw (first-search st r) (turned (R .shape) (R .asks) S)
     where
       turned : {s : Shape} → s ≡ shapeOf st → Asks st r ms s Q → Searched bs bs₁ ms s Q 0 0 0 (s .nodes) 0 best on rows → Found st bs bs₁ (shapeOf st) 0 0 (nodes (st .tree)) (st .tree) (searchFrom st r 0 (st .tree) (optionOf 0)) best on rows
-      turned e a S = (rw e at S) st r (st .tree) (rw e at a) (root-held bs st (R .is))
+      turned e a S = (rw e at S) st r (st .tree) (rw e at a) (root-tree bs st (R .is))
 
   pub record RootNumbers : Type 0 where
     pub rows-to : rows ≤ 8191
@@ -244,7 +244,7 @@ module _ (bs bs₁ ms Q : List ℕ) (best : ℕ) (on : Bool) (rows : ℕ) (S : S
       let R = w .root in
       let f = found-root st (w .request) R in
       let k = rw (← first-search st (w .request)) at (search-kept st (R .is .valid) (w .request) 0 (st .tree) (optionOf 0) (R .is .valid .ordered)) in
-      let h = held-became st (shapeOf st) bs bs₁ 0 0 (nodes (st .tree)) rows (st .tree) (find st (w .request) .tree) (root-held bs st (R .is)) (f .became) k in
+      let h = tree-became st (shapeOf st) bs bs₁ 0 0 (nodes (st .tree)) rows (st .tree) (find st (w .request) .tree) (root-tree bs st (R .is)) (f .became) k in
       record {
         rows-to = omega (arith, h .rows-to, h .holds .range .cap-to);
         room = omega (arith, h .holds .room, length-words bs₁);

@@ -24,7 +24,7 @@ use Rattle.index_image.specs.Walk as walk
 use Rattle.index_image.specs.Walk.{label}
 use Rattle.index_image.specs.declared.Shape.{Shape}
 use Rattle.index_image.proofs.Places.{place-fits}
-use Rattle.kd_split.specs.Held.{Holds, Held}
+use Rattle.kd_split.specs.HasTree.{Holds, HasTree}
 use Rattle.kd_split.proofs.Standing.{based, node-next, row-inside, leaf-row}
 use Rattle.index_image.proofs.Trees.{nodes-leaf}
 use Rattle.kd_split.proofs.Reading.{holds-ready, kind-one}
@@ -182,7 +182,7 @@ module _ (lb : ℕ → ℕ) (from best : ℕ) where
       go (suc b) n = let a : suc b - 1 ≡ b = omega arith in rw a refl
 
 -- ---- the entries of a leaf
-leaf-count : (st : State) (W : List ℕ) (s : Shape) (k lo rows : ℕ) (es : List ℕ) → Held st W s k lo rows (leaf es) → getD W (at.nodeAt s k + 2) 0 ≡ length es
+leaf-count : (st : State) (W : List ℕ) (s : Shape) (k lo rows : ℕ) (es : List ℕ) → HasTree st W s k lo rows (leaf es) → getD W (at.nodeAt s k + 2) 0 ≡ length es
 leaf-count st W s k lo rows es h = leaf-row st W s (based (h .holds)) k lo rows es (omega (arith, h .fits, nodes-leaf es)) (h .rows-to) (h .stands) .count-is
 
 pub record LeafNumbers (bs : List ℕ) (s : Shape) (k : ℕ) : Type 0 where
@@ -191,7 +191,7 @@ pub record LeafNumbers (bs : List ℕ) (s : Shape) (k : ℕ) : Type 0 where
 
 pub leaf-numbers : (bs ms : List ℕ) (s : Shape) (Q : List ℕ) (k lo rows best : ℕ) → ReadyLeaf bs ms s Q k lo rows best → LeafNumbers bs s k
 leaf-numbers bs ms s Q k lo rows best w =
-    let h = w .held in
+    let h = w .has in
     let n = nodes-leaf (w .es) in
     record {
       row = omega (arith, h .fits, h .rows-to, h .holds .range .cap-to);
@@ -203,8 +203,8 @@ leaf-ready bs ms s Q k lo rows best c e w = record {
   state = w .state;
   request = w .request;
   asks = w .asks;
-  holds = w .held .holds;
-  inside = omega (arith, leaf-count (w .state) (words bs) s k lo rows (w .es) (w .held), w .held .inside);
+  holds = w .has .holds;
+  inside = omega (arith, leaf-count (w .state) (words bs) s k lo rows (w .es) (w .has), w .has .inside);
   small = w .small;
 }
 

@@ -18,12 +18,12 @@ use Rattle.index_theory.proofs.Prunes.{splits-kind}
 use Rattle.index_image.specs.Shape as at
 use Rattle.index_image.specs.declared.Shape.{Shape}
 use Rattle.index_image.proofs.Trees.{some-node, nodes-branch, nodes-leaf}
-use Rattle.kd_split.specs.Held.{Held, Became}
+use Rattle.kd_split.specs.HasTree.{HasTree, Became}
 use Rattle.kd_tree.specs.Asked.{optionOf, Asks}
 use Rattle.kd_tree.specs.Searched.{searchFrom, visitOf, Ready, ReadyLeaf, ReadyBranch, Found, Searched, Branched, Scanned, SidesAre, Chosen, Grew}
-use Rattle.kd_split.specs.Split.{Standing, Stays, Opens, OpenedAs, Opened}
+use Rattle.kd_split.specs.Split.{Standing, Stays, RootBranch, RootSplitAs, RootSplit}
 use Rattle.kd_split.proofs.Standing.{based, node-add, node-next, node-le, row-inside, Cut, count-at}
-use Rattle.kd_split.proofs.Becoming.{became-refl, became-trans, held-became, parts, some-one, some-two, held-less, held-other, other-became, less-became}
+use Rattle.kd_split.proofs.Becoming.{became-refl, became-trans, tree-became, parts, some-one, some-two, tree-less, tree-other, other-became, less-became}
 
 -- what a test `!b` decides
 pub taken : (b : Bool) → not b ≡ true → b ≡ false
@@ -43,8 +43,8 @@ module _ (st : State) (val : Valid st) (r : Query) where
   unfolding searchAt
   search-kept n t a o = kept-search (keys st) (split st) splits (path st r) (process (st .entries) r) (suc (count t)) n t a o
 
-  opened-kept : (n : ℕ) (t : Tree) → Ordered (keys st) t → Kept (keys st) t (splitRoot (split st) n t)
-  opened-kept n t o = kept-split (keys st) (split st) splits n t o
+  splitRoot-kept : (n : ℕ) (t : Tree) → Ordered (keys st) t → Kept (keys st) t (splitRoot (split st) n t)
+  splitRoot-kept n t o = kept-split (keys st) (split st) splits n t o
 
   step : (n : ℕ) (t : Tree) (a : Option ℕ) → Ordered (keys st) t → searchFrom st r n t a ≡ visitOf st r (splitRoot (split st) n t) a
   step n t a o = search-step (keys st) (split st) splits (path st r) (process (st .entries) r) n t a o
@@ -56,44 +56,44 @@ visit-leaf : (st : State) (r : Query) (es : List ℕ) (a : Option ℕ) (s : Step
 unfolding visit
 visit-leaf st r es a s e = rw e
 
-stays : (st : State) (bs bs′ : List ℕ) (s : Shape) (dim k lo rows : ℕ) (t : Tree) (n : ℕ) → n ≡ 0 → OpenedAs st bs bs′ s dim k lo rows t n → Stays st bs bs′ dim t
-unfolding OpenedAs
+stays : (st : State) (bs bs′ : List ℕ) (s : Shape) (dim k lo rows : ℕ) (t : Tree) (n : ℕ) → n ≡ 0 → RootSplitAs st bs bs′ s dim k lo rows t n → Stays st bs bs′ dim t
+unfolding RootSplitAs
 stays st bs bs′ s dim k lo rows t zero e o = o
 stays st bs bs′ s dim k lo rows t (suc n) e o = absurd (omega arith)
 
-opens : (st : State) (bs bs′ : List ℕ) (s : Shape) (dim k lo rows : ℕ) (t : Tree) (n : ℕ) → (n ≡ 0 → ⊥) → OpenedAs st bs bs′ s dim k lo rows t n → Opens st bs bs′ s dim k lo rows t n
-unfolding OpenedAs
+opens : (st : State) (bs bs′ : List ℕ) (s : Shape) (dim k lo rows : ℕ) (t : Tree) (n : ℕ) → (n ≡ 0 → ⊥) → RootSplitAs st bs bs′ s dim k lo rows t n → RootBranch st bs bs′ s dim k lo rows t n
+unfolding RootSplitAs
 opens st bs bs′ s dim k lo rows t zero e o = absurd (e refl)
 opens st bs bs′ s dim k lo rows t (suc n) e o = o
 
-as-leaf : (st : State) (bs bs₁ : List ℕ) (s : Shape) (k lo rows : ℕ) (t : Tree) (es : List ℕ) → bs₁ ≡ bs → t ≡ leaf es → Held st (words bs) s k lo rows t → Held st (words bs₁) s k lo rows (leaf es)
+as-leaf : (st : State) (bs bs₁ : List ℕ) (s : Shape) (k lo rows : ℕ) (t : Tree) (es : List ℕ) → bs₁ ≡ bs → t ≡ leaf es → HasTree st (words bs) s k lo rows t → HasTree st (words bs₁) s k lo rows (leaf es)
 as-leaf st bs bs₁ s k lo rows t es e i h = rw (e, ← i) h
 
 same-leaf : (st : State) (bs bs₁ : List ℕ) (s : Shape) (k lo rows : ℕ) (t : Tree) (es : List ℕ) → bs₁ ≡ bs → t ≡ leaf es → Became st bs bs s k lo rows rows t t → Became st bs bs₁ s k lo rows rows t (leaf es)
 same-leaf st bs bs₁ s k lo rows t es e i h = rw (e, ← i) h
 
-module _ (bs bs₁ ms : List ℕ) (s : Shape) (Q : List ℕ) (dim k lo rows best n : ℕ) (o : Opened bs bs₁ s dim k lo rows n) where
+module _ (bs bs₁ ms : List ℕ) (s : Shape) (Q : List ℕ) (dim k lo rows best n : ℕ) (o : RootSplit bs bs₁ s dim k lo rows n) where
   pub scan-ready : n ≡ 0 → Ready bs ms s Q k lo rows best → ReadyLeaf bs₁ ms s Q k lo rows best
-  unfolding Opened
+  unfolding RootSplit
   scan-ready e w =
-      let z = stays (w .state) bs bs₁ s dim k lo rows (w .tree) n e (o (w .state) (w .tree) (w .held)) in
-      record { state = w .state; request = w .request; es = z .es; asks = w .asks; held = as-leaf (w .state) bs bs₁ s k lo rows (w .tree) (z .es) (z .bytes) (z .is) (w .held); small = w .small }
+      let z = stays (w .state) bs bs₁ s dim k lo rows (w .tree) n e (o (w .state) (w .tree) (w .has)) in
+      record { state = w .state; request = w .request; es = z .es; asks = w .asks; has = as-leaf (w .state) bs bs₁ s k lo rows (w .tree) (z .es) (z .bytes) (z .is) (w .has); small = w .small }
 
   pub scan-done : n ≡ 0 → (best′ : ℕ) (on : Bool) → Scanned bs₁ ms s Q k lo rows best best′ on → Searched bs bs₁ ms s Q dim k lo rows best best′ on rows
-  unfolding Opened Scanned Searched
+  unfolding RootSplit Scanned Searched
   scan-done e best′ on c st r t a h =
       let z = stays st bs bs₁ s dim k lo rows t n e (o st t h) in
-      let here : Held st (words bs₁) s k lo rows (leaf (z .es)) = as-leaf st bs bs₁ s k lo rows t (z .es) (z .bytes) (z .is) h in
+      let here : HasTree st (words bs₁) s k lo rows (leaf (z .es)) = as-leaf st bs bs₁ s k lo rows t (z .es) (z .bytes) (z .is) h in
       let d = c st r (z .es) a here in
       let v : searchFrom st r dim t (optionOf best) ≡ record { tree = leaf (z .es); acc = optionOf best′; on = on } =
-      step st (h .holds .valid) r dim t (optionOf best) (h .ordered) ∙ rw (z .opened-is) (visit-leaf st r (z .es) (optionOf best) (record { acc = optionOf best′; on = on }) (d .is)) in
+      step st (h .holds .valid) r dim t (optionOf best) (h .ordered) ∙ rw (z .splitRoot-is) (visit-leaf st r (z .es) (optionOf best) (record { acc = optionOf best′; on = on }) (d .is)) in
       rw v (record { became = same-leaf st bs bs₁ s k lo rows t (z .es) (z .bytes) (z .is) (became-refl st s bs k lo rows t h); best-is = refl; on-is = refl; small = d .small })
 
   pub branch-ready : (n ≡ 0 → ⊥) → Ready bs ms s Q k lo rows best → ReadyBranch bs₁ ms s Q k lo n best
-  unfolding Opened
+  unfolding RootSplit
   branch-ready e w =
-      let z = opens (w .state) bs bs₁ s dim k lo rows (w .tree) n e (o (w .state) (w .tree) (w .held)) in
-      let q = rw (z .opened-is) at (opened-kept (w .state) (w .held .holds .valid) (w .request) dim (w .tree) (w .held .ordered)) in
+      let z = opens (w .state) bs bs₁ s dim k lo rows (w .tree) n e (o (w .state) (w .tree) (w .has)) in
+      let q = rw (z .splitRoot-is) at (splitRoot-kept (w .state) (w .has .holds .valid) (w .request) dim (w .tree) (w .has .ordered)) in
       record {
         state = w .state;
         request = w .request;
@@ -102,18 +102,18 @@ module _ (bs bs₁ ms : List ℕ) (s : Shape) (Q : List ℕ) (dim k lo rows best
         less = z .less;
         other = z .other;
         asks = w .asks;
-        held = held-became (w .state) s bs bs₁ k lo rows n (w .tree) (branch (z .d) (z .key) (z .less) (z .other)) (w .held) (z .became) q;
+        has = tree-became (w .state) s bs bs₁ k lo rows n (w .tree) (branch (z .d) (z .key) (z .less) (z .other)) (w .has) (z .became) q;
         small = w .small;
       }
 
   pub branch-done : (n ≡ 0 → ⊥) → (bs₂ : List ℕ) (best′ : ℕ) (on : Bool) (rows′ : ℕ) → Branched bs₁ bs₂ ms s Q k lo n best best′ on rows′ → Searched bs bs₂ ms s Q dim k lo rows best best′ on rows′
-  unfolding Opened Branched Searched
+  unfolding RootSplit Branched Searched
   branch-done e bs₂ best′ on rows′ c st r t a h =
       let z = opens st bs bs₁ s dim k lo rows t n e (o st t h) in
       let u = branch (z .d) (z .key) (z .less) (z .other) in
-      let q = rw (z .opened-is) at (opened-kept st (h .holds .valid) r dim t (h .ordered)) in
-      let f = c st r (z .d) (z .key) (z .less) (z .other) a (held-became st s bs bs₁ k lo rows n t u h (z .became) q) in
-      let v : searchFrom st r dim t (optionOf best) ≡ visitOf st r u (optionOf best) = step st (h .holds .valid) r dim t (optionOf best) (h .ordered) ∙ rw (z .opened-is) in
+      let q = rw (z .splitRoot-is) at (splitRoot-kept st (h .holds .valid) r dim t (h .ordered)) in
+      let f = c st r (z .d) (z .key) (z .less) (z .other) a (tree-became st s bs bs₁ k lo rows n t u h (z .became) q) in
+      let v : searchFrom st r dim t (optionOf best) ≡ visitOf st r u (optionOf best) = step st (h .holds .valid) r dim t (optionOf best) (h .ordered) ∙ rw (z .splitRoot-is) in
       rw v (record {
         became = became-trans st s bs bs₁ bs₂ k lo rows n rows′ t u (visitOf st r u (optionOf best) .tree) (z .became) (f .became);
         best-is = f .best-is;
@@ -122,20 +122,20 @@ module _ (bs bs₁ ms : List ℕ) (s : Shape) (Q : List ℕ) (dim k lo rows best
       })
 
 -- the measures: entries below the node, read from its row
-pub count-read : (st : State) (W : List ℕ) (s : Shape) (k lo rows : ℕ) (t : Tree) → Held st W s k lo rows t → getD W (at.nodeAt s k + 2) 0 ≡ count t
+pub count-read : (st : State) (W : List ℕ) (s : Shape) (k lo rows : ℕ) (t : Tree) → HasTree st W s k lo rows t → getD W (at.nodeAt s k + 2) 0 ≡ count t
 count-read st W s k lo rows t h = count-at st W s (based (h .holds)) k lo rows t (h .fits) (h .rows-to) (h .inside) (h .stands)
 
 pub standing : (bs ms : List ℕ) (s : Shape) (Q : List ℕ) (k lo rows best : ℕ) → Ready bs ms s Q k lo rows best → Standing bs s k lo rows
-standing bs ms s Q k lo rows best w = record { state = w .state; tree = w .tree; held = w .held }
+standing bs ms s Q k lo rows best w = record { state = w .state; tree = w .tree; has = w .has }
 
-pub branch-falls : (bs bs₁ ms : List ℕ) (s : Shape) (Q : List ℕ) (dim k lo rows best n : ℕ) (o : Opened bs bs₁ s dim k lo rows n) → (n ≡ 0 → ⊥) → Ready bs ms s Q k lo rows best
+pub branch-falls : (bs bs₁ ms : List ℕ) (s : Shape) (Q : List ℕ) (dim k lo rows best n : ℕ) (o : RootSplit bs bs₁ s dim k lo rows n) → (n ≡ 0 → ⊥) → Ready bs ms s Q k lo rows best
     → getD (words bs₁) (at.nodeAt s k + 2) 0 ≡ getD (words bs) (at.nodeAt s k + 2) 0
-unfolding Opened
+unfolding RootSplit
 branch-falls bs bs₁ ms s Q dim k lo rows best n o e w =
-    let z = opens (w .state) bs bs₁ s dim k lo rows (w .tree) n e (o (w .state) (w .tree) (w .held)) in
-    let q = rw (z .opened-is) at (opened-kept (w .state) (w .held .holds .valid) (w .request) dim (w .tree) (w .held .ordered)) in
+    let z = opens (w .state) bs bs₁ s dim k lo rows (w .tree) n e (o (w .state) (w .tree) (w .has)) in
+    let q = rw (z .splitRoot-is) at (splitRoot-kept (w .state) (w .has .holds .valid) (w .request) dim (w .tree) (w .has .ordered)) in
     let u = branch (z .d) (z .key) (z .less) (z .other) in
-    count-read (w .state) (words bs₁) s k lo n u (held-became (w .state) s bs bs₁ k lo rows n (w .tree) u (w .held) (z .became) q) ∙ z .became .same ∙ sym (count-read (w .state) (words bs) s k lo rows (w .tree) (w .held))
+    count-read (w .state) (words bs₁) s k lo n u (tree-became (w .state) s bs bs₁ k lo rows n (w .tree) u (w .has) (z .became) q) ∙ z .became .same ∙ sym (count-read (w .state) (words bs) s k lo rows (w .tree) (w .has))
 
 -- ---- the search of a branch
 -- the less side is done, visited or not
@@ -146,7 +146,7 @@ pub record Half (st : State) (r : Query) (bs bs₁ : List ℕ) (s : Shape) (k lo
   pub small : best₁ ≤ s .entries
 
 module _ (st : State) (r : Query) (bs bs₁ : List ℕ) (s : Shape) (k lo rows rows₁ d key : ℕ) (a b a₁ : Tree) (best best₁ : ℕ) (on : Bool)
-    (h : Held st (words bs) s k lo rows (branch d key a b)) (f : Half st r bs bs₁ s k lo rows rows₁ d key a b a₁ best best₁ on) where
+    (h : HasTree st (words bs) s k lo rows (branch d key a b)) (f : Half st r bs bs₁ s k lo rows rows₁ d key a b a₁ best best₁ on) where
   abbrev p : Path
   p = path st r d key (inorder a ++ inorder b)
 
@@ -157,8 +157,8 @@ module _ (st : State) (r : Query) (bs bs₁ : List ℕ) (s : Shape) (k lo rows r
   kept-half : Kept (keys st) (branch d key a b) (branch d key a₁ b)
   kept-half = kept-branch (keys st) d key a b a₁ b (h .ordered) (f .kept) (kept-refl (keys st) b (h .ordered .2))
 
-  pub held-half : Held st (words bs₁) s k lo rows₁ (branch d key a₁ b)
-  held-half = held-became st s bs bs₁ k lo rows rows₁ (branch d key a b) (branch d key a₁ b) h (f .became) kept-half
+  pub tree-half : HasTree st (words bs₁) s k lo rows₁ (branch d key a₁ b)
+  tree-half = tree-became st s bs bs₁ k lo rows rows₁ (branch d key a b) (branch d key a₁ b) h (f .became) kept-half
 
   as-it-is : visitOf st r (branch d key a b) (optionOf best) ≡ record { tree = branch d key a₁ b; acc = optionOf best₁; on = on }
       → Found st bs bs₁ s k lo rows (branch d key a b) (visitOf st r (branch d key a b) (optionOf best)) best₁ on rows₁
@@ -186,7 +186,7 @@ module _ (st : State) (r : Query) (bs bs₁ : List ℕ) (s : Shape) (k lo rows r
       let q = search-kept st (h .holds .valid) r (suc d) b (optionOf best₁) (h .ordered .2) in
       rw v (record {
         became = became-trans st s bs bs₁ bs₂ k lo rows rows₁ rows₂ (branch d key a b) (branch d key a₁ b) (branch d key a₁ (o .tree)) (f .became)
-            (other-became st s bs₁ bs₂ k lo rows₁ rows₂ d key a₁ b held-half (o .tree) (c .became) q);
+            (other-became st s bs₁ bs₂ k lo rows₁ rows₂ d key a₁ b tree-half (o .tree) (c .became) q);
         best-is = c .best-is;
         on-is = c .on-is;
         small = c .small;
@@ -202,7 +202,7 @@ pub record Halved (st : State) (r : Query) (bs bs₂ : List ℕ) (s : Shape) (k 
 -- whatever branch stood there, its less side is done
 unfoldable pub Halfway : (bs bs₂ ms : List ℕ) (s : Shape) (Q : List ℕ) (k lo rows best best₁ : ℕ) (on : Bool) (rows₁ row less : ℕ) → Type 0
 Halfway bs bs₂ ms s Q k lo rows best best₁ on rows₁ row less =
-    (st : State) (r : Query) (d key : ℕ) (a b : Tree) → Asks st r ms s Q → Held st (words bs) s k lo rows (branch d key a b)
+    (st : State) (r : Query) (d key : ℕ) (a b : Tree) → Asks st r ms s Q → HasTree st (words bs) s k lo rows (branch d key a b)
     → Halved st r bs bs₂ s k lo rows rows₁ d key a b best best₁ on row less
 
 side-true : (g : Bool) (go : Tree → Option ℕ → tree.Out (Option ℕ)) (t : Tree) (a : Option ℕ) → g ≡ true → side g go t a ≡ go t a
@@ -224,18 +224,18 @@ module _ (bs ms : List ℕ) (s : Shape) (Q : List ℕ) (k lo rows best : ℕ) (l
     request = w .request;
     tree = w .less;
     asks = w .asks;
-    held = held-less (w .state) s (words bs) k lo rows (w .dim) (w .key) (w .less) (w .other) (w .held);
+    has = tree-less (w .state) s (words bs) k lo rows (w .dim) (w .key) (w .less) (w .other) (w .has);
     small = w .small;
   }
 
   pub next-small : ReadyBranch bs ms s Q k lo rows best → next ≤ 65
   unfolding Chosen
-  next-small w = C (w .state) (w .request) (w .dim) (w .key) (w .less) (w .other) (w .asks) (w .held) .next-to
+  next-small w = C (w .state) (w .request) (w .dim) (w .key) (w .less) (w .other) (w .asks) (w .has) .next-to
 
   pub less-falls : ReadyBranch bs ms s Q k lo rows best → getD (words bs) (at.nodeAt s (k + 1) + 2) 0 + 1 ≤ getD (words bs) (at.nodeAt s k + 2) 0
   less-falls w =
-      let h = w .held in
-      let l = held-less (w .state) s (words bs) k lo rows (w .dim) (w .key) (w .less) (w .other) h in
+      let h = w .has in
+      let l = tree-less (w .state) s (words bs) k lo rows (w .dim) (w .key) (w .less) (w .other) h in
       omega (
         arith,
         count-read (w .state) (words bs) s k lo rows (branch (w .dim) (w .key) (w .less) (w .other)) h,
@@ -254,7 +254,7 @@ module _ (bs ms : List ℕ) (s : Shape) (Q : List ℕ) (k lo rows best : ℕ) (l
 
   pub numbers : ReadyBranch bs ms s Q k lo rows best → Numbers
   numbers w =
-      let h = w .held in
+      let h = w .has in
       let n = nodes-branch (w .dim) (w .key) (w .less) (w .other) in
       let f : k + 2 ≤ rows = omega (arith, h .fits, n, some-node (w .less)) in
       record {
@@ -270,19 +270,19 @@ module _ (bs ms : List ℕ) (s : Shape) (Q : List ℕ) (k lo rows best : ℕ) (l
     record Less (st : State) (r : Query) (d key : ℕ) (a b : Tree) : Type 0 where
       found : Found st bs bs₁ s (k + 1) lo rows a (searchFrom st r (suc d) a (optionOf best)) best₁ on₁ rows₁
       kept : Kept (keys st) a (searchFrom st r (suc d) a (optionOf best) .tree)
-      held : Held st (words bs₁) s (k + 1) lo rows₁ (searchFrom st r (suc d) a (optionOf best) .tree)
+      has : HasTree st (words bs₁) s (k + 1) lo rows₁ (searchFrom st r (suc d) a (optionOf best) .tree)
       skip : getD (words bs₁) (at.nodeAt s k + 3) 0 ≡ nodes a
 
-    less-done : (st : State) (r : Query) (d key : ℕ) (a b : Tree) → Asks st r ms s Q → Held st (words bs) s k lo rows (branch d key a b) → Less st r d key a b
+    less-done : (st : State) (r : Query) (d key : ℕ) (a b : Tree) → Asks st r ms s Q → HasTree st (words bs) s k lo rows (branch d key a b) → Less st r d key a b
     unfolding Searched Chosen
     less-done st r d key a b q h =
-        let hl = held-less st s (words bs) k lo rows d key a b h in
+        let hl = tree-less st s (words bs) k lo rows d key a b h in
         let f = rw (C st r d key a b q h .next-is) at (S st r a q hl) in
         let kp = search-kept st (h .holds .valid) r (suc d) a (optionOf best) (h .ordered .1) in
         record {
           found = f;
           kept = kp;
-          held = held-became st s bs bs₁ (k + 1) lo rows rows₁ a (searchFrom st r (suc d) a (optionOf best) .tree) hl (f .became) kp;
+          has = tree-became st s bs bs₁ (k + 1) lo rows rows₁ a (searchFrom st r (suc d) a (optionOf best) .tree) hl (f .became) kp;
           skip = f .became .between (at.nodeAt s k + 3) (omega (arith, hl .inside, h .holds .range .few)) (omega (arith, node-next s k)) ∙ parts st s (words bs) k lo rows d key a b h .here .skip-is;
         }
 
@@ -294,12 +294,12 @@ module _ (bs ms : List ℕ) (s : Shape) (Q : List ℕ) (k lo rows best : ℕ) (l
 
     pub growing : ReadyBranch bs ms s Q k lo rows best → Growing
     growing w =
-        let l = less-done (w .state) (w .request) (w .dim) (w .key) (w .less) (w .other) (w .asks) (w .held) in
+        let l = less-done (w .state) (w .request) (w .dim) (w .key) (w .less) (w .other) (w .asks) (w .has) in
         let b = l .found .became in
         record {
           more = omega (arith, b .grown, b .more);
           long = b .long;
-          fits = omega (arith, b .grown, b .more, l .skip, l .held .fits, l .held .rows-to, w .held .holds .range .cap-to);
+          fits = omega (arith, b .grown, b .more, l .skip, l .has .fits, l .has .rows-to, w .has .holds .range .cap-to);
         }
 
     pub halfway : less ≡ true → (bs₂ : List ℕ) (row lessn : ℕ) → Grew bs₁ bs₂ s k (rows₁ - rows) row lessn → Halfway bs bs₂ ms s Q k lo rows best best₁ on₁ rows₁ row lessn
@@ -318,14 +318,14 @@ module _ (bs ms : List ℕ) (s : Shape) (Q : List ℕ) (k lo rows best : ℕ) (l
             small = l .found .small;
           };
           row-is = g .row-is ∙ rw skips refl;
-          less-is = g .less-is ∙ count-read st (words bs₁) s (k + 1) lo rows₁ t (l .held);
+          less-is = g .less-is ∙ count-read st (words bs₁) s (k + 1) lo rows₁ t (l .has);
         }
 
   -- the less side is left out
   pub skipped : less ≡ false → best ≤ s .entries → (bs₂ : List ℕ) (row lessn : ℕ) → Grew bs bs₂ s k 0 row lessn → Halfway bs bs₂ ms s Q k lo rows best best true rows row lessn
   unfolding Halfway Chosen
   skipped e small bs₂ row lessn g st r d key a b q h =
-      let hl = held-less st s (words bs) k lo rows d key a b h in
+      let hl = tree-less st s (words bs) k lo rows d key a b h in
       let skips : getD (words bs) (at.nodeAt s k + 3) 0 + 0 ≡ nodes a = omega (arith, parts st s (words bs) k lo rows d key a b h .here .skip-is) in
       let kp = kept-refl (keys st) a (h .ordered .1) in
       record {
@@ -342,7 +342,7 @@ module _ (bs ms : List ℕ) (s : Shape) (Q : List ℕ) (k lo rows best : ℕ) (l
 
   pub skip-fits : ReadyBranch bs ms s Q k lo rows best → getD (words bs) (at.nodeAt s k + 3) 0 + 0 ≤ 8191
   skip-fits w =
-      let h = w .held in
+      let h = w .has in
       omega (arith, parts (w .state) s (words bs) k lo rows (w .dim) (w .key) (w .less) (w .other) h .here .skip-is, h .fits, nodes-branch (w .dim) (w .key) (w .less) (w .other), h .rows-to, h .holds .range .cap-to)
 
   -- neither side is visited
@@ -369,14 +369,14 @@ module _ (bs ms : List ℕ) (s : Shape) (Q : List ℕ) (k lo rows best : ℕ) (l
         end-cut st r bs bs₂ s k lo rows rows₁ d key a b (m .tree) best best₁ on₁ h (m .half) e (sym (C st r d key a b q h .other-is) ∙ f)
 
     -- the other side, where it stands now
-    other-held : (st : State) (r : Query) (d key : ℕ) (a b : Tree) → Asks st r ms s Q → Held st (words bs) s k lo rows (branch d key a b) → Held st (words bs₂) s row (lo + lessn) rows₁ b
+    other-tree : (st : State) (r : Query) (d key : ℕ) (a b : Tree) → Asks st r ms s Q → HasTree st (words bs) s k lo rows (branch d key a b) → HasTree st (words bs₂) s row (lo + lessn) rows₁ b
     unfolding Halfway
-    other-held st r d key a b q h =
+    other-tree st r d key a b q h =
         let m = M st r d key a b q h in
-        let z = held-other st s (words bs₂) k lo rows₁ d key (m .tree) b (held-half st r bs bs₂ s k lo rows rows₁ d key a b (m .tree) best best₁ on₁ h (m .half)) in
+        let z = tree-other st s (words bs₂) k lo rows₁ d key (m .tree) b (tree-half st r bs bs₂ s k lo rows rows₁ d key a b (m .tree) best best₁ on₁ h (m .half)) in
         place (m .row-is) (m .less-is) z
       where
-        place : {u v i j : ℕ} {t : Tree} → i ≡ u → j ≡ v → Held st (words bs₂) s u (lo + v) rows₁ t → Held st (words bs₂) s i (lo + j) rows₁ t
+        place : {u v i j : ℕ} {t : Tree} → i ≡ u → j ≡ v → HasTree st (words bs₂) s u (lo + v) rows₁ t → HasTree st (words bs₂) s i (lo + j) rows₁ t
         place e f z = rw (e, f) z
 
     pub other-ready : ReadyBranch bs ms s Q k lo rows best → Ready bs₂ ms s Q row (lo + lessn) rows₁ best₁
@@ -386,19 +386,19 @@ module _ (bs ms : List ℕ) (s : Shape) (Q : List ℕ) (k lo rows best : ℕ) (l
       request = w .request;
       tree = w .other;
       asks = w .asks;
-      held = other-held (w .state) (w .request) (w .dim) (w .key) (w .less) (w .other) (w .asks) (w .held);
-      small = M (w .state) (w .request) (w .dim) (w .key) (w .less) (w .other) (w .asks) (w .held) .half .small;
+      has = other-tree (w .state) (w .request) (w .dim) (w .key) (w .less) (w .other) (w .asks) (w .has);
+      small = M (w .state) (w .request) (w .dim) (w .key) (w .less) (w .other) (w .asks) (w .has) .half .small;
     }
 
     pub other-place : ReadyBranch bs ms s Q k lo rows best → lo + lessn ≤ 4096
     other-place w =
-        let h = other-held (w .state) (w .request) (w .dim) (w .key) (w .less) (w .other) (w .asks) (w .held) in
+        let h = other-tree (w .state) (w .request) (w .dim) (w .key) (w .less) (w .other) (w .asks) (w .has) in
         omega (arith, h .inside, h .holds .range .few, h .holds .range .cap-to)
 
     pub other-falls : ReadyBranch bs ms s Q k lo rows best → getD (words bs₂) (at.nodeAt s row + 2) 0 + 1 ≤ getD (words bs) (at.nodeAt s k + 2) 0
     other-falls w =
-        let h = w .held in
-        let l = other-held (w .state) (w .request) (w .dim) (w .key) (w .less) (w .other) (w .asks) h in
+        let h = w .has in
+        let l = other-tree (w .state) (w .request) (w .dim) (w .key) (w .less) (w .other) (w .asks) h in
         omega (
           arith,
           count-read (w .state) (words bs) s k lo rows (branch (w .dim) (w .key) (w .less) (w .other)) h,
@@ -413,11 +413,11 @@ module _ (bs ms : List ℕ) (s : Shape) (Q : List ℕ) (k lo rows best : ℕ) (l
     ret-other e f bs₃ best₂ on₂ rows₂ S st r d key a b q h =
         let m = M st r d key a b q h in
         let c = C st r d key a b q h in
-        let z = placed (m .row-is) (m .less-is) (c .next-is) (S st r b q (other-held st r d key a b q h)) in
+        let z = placed (m .row-is) (m .less-is) (c .next-is) (S st r b q (other-tree st r d key a b q h)) in
         end-other st r bs bs₂ s k lo rows rows₁ d key a b (m .tree) best best₁ on₁ h (m .half) e (sym (c .other-is) ∙ f) bs₃ best₂ on₂ rows₂ z
       where
         placed : {u v w i j n : ℕ} → i ≡ u → j ≡ v → n ≡ w → Found st bs₂ bs₃ s i (lo + j) rows₁ b (searchFrom st r n b (optionOf best₁)) best₂ on₂ rows₂ → Found st bs₂ bs₃ s u (lo + v) rows₁ b (searchFrom st r w b (optionOf best₁)) best₂ on₂ rows₂
         placed e f g z = rw (← e, ← f, ← g) z
 
 pub few-rows : (bs ms : List ℕ) (s : Shape) (Q : List ℕ) (k lo rows best : ℕ) → ReadyBranch bs ms s Q k lo rows best → rows ≤ 8191
-few-rows bs ms s Q k lo rows best w = omega (arith, w .held .rows-to, w .held .holds .range .cap-to)
+few-rows bs ms s Q k lo rows best w = omega (arith, w .has .rows-to, w .has .holds .range .cap-to)

@@ -15,7 +15,7 @@ use Rattle.index_theory.specs.Searches.{Query, path, process, split}
 use Rattle.index_image.specs.Shape as at
 use Rattle.index_image.specs.Rows.{entriesFrom}
 use Rattle.index_image.specs.declared.Shape.{Shape}
-use Rattle.kd_split.specs.Held.{Holds, Held, Became}
+use Rattle.kd_split.specs.HasTree.{Holds, HasTree, Became}
 use Rattle.kd_tree.specs.Asked.{optionOf, Asks}
 
 -- ---- what a search has come to, in one number: the rows in use, what was found, and whether to go on
@@ -41,7 +41,7 @@ pub record Ready (bs ms : List ℕ) (s : Shape) (Q : List ℕ) (k lo rows best :
   pub request : Query
   pub tree : Tree
   pub asks : Asks state request ms s Q
-  pub held : Held state (words bs) s k lo rows tree
+  pub has : HasTree state (words bs) s k lo rows tree
   pub small : best ≤ s .entries
 
 pub record ReadyBranch (bs ms : List ℕ) (s : Shape) (Q : List ℕ) (k lo rows best : ℕ) : Type 0 where
@@ -52,7 +52,7 @@ pub record ReadyBranch (bs ms : List ℕ) (s : Shape) (Q : List ℕ) (k lo rows 
   pub less : Tree
   pub other : Tree
   pub asks : Asks state request ms s Q
-  pub held : Held state (words bs) s k lo rows (branch dim key less other)
+  pub has : HasTree state (words bs) s k lo rows (branch dim key less other)
   pub small : best ≤ s .entries
 
 pub record ReadyLeaf (bs ms : List ℕ) (s : Shape) (Q : List ℕ) (k lo rows best : ℕ) : Type 0 where
@@ -60,7 +60,7 @@ pub record ReadyLeaf (bs ms : List ℕ) (s : Shape) (Q : List ℕ) (k lo rows be
   pub request : Query
   pub es : List ℕ
   pub asks : Asks state request ms s Q
-  pub held : Held state (words bs) s k lo rows (leaf es)
+  pub has : HasTree state (words bs) s k lo rows (leaf es)
   pub small : best ≤ s .entries
 
 -- the tables stand, and c entries from place lo on
@@ -81,12 +81,12 @@ pub record Found (st : State) (bs bs′ : List ℕ) (s : Shape) (k lo rows : ℕ
 
 unfoldable pub Searched : (bs bs′ ms : List ℕ) (s : Shape) (Q : List ℕ) (dim k lo rows best best′ : ℕ) (on : Bool) (rows′ : ℕ) → Type 0
 Searched bs bs′ ms s Q dim k lo rows best best′ on rows′ =
-    (st : State) (r : Query) (t : Tree) → Asks st r ms s Q → Held st (words bs) s k lo rows t
+    (st : State) (r : Query) (t : Tree) → Asks st r ms s Q → HasTree st (words bs) s k lo rows t
     → Found st bs bs′ s k lo rows t (searchFrom st r dim t (optionOf best)) best′ on rows′
 
 unfoldable pub Branched : (bs bs′ ms : List ℕ) (s : Shape) (Q : List ℕ) (k lo rows best best′ : ℕ) (on : Bool) (rows′ : ℕ) → Type 0
 Branched bs bs′ ms s Q k lo rows best best′ on rows′ =
-    (st : State) (r : Query) (d key : ℕ) (a b : Tree) → Asks st r ms s Q → Held st (words bs) s k lo rows (branch d key a b)
+    (st : State) (r : Query) (d key : ℕ) (a b : Tree) → Asks st r ms s Q → HasTree st (words bs) s k lo rows (branch d key a b)
     → Found st bs bs′ s k lo rows (branch d key a b) (visitOf st r (branch d key a b) (optionOf best)) best′ on rows′
 
 -- entries are visited, one after the other
@@ -96,7 +96,7 @@ pub record Stepped (st : State) (r : Query) (s : Shape) (es : List ℕ) (best be
 
 -- those of a leaf
 unfoldable pub Scanned : (bs ms : List ℕ) (s : Shape) (Q : List ℕ) (k lo rows best best′ : ℕ) (on : Bool) → Type 0
-Scanned bs ms s Q k lo rows best best′ on = (st : State) (r : Query) (es : List ℕ) → Asks st r ms s Q → Held st (words bs) s k lo rows (leaf es) → Stepped st r s es best best′ on
+Scanned bs ms s Q k lo rows best best′ on = (st : State) (r : Query) (es : List ℕ) → Asks st r ms s Q → HasTree st (words bs) s k lo rows (leaf es) → Stepped st r s es best best′ on
 
 -- the c entries from place lo on
 unfoldable pub Visited : (bs ms : List ℕ) (s : Shape) (Q : List ℕ) (lo c best best′ : ℕ) (on : Bool) → Type 0
@@ -111,7 +111,7 @@ pub record SidesAre (st : State) (r : Query) (d key : ℕ) (es : List ℕ) (less
 
 unfoldable pub Chosen : (bs ms : List ℕ) (s : Shape) (Q : List ℕ) (k lo rows : ℕ) (less other : Bool) (next : ℕ) → Type 0
 Chosen bs ms s Q k lo rows less other next =
-    (st : State) (r : Query) (d key : ℕ) (a b : Tree) → Asks st r ms s Q → Held st (words bs) s k lo rows (branch d key a b)
+    (st : State) (r : Query) (d key : ℕ) (a b : Tree) → Asks st r ms s Q → HasTree st (words bs) s k lo rows (branch d key a b)
     → SidesAre st r d key (inorder a ++ inorder b) less other next
 
 -- the skip of the branch at row k has grown, and where its other side is

@@ -12,7 +12,7 @@ ghost use lib.ListN.{length, getD};
 ghost use Rattle.words.specs.Words.{words};
 ghost use Rattle.divmask.specs.Mask.{within};
 ghost use Rattle.index_image.specs.Shape as at;
-ghost use Rattle.kd_split.specs.Split.{Standing, Opened};
+ghost use Rattle.kd_split.specs.Split.{Standing, RootSplit};
 ghost use Rattle.kd_tree.specs.Asked.{shapeIn, nodeMaskIn, Laid};
 ghost use Rattle.kd_tree.specs.Searched.{rowsOf, bestOf, onOf, Ready, ReadyBranch, ReadyLeaf, Searched, Branched, Scanned, Chosen, Grew};
 ghost use Rattle.kd_tree.specs.Rooted.{RootReady, Answered};
@@ -97,7 +97,7 @@ fn open_node(image: &mut [u8], q: &[u8], dim: usize, k: usize, lo: usize, rows: 
     requires { ⌜ Laid (words (now q)) (shapeIn (words (now q))) ⌝ }
     requires { ⌜ Standing (now image) (shapeIn (words (now q))) k lo rows ⌝ }
     requires { ⌜ dim ≤ 65 ⌝ }
-    ensures { λ r. ⌜ Opened (now (image .entry)) (now (image .exit)) (shapeIn (words (now (q .entry)))) dim k lo rows r ⌝ }
+    ensures { λ r. ⌜ RootSplit (now (image .entry)) (now (image .exit)) (shapeIn (words (now (q .entry)))) dim k lo rows r ⌝ }
 {
     let at = query::node_at(q, k);
     if words::get(image, at) != 0 {

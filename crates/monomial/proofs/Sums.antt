@@ -63,14 +63,14 @@ begin o out ra rb = record {
 }
 
 module _ {o : Op} {A B out₀ out : List ℕ} {i j n : ℕ} (s : Summing o A B out₀ out i j n) (room : 4 * length (result o A B) ≤ length out₀) where
-  pub record Fits : Type 0 where
+  pub record SumFits : Type 0 where
     pub ia : i < length A
     pub jb : j < length B
     pub few : n ≤ 4096
     pub free : 4 * n + 4 ≤ length out₀
     pub kept : length out ≡ length out₀
 
-  pub fits : Fits
+  pub fits : SumFits
   unfolding result monomialOf
   fits =
       let l : length (varsOf (kindOf o) 4096 (powers o A B)) ≡ n + length (varsOf (kindOf o) (s .b) (powers o A B)) =

@@ -15,7 +15,7 @@ use Rattle.monomial.specs.declared.monomial_ordering.CmpOrd.the-variants.{Less,
 use Rattle.monomial.specs.declared.ordered_ops.Op.{Op}
 use Rattle.monomial.proofs.Laws.{length-result}
 use Rattle.monomial.proofs.Firsts.{starts-wide, starts-whole, first-whole}
-use Rattle.monomial_work.specs.Served.{yes, number, one, division, answer}
+use Rattle.monomial_work.specs.Served.{yes, number, oneAnswer, division, answer}
 use Rattle.monomial_work.specs.Steps.{workOf}
 
 pub starts : {k : ℕ} {a : List ℕ} → Canonical k 64 a → Starts k 4096 a
@@ -28,11 +28,11 @@ ready o a b out ca cb h =
     (starts ca, (starts cb, rw (first-whole ca, first-whole cb) (omega (arith, length-result 64 a b ca cb o (omega arith)))))
 
 -- a division's words, by the test that it makes
-pub division-words : (a b : List ℕ) → division (divided a b) (result Op.Quotient a b) ≡ cond (divides b a) (result Op.Quotient a b) (one 0)
+pub division-words : (a b : List ℕ) → division (divided a b) (result Op.Quotient a b) ≡ cond (divides b a) (result Op.Quotient a b) (oneAnswer 0)
 unfolding divided division
 division-words a b = go (divides b a)
   where
-    go : (t : Bool) → division (cond t (Whole (length (result Op.Quotient a b))) NotDivisible) (result Op.Quotient a b) ≡ cond t (result Op.Quotient a b) (one 0)
+    go : (t : Bool) → division (cond t (Whole (length (result Op.Quotient a b))) NotDivisible) (result Op.Quotient a b) ≡ cond t (result Op.Quotient a b) (oneAnswer 0)
     go true = take-all (length (result Op.Quotient a b)) (result Op.Quotient a b) (omega arith)
     go false = refl
 
@@ -42,7 +42,7 @@ answer-length Op.Gcd a b ca cb = length-result 64 a b ca cb Op.Gcd (omega arith)
 answer-length Op.Product a b ca cb = length-result 64 a b ca cb Op.Product (omega arith)
 answer-length Op.Quotient a b ca cb = rw (division-words a b) (go (divides b a))
   where
-    go : (t : Bool) → length (cond t (result Op.Quotient a b) (one 0)) ≤ 65
+    go : (t : Bool) → length (cond t (result Op.Quotient a b) (oneAnswer 0)) ≤ 65
     go true = length-result 64 a b ca cb Op.Quotient (omega arith)
     go false = omega arith
 answer-length Op.Ratio a b ca cb = length-result 64 a b ca cb Op.Ratio (omega arith)

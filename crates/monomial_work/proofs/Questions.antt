@@ -19,7 +19,7 @@ use Rattle.monomial.proofs.Laws.{canonical-more, lent-canonical, product-canoni
 use Rattle.monomial.proofs.Powers.{pow-ids}
 use Rattle.monomial.specs.Sizes.{variablesFit}
 use Rattle.monomial.proofs.Sizing.{variables-fit}
-use Rattle.monomial_work.specs.Served.{lentKind, one, answer, small, powersFit, verdict, Served}
+use Rattle.monomial_work.specs.Served.{lentKind, oneAnswer, answer, small, powersFit, verdict, Served}
 use Rattle.monomial_work.specs.Steps.{refusal, workOf, tooLarge, Told}
 use Rattle.monomial_work.specs.declared.Work.{Work}
 
@@ -52,12 +52,12 @@ product-asked m a b h ca cb = same-truth _ _ to from
               ])),
         )
 
-asked : (o : Op) (m : ℕ) (a b : List ℕ) → m ≤ 64 → Canonical 1 m a → Canonical 1 m b → tooLarge o m (bytes (answer (workOf o) a b)) ≡ not (small (workOf o) a b)
+nine-asked : (o : Op) (m : ℕ) (a b : List ℕ) → m ≤ 64 → Canonical 1 m a → Canonical 1 m b → tooLarge o m (bytes (answer (workOf o) a b)) ≡ not (small (workOf o) a b)
 unfolding answer small
-asked Op.Gcd m a b h ca cb = refl
-asked Op.Product m a b h ca cb = ap not (product-asked m a b h ca cb)
-asked Op.Quotient m a b h ca cb = refl
-asked Op.Ratio m a b h ca cb = refl
+nine-asked Op.Gcd m a b h ca cb = refl
+nine-asked Op.Product m a b h ca cb = ap not (product-asked m a b h ca cb)
+nine-asked Op.Quotient m a b h ca cb = refl
+nine-asked Op.Ratio m a b h ca cb = refl
 
 pub kinds : (o : Op) → lentKind (workOf o) ≡ 1
 kinds Op.Gcd = refl
@@ -119,7 +119,7 @@ module _ (w : Work) (m : ℕ) (a b out : List ℕ) where
       go false y z q = sym q
 
   module _ (f : Fine (lentKind w) m a b) where
-    pub told : {p r : ℕ} {after : List ℕ} → small w (words a) (words b) ≡ true → answer w (words a) (words b) ≡ one p → Told p out r after → Served w m a b out r after
+    pub told : {p r : ℕ} {after : List ℕ} → small w (words a) (words b) ≡ true → answer w (words a) (words b) ≡ oneAnswer p → Told p out r after → Served w m a b out r after
     unfolding verdict
     told {p} {r} {after} s e t = go (leb 4 (length out)) refl
       where
@@ -138,7 +138,7 @@ module _ (o : Op) (m : ℕ) (a b out : List ℕ) (f : Fine 1 m a b) (space made 
       (take-at (bytes (answer (workOf o) (words a) (words b))) _ (4 * n) (length-bytes (answer (workOf o) (words a) (words b)) ∙ ap (λ (i : ℕ). 4 * i) (sym en)))
 
   question : tooLarge o m (take (4 * n) made) ≡ not (small (workOf o) (words a) (words b))
-  question = rw front (asked o m (words a) (words b) (f .few) (lent-canonical 1 m a .0 (f .la) .1) (lent-canonical 1 m b .0 (f .lb) .1))
+  question = rw front (nine-asked o m (words a) (words b) (f .few) (lent-canonical 1 m a .0 (f .la) .1) (lent-canonical 1 m b .0 (f .lb) .1))
 
   small-is : (t : Bool) → tooLarge o m (take (4 * n) made) ≡ not t → small (workOf o) (words a) (words b) ≡ t
   small-is t h = go (small (workOf o) (words a) (words b)) t (sym question ∙ h)

@@ -42,13 +42,13 @@ number Less = 0
 number Equal = 1
 number Greater = 2
 
-abbrev pub one : ℕ → List ℕ
-one p = answerWord p ∷ []
+abbrev pub oneAnswer : ℕ → List ℕ
+oneAnswer p = answerWord p ∷ []
 
 -- a division's words: the n of its quotient q; no quotient is a kind 4 word, payload 0
 unfoldable pub division : Division → List ℕ → List ℕ
 division (Whole n) q = take n q
-division NotDivisible q = one 0
+division NotDivisible q = oneAnswer 0
 
 -- the words answered
 unfoldable pub answer : Work → List ℕ → List ℕ → List ℕ
@@ -56,11 +56,11 @@ answer Gcd a b = result Op.Gcd a b
 answer Mul a b = result Op.Product a b
 answer WholeDivision a b = division (divided a b) (result Op.Quotient a b)
 answer FractionDivision a b = result Op.Ratio a b
-answer Divides a b = one (yes (divides a b))
-answer Eq a b = one (yes (equal a b))
-answer Cmp a b = one (number (order 1 a b))
-answer RatioEq a b = one (yes (equal a b))
-answer RatioCmp a b = one (number (order 2 a b))
+answer Divides a b = oneAnswer (yes (divides a b))
+answer Eq a b = oneAnswer (yes (equal a b))
+answer Cmp a b = oneAnswer (number (order 1 a b))
+answer RatioEq a b = oneAnswer (yes (equal a b))
+answer RatioCmp a b = oneAnswer (number (order 2 a b))
 
 -- question 9: no power of a product is above 32,767
 unfoldable pub powersFit : List ℕ → List ℕ → Bool

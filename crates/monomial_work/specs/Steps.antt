@@ -10,7 +10,7 @@ use Rattle.monomial.specs.Monomial.{lent}
 use Rattle.monomial.specs.Sizes.{variablesFit}
 use Rattle.monomial.specs.declared.ordered_ops.Op.{Op}
 use Rattle.monomial.specs.declared.ordered_ops.Op.the-variants as op
-use Rattle.monomial_work.specs.Served.{one}
+use Rattle.monomial_work.specs.Served.{oneAnswer}
 use Rattle.monomial_work.specs.declared.Work.{Work}
 use Rattle.monomial_work.specs.declared.Work.the-variants.{Gcd, Mul, WholeDivision, FractionDivision}
 
@@ -35,4 +35,4 @@ tooLarge op.Ratio m s = false
 -- one answer word, by question 5 alone
 pub record Told (p : ℕ) (out : List ℕ) (r : ℕ) (after : List ℕ) : Type 0 where
   pub number-is : r ≡ cond (leb 4 (length out)) 0 5
-  pub bytes-are : after ≡ cond (leb 4 (length out)) (pasteW out 0 (one p)) out
+  pub bytes-are : after ≡ cond (leb 4 (length out)) (pasteW out 0 (oneAnswer p)) out

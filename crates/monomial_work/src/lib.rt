@@ -43,7 +43,7 @@ fn number(c: CmpOrd) -> u32
 // Writes one answer word, and returns its length in words.
 fn put_answer(out: &mut [u8], p: u32) -> usize
     requires { ⌜ (p < 268435456) × (4 ≤ length (now out)) ⌝ }
-    ensures { λ r. ⌜ (r ≡ 1) × (now (out .exit) ≡ pasteW (now (out .entry)) 0 (spec.one p)) ⌝ }
+    ensures { λ r. ⌜ (r ≡ 1) × (now (out .exit) ≡ pasteW (now (out .entry)) 0 (spec.oneAnswer p)) ⌝ }
 {
     words::put(out, 0, words::answer_word(p));
     1

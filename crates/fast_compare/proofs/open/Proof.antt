@@ -1,4 +1,4 @@
-use Rattle.fast_compare.proofs.Opening.{opened}
+use Rattle.fast_compare.proofs.Opening.{open-is}
 use borrow.Author.Needs.{needs}
 use Rattle.fast_compare.proofs.open.Statement.{statement}
 use Rattle.fast_compare.proofs.open.Tie as tie
@@ -60,7 +60,7 @@ returns c =
     let put2 = b10 .put2 in
     let put = b10 .before .before .before .before .put in
     let start = b10 .before .before .before .before .before .before .before in
-    opened (start .args .map .now) (put .last .0) (put2 .last .0) (put3 .last .0) (clear .last .0) (start .args .variables) (start .args .capacity)
+    open-is (start .args .map .now) (put .last .0) (put2 .last .0) (put3 .last .0) (clear .last .0) (start .args .variables) (start .args .capacity)
     (start .pre .1) (put .ensures) (put2 .ensures) (put3 .ensures) (clear .ensures)
 
 pub open-spec : {M : Type 1} → statement M

@@ -1,6 +1,6 @@
 use native.Mathlib.Omega.{arith}
 use mathlib.Core.Path.{refl, sym, ap, _∙_}
-use Rattle.monomial_work.specs.Served.{answer, small, one, yes}
+use Rattle.monomial_work.specs.Served.{answer, small, oneAnswer, yes}
 use Rattle.monomial_work.specs.declared.Work.the-variants.{Divides}
 use Rattle.monomial.proofs.Firsts.{first-whole}
 use Rattle.monomial_work.proofs.Laws.{starts, yes-small}
@@ -63,7 +63,7 @@ returns-2 c =
     let ca = canonical-64 1 m a (omega arith) (f .few) (f .la) in
     let cb = canonical-64 1 m b (omega arith) (f .few) (f .lb) in
     let d = rw (first-whole ca, first-whole cb) at (c .before .before .before .before .divides .ensures) in
-    told Divides m a b t f refl (ap one (ap yes (sym d) ∙ sym (c .before .before .before .yes .ensures))) (c .before .before .tell .ensures)
+    told Divides m a b t f refl (ap oneAnswer (ap yes (sym d) ∙ sym (c .before .before .before .yes .ensures))) (c .before .before .tell .ensures)
 
 pub divisor-index-monomial-divides-spec : {M : Type 1} → statement M
 divisor-index-monomial-divides-spec =

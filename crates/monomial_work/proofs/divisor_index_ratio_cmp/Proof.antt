@@ -1,6 +1,6 @@
 use native.Mathlib.Omega.{arith}
 use mathlib.Core.Path.{refl, sym, ap, _∙_}
-use Rattle.monomial_work.specs.Served.{answer, small, one, number}
+use Rattle.monomial_work.specs.Served.{answer, small, oneAnswer, number}
 use Rattle.monomial_work.specs.declared.Work.the-variants.{RatioCmp}
 use Rattle.monomial.proofs.Firsts.{first-whole}
 use Rattle.monomial_work.proofs.Laws.{starts, number-small}
@@ -63,7 +63,7 @@ returns-2 c =
     let ca = canonical-64 2 m a (omega arith) (f .few) (f .la) in
     let cb = canonical-64 2 m b (omega arith) (f .few) (f .lb) in
     let d = rw (first-whole ca, first-whole cb) at (c .before .before .before .before .ord .ensures) in
-    told RatioCmp m a b t f refl (ap one (ap number (sym d) ∙ sym (c .before .before .before .number .ensures))) (c .before .before .tell .ensures)
+    told RatioCmp m a b t f refl (ap oneAnswer (ap number (sym d) ∙ sym (c .before .before .before .number .ensures))) (c .before .before .tell .ensures)
 
 pub divisor-index-ratio-cmp-spec : {M : Type 1} → statement M
 divisor-index-ratio-cmp-spec =

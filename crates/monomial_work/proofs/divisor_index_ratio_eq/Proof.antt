@@ -1,5 +1,5 @@
 use mathlib.Core.Path.{refl, sym, ap, _∙_}
-use Rattle.monomial_work.specs.Served.{answer, small, one, yes}
+use Rattle.monomial_work.specs.Served.{answer, small, oneAnswer, yes}
 use Rattle.monomial_work.specs.declared.Work.the-variants.{RatioEq}
 use Rattle.monomial_work.proofs.Laws.{yes-small}
 use Rattle.monomial_work.proofs.Questions.{asked-no, fine, told}
@@ -51,7 +51,7 @@ returns-2 c =
     let b = c .before .before .before .before .before .before .before .before .before .before .before .args .b .now in
     let t = c .before .before .before .before .before .before .before .before .before .before .before .args .out .now in
     let f = fine 2 m a b (sym (c .before .before .before .before .before .before .if1 .left) ∙ c .before .before .before .before .before .before .before .refusal .ensures) in
-    told RatioEq m a b t f refl (ap one (ap yes (sym (c .before .before .before .before .eq .ensures)) ∙ sym (c .before .before .before .yes .ensures))) (c .before .before .tell .ensures)
+    told RatioEq m a b t f refl (ap oneAnswer (ap yes (sym (c .before .before .before .before .eq .ensures)) ∙ sym (c .before .before .before .yes .ensures))) (c .before .before .tell .ensures)
 
 pub divisor-index-ratio-eq-spec : {M : Type 1} → statement M
 divisor-index-ratio-eq-spec =

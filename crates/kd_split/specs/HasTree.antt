@@ -32,7 +32,7 @@ pub record Stands (st : State) (W : List ℕ) (s : Shape) (k lo : ℕ) (t : Tree
   pub perm : part W (at.permutationAt s + lo) (count t) ≡ inorder t
 
 -- the same, with room: `rows` rows are in use, and each entry of t may come to need two
-pub record Held (st : State) (W : List ℕ) (s : Shape) (k lo rows : ℕ) (t : Tree) : Type 0 where
+pub record HasTree (st : State) (W : List ℕ) (s : Shape) (k lo rows : ℕ) (t : Tree) : Type 0 where
   pub holds : Holds st W s
   pub stands : Stands st W s k lo t
   pub ordered : Ordered (keys st) t
