@@ -421,3 +421,20 @@ module _ (bs ms : List ℕ) (s : Shape) (Q : List ℕ) (k lo rows best : ℕ) (l
 
 pub few-rows : (bs ms : List ℕ) (s : Shape) (Q : List ℕ) (k lo rows best : ℕ) → ReadyBranch bs ms s Q k lo rows best → rows ≤ 8191
 few-rows bs ms s Q k lo rows best w = omega (arith, w .has .rows-to, w .has .holds .range .cap-to)
+
+-- a branch is searched as the node that it is
+pub as-node : (bs ms : List ℕ) (s : Shape) (Q : List ℕ) (k lo rows best : ℕ) → ReadyBranch bs ms s Q k lo rows best → Ready bs ms s Q k lo rows best
+as-node bs ms s Q k lo rows best w = record {
+  state = w .state;
+  request = w .request;
+  tree = branch (w .dim) (w .key) (w .less) (w .other);
+  asks = w .asks;
+  has = w .has;
+  small = w .small;
+}
+
+pub as-branch : (bs bs′ ms : List ℕ) (s : Shape) (Q : List ℕ) (dim k lo rows best best′ : ℕ) (on : Bool) (rows′ : ℕ) → Searched bs bs′ ms s Q dim k lo rows best best′ on rows′ → Branched bs bs′ ms s Q k lo rows best best′ on rows′
+unfolding Searched Branched splitRoot
+as-branch bs bs′ ms s Q dim k lo rows best best′ on rows′ c st r d key a b asks h =
+    let v : searchFrom st r dim (branch d key a b) (optionOf best) ≡ visitOf st r (branch d key a b) (optionOf best) = step st (h .holds .valid) r dim (branch d key a b) (optionOf best) (h .ordered) in
+    rw v at (c st r (branch d key a b) asks h)

@@ -165,21 +165,26 @@ pub fn branch_search(image: &mut [u8], q: &[u8], m: &[u8], k: usize, lo: usize, 
     acc
 }
 
-// Searches the whole image: 0, or the place of the entry found + 1. It does what `search` does at the root, and then writes the number of rows.
-// So a split, which has a large local array, and the loops over a leaf have two callers and are compiled by themselves: they stay out of the frames of `search`.
+// Searches from the root as `search` does, which goes on below it. So a split, which has a large local array, and the loops over a leaf have
+// two callers and are compiled by themselves, and `branch_search` has one and is compiled into `search`: a level costs one small frame.
+fn search_root(image: &mut [u8], q: &[u8], m: &[u8], acc: u64) -> u64
+    requires { ⌜ Ready (now image) (now m) (shapeIn (words (now q))) (words (now q)) 0 0 (rowsOf acc) (bestOf acc) ⌝ }
+    requires { ⌜ onOf acc ≡ true ⌝ }
+    ensures { λ r. ⌜ Searched (now (image .entry)) (now (image .exit)) (now (m .entry)) (shapeIn (words (now (q .entry)))) (words (now (q .entry))) 0 0 0 (rowsOf acc) (bestOf acc) (bestOf r) (onOf r) (rowsOf r) ⌝ }
+{
+    let n = kd_split::split_node(image, query::shape(q), 0, 0, 0, step::rows(acc));
+    if n == 0 {
+        return scan(image, q, m, 0, 0, acc);
+    }
+    search(image, q, m, 0, 0, 0, step::with_rows(acc, n))
+}
+
+// Searches the whole image: 0, or the place of the entry found + 1.
 pub fn find(image: &mut [u8], q: &[u8], m: &[u8]) -> usize
     requires { ⌜ RootReady (now image) (now m) (words (now q)) ⌝ }
     ensures { λ r. ⌜ Answered (now (image .entry)) (now (image .exit)) (now (m .entry)) (words (now (q .entry))) r ⌝ }
 {
-    let rows = query::num(q, query::NODES);
-    let acc = step::first(rows);
-    let n = kd_split::split_node(image, query::shape(q), 0, 0, 0, rows);
-    if n == 0 {
-        let r = scan(image, q, m, 0, 0, acc);
-        words::put(image, fields::NODES, rows as u32);
-        return step::best(r);
-    }
-    let r = branch_search(image, q, m, 0, 0, step::with_rows(acc, n));
+    let r = search_root(image, q, m, step::first(query::num(q, query::NODES)));
     words::put(image, fields::NODES, step::rows(r) as u32);
     step::best(r)
 }

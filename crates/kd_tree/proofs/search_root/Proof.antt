@@ -1,0 +1,70 @@
+use Rattle.kd_tree.proofs.Laying.{query-long}
+use Rattle.kd_tree.proofs.Visiting.{standing, scan-ready, scan-done, branch-ready, branch-done, few-rows, as-node, as-branch}
+use mathlib.Core.Path.{_≡_, refl, sym, ap, _∙_}
+use native.Mathlib.Omega.{arith}
+use borrow.Author.Needs.{needs}
+use Rattle.kd_tree.proofs.search_root.Statement.{statement}
+use Rattle.kd_tree.proofs.search_root.Tie as tie
+use Rattle.kd_tree.proofs.search_root.Reads as reads
+use Rattle.kd_tree.proofs.search_root.Lts as lts
+use Rattle.kd_split.proofs.split_node.Reads as split-node-reads
+use Rattle.kd_tree.proofs.query.shape.Reads as shape-reads
+use Rattle.kd_tree.proofs.scan.Reads as scan-reads
+use Rattle.kd_tree.proofs.search.Reads as search-reads
+use Rattle.kd_tree.proofs.step.rows.Reads as rows-reads
+use Rattle.kd_tree.proofs.step.with_rows.Reads as with-rows-reads
+
+-- src/lib.rt:176:41
+shape-requires : tie.Need-shape-requires
+shape-requires c κs = omega (arith, query-long _ _ (c .before .before .before .before .pre .0 .asks .laid))
+
+-- src/lib.rt:176:67
+rows-requires : tie.Need-rows-requires
+rows-requires c κs = search needs
+
+-- src/lib.rt:176:9
+split-node-requires : tie.Need-split-node-requires
+split-node-requires c κs = (rw (c .before .shape .ensures, c .rows .ensures) (standing _ _ _ _ _ _ _ _ (c .before .before .before .before .before .before .pre .0)), omega arith)
+
+-- src/lib.rt:178:9
+scan-requires : tie.Need-scan-requires
+scan-requires c κs = (scan-ready _ _ _ _ _ _ _ _ _ _ _ (rw (c .before .before .before .before .before .before .shape .ensures, c .before .before .before .before .before .rows .ensures) at (c .before .before .before .before .split-node .ensures)) (c .before .if1 .taken) (c .before .before .before .before .before .before .before .before .before .before .before .pre .0), c .before .before .before .before .before .before .before .before .before .before .before .pre .1)
+
+-- src/lib.rt:178:9
+same-length : tie.Need-same-length
+same-length c = c .before .before .before .before .before .split-node .kept .0
+
+-- src/lib.rt:178:9
+returns : tie.Need-returns
+returns c = rw (c .scan .ensures .1) (scan-done _ _ _ _ _ _ _ _ _ _ _ (rw (c .before .before .before .before .before .before .before .shape .ensures, c .before .before .before .before .before .before .rows .ensures) at (c .before .before .before .before .before .split-node .ensures)) (c .before .before .if1 .taken) _ _ (c .scan .ensures .0))
+
+-- src/lib.rt:180:34
+with-rows-requires : tie.Need-with-rows-requires
+with-rows-requires c κs = few-rows _ _ _ _ _ _ _ _ (branch-ready _ _ _ _ _ _ _ _ _ _ _ (rw (c .before .before .before .before .before .before .shape .ensures, c .before .before .before .before .before .rows .ensures) at (c .before .before .before .before .split-node .ensures)) (c .before .if1 .left) (c .before .before .before .before .before .before .before .before .before .before .before .pre .0))
+
+-- src/lib.rt:180:5
+search-requires : tie.Need-search-requires
+search-requires c κs = (rw (c .with-rows .ensures .0, c .with-rows .ensures .1 .0) (as-node _ _ _ _ _ _ _ _ (branch-ready _ _ _ _ _ _ _ _ _ _ _ (rw (c .before .before .before .before .before .before .before .shape .ensures, c .before .before .before .before .before .before .rows .ensures) at (c .before .before .before .before .before .split-node .ensures)) (c .before .before .if1 .left) (c .before .before .before .before .before .before .before .before .before .before .before .before .pre .0))), (c .with-rows .ensures .1 .1 ∙ c .before .before .before .before .before .before .before .before .before .before .before .before .pre .1, omega arith))
+
+-- src/lib.rt:171:1
+same-length-2 : tie.Need-same-length-2
+same-length-2 c = c .before .before .search .kept .0 ∙ c .before .before .before .before .before .before .before .before .split-node .kept .0
+
+-- src/lib.rt:171:1
+returns-2 : tie.Need-returns-2
+returns-2 c = branch-done _ _ _ _ _ _ _ _ _ _ _ (rw (c .before .before .before .before .before .before .before .before .before .before .shape .ensures, c .before .before .before .before .before .before .before .before .before .rows .ensures) at (c .before .before .before .before .before .before .before .before .split-node .ensures)) (c .before .before .before .before .before .if1 .left) _ _ _ _ (as-branch _ _ _ _ _ _ _ _ _ _ _ _ _ (rw (c .before .before .before .with-rows .ensures .0, c .before .before .before .with-rows .ensures .1 .0) at (c .before .before .search .ensures)))
+
+pub search-root-spec : {M : Type 1} → statement M
+search-root-spec =
+    tie.close
+    (tie.spec
+    shape-requires
+    rows-requires
+    split-node-requires
+    scan-requires
+    same-length
+    returns
+    with-rows-requires
+    search-requires
+    same-length-2
+    returns-2)
