@@ -5,29 +5,22 @@ use mathlib.Core.List.{List, [], _∷_, _++_}
 use mathlib.Core.Option.{Option, some}
 use mathlib.Core.Option as option
 use mathlib.Core.Logic.{_↔_}
-use Prim.Native.Nat.{ℕ, zero, suc, _+_, _-_, _%_, _≤_, _<_}
+use Prim.Native.Nat.{ℕ, zero, suc, _+_, _-_, _*_, _/_, _%_, _≤_, _<_}
 use native.Mathlib.Omega.{arith}
 use lib.Dec.{eqb}
-use lib.ListN.{length, getD, take, drop, length-drop}
+use lib.ListN.{length, getD, take, drop, length-drop, length-take}
 use lib.Seq.{drop-cons, drop-drop}
 use borrow.Author.Tests.{eq-eqb, ne-eqb, eqb-true, eqb-false}
 use Rattle.words.specs.Kinds.{kind, payload}
 use Rattle.words.specs.Words.{words}
-use Rattle.words.specs.Tables.{part}
-use Rattle.words.proofs.Laws.{length-words}
-use Rattle.monomial.specs.Monomial.{front, Canonical}
+use Rattle.words.proofs.Laws.{length-words, words-take, words-drop}
+use Rattle.monomial.specs.Monomial.{front, found, Canonical}
 use Rattle.monomial.proofs.Canon.{front-short}
 use Rattle.monomial.proofs.Laws.{front-canonical}
 use Rattle.index_theory.specs.Calls.{Call, listed, Request, Asked, refused, asks, bodyOf, calls, withIndex, withPart, atEnd}
 use Rattle.index_theory.proofs.Lists.{front-body}
-use Rattle.call_list.specs.Bodies.{none, IsList, Single, Paired, Tripled}
-use Rattle.call_list.specs.declared.Parts.{Parts}
-
-take-all : (n : ℕ) (b : List ℕ) → length b ≤ n → take n b ≡ b
-take-all zero [] h = refl
-take-all zero (x ∷ b) h = absurd (omega arith)
-take-all (suc n) [] h = refl
-take-all (suc n) (x ∷ b) h = ap (λ (l : List ℕ). x ∷ l) (take-all n b (omega arith))
+use Rattle.call_list.specs.Bodies.{none, IsList, Leads, Single, Paired, Tripled}
+use Rattle.call_list.specs.declared.Body.{Body}
 
 same : {x y : Asked} (g : Bool) → (g ≡ true → x ≡ y) → cond g x (refused 7) ≡ cond g y (refused 7)
 same true h = h refl
@@ -65,18 +58,6 @@ index-good w ws f h = rw (eq-eqb (kind w) 3 h)
 index-none : (f : ℕ → List ℕ → Asked) → withIndex [] f ≡ refused 7
 unfolding withIndex
 index-none f = refl
-
-take-part : (b : List ℕ) (n : ℕ) → take n b ≡ part b 0 n
-unfolding part
-take-part b n = refl
-
-part-behind : (w : ℕ) (ws : List ℕ) (i n : ℕ) → part (w ∷ ws) (suc i) n ≡ part ws i n
-unfolding part
-part-behind w ws i n = refl
-
-part-take : (b : List ℕ) (i n : ℕ) → part b i n ≡ take n (drop i b)
-unfolding part
-part-take b i n = refl
 
 part-canonical : (k m n : ℕ) (b : List ℕ) → 0 < k → n ≡ front k m 0 b → (n ≡ 0 → ⊥) → Canonical k m (take n b)
 part-canonical k m n b pos e h = rw e (front-canonical k m b pos (λ z. h (e ∙ z)))
@@ -125,117 +106,158 @@ nothing : (b : List ℕ) → length b ≡ 0 → b ≡ []
 nothing [] h = refl
 nothing (x ∷ b) h = absurd (omega arith)
 
--- a body at word `at` of the list W, that ends before word `end`
-module _ (W : List ℕ) (at end : ℕ) (inside : at ≤ length W) (ends : end ≡ at + length (bodyOf (drop at W))) where
-  abbrev B : List ℕ
-  B = bodyOf (drop at W)
-
-  -- ---- a monomial alone
-  module _ (m n : ℕ) (e : n ≡ front 1 m 0 (drop at W)) where
-    f-is : n ≡ front 1 m 0 (bodyOf (drop at W))
-    f-is = e ∙ sym (front-body 1 m 0 (drop at W) (omega arith))
-
-    pub single-bad : n ≡ 0 → Single m (bodyOf (drop at W)) false
-    single-bad z = record { asked = λ f. part-bad 1 m B (λ q ws. atEnd ws (f q)) (sym f-is ∙ z); canonical = no-true }
-
-    pub single-good : (n ≡ 0 → ⊥) → (g : Bool) → (g ≡ true → at + n ≡ end) → (g ≡ false → at + n ≡ end → ⊥) → Single m (bodyOf (drop at W)) g
-    single-good z g gt gf =
-        let short : n ≤ length B = omega (arith, front-short 1 m 0 B, f-is) in
-        let empty : Empty (drop n B) g = record { yes = λ t. simp length-drop (omega (arith, gt t)); no = λ t l. gf t (omega (arith, length-drop n B)) } in
-        let all : g ≡ true → take n B ≡ B = λ t. take-all n B (omega (arith, gt t)) in
-        record {
-          asked = λ f. part-good 1 m n B (λ q ws. atEnd ws (f q)) f-is z ∙ end-is (drop n B) (f (take n B)) g empty ∙ same g (λ t. ap (λ (q : List ℕ). asks (f q)) (all t));
-          canonical = λ t. rw (all t) at (part-canonical 1 m n B (omega arith) f-is z);
-        }
-
-  -- ---- an index word in front: the first word, and the body behind it
-  pub record Led (w : ℕ) : Type 0 where
-    pub is : bodyOf (drop at W) ≡ w ∷ bodyOf (drop (at + 1) W)
-    pub long : end ≡ at + 1 + length (bodyOf (drop (at + 1) W))
-    pub fits : at + 1 ≤ length W
-
-  pub led : (w : ℕ) → w ≡ getD W at 0 → at < end → Led w
-  led w ew h =
-      let b = body-most (drop at W) in
-      let fit : at < length W = omega (arith, ends, length-drop at W) in
-      let e1 : suc at ≡ at + 1 = omega arith in
-      let e : drop at W ≡ w ∷ drop (at + 1) W = drop-cons W at 0 fit ∙ rw (e1, ew) in
-      let q : bodyOf (w ∷ drop (at + 1) W) ≡ w ∷ bodyOf (drop (at + 1) W) = body-short w (drop (at + 1) W) (let l : 0 < length (bodyOf (drop at W)) = omega arith in rw e at l) in
-      let is : bodyOf (drop at W) ≡ w ∷ bodyOf (drop (at + 1) W) = ap bodyOf e ∙ q in
-      record { is = is; long = omega (arith, ap length is); fits = omega arith }
-
-  -- the part behind the index word, and the one behind that
-  pub first-front : (k m : ℕ) → k < 6 → front k m 0 (bodyOf (drop (at + 1) W)) ≡ front k m 0 (drop (at + 1) W)
-  first-front k m h = front-body k m 0 (drop (at + 1) W) h
-
-  pub second-front : (k m n : ℕ) → k < 6 → n ≡ front k m 0 (drop (at + 1) W) → front 1 m 0 (drop n (bodyOf (drop (at + 1) W))) ≡ front 1 m 0 (drop (at + 1 + n) W)
-  second-front k m n h e =
-      let short : n ≤ length (bodyOf (drop (at + 1) W)) = omega (arith, front-short k m 0 (bodyOf (drop (at + 1) W)), first-front k m h) in
-      rw (body-rest (drop (at + 1) W) n short, drop-drop n (at + 1) W) (front-body 1 m 0 (drop (at + 1 + n) W) (omega arith))
-
--- ---- what the parts of a body ask
 small-payload : (w : ℕ) → payload w < 268435456
 small-payload w = omega arith
 
-pub pair-none : (m : ℕ) (b : List ℕ) → length b ≡ 0 → Paired m b none
-pair-none m b h = rw (nothing b h) (record { asked = λ f. index-none _; index-small = omega arith; whole = no-true; canonical = no-true })
+-- ---- what is found at a place of the list L lies within the body there
+pub body-take : (ws : List ℕ) (n : ℕ) → n ≤ length (bodyOf ws) → take n (bodyOf ws) ≡ take n ws
+unfolding bodyOf
+body-take ws zero h = refl
+body-take [] (suc n) h = refl
+body-take (w ∷ ws) (suc n) h = go (eqb (kind w) 6) h (body-take ws n)
+  where
+    go : (t : Bool) → suc n ≤ length (cond t [] (w ∷ bodyOf ws)) → (n ≤ length (bodyOf ws) → take n (bodyOf ws) ≡ take n ws) → take (suc n) (cond t [] (w ∷ bodyOf ws)) ≡ w ∷ take n ws
+    go true l r = absurd (omega arith)
+    go false l r = ap (λ (l : List ℕ). w ∷ l) (r (omega arith))
 
-pub pair-kind : (m : ℕ) (b : List ℕ) (w : ℕ) (r : List ℕ) → b ≡ w ∷ r → (kind w ≡ 3 → ⊥) → Paired m b none
-pair-kind m b w r e h = rw e (record { asked = λ f. index-bad w r _ h; index-small = omega arith; whole = no-true; canonical = no-true })
+-- n words of it, the bytes x
+record Part (k m : ℕ) (L : List ℕ) (at : ℕ) (x : List ℕ) (n : ℕ) : Type 0 where
+  is : n ≡ front k m 0 (bodyOf (drop at (words L)))
+  bytes : length x ≡ 4 * n
+  few : n ≤ length (bodyOf (drop at (words L)))
+  are : take n (bodyOf (drop at (words L))) ≡ words x
 
-pub pair-bad : (m : ℕ) (b : List ℕ) (w : ℕ) (r : List ℕ) → b ≡ w ∷ r → kind w ≡ 3 → front 1 m 0 r ≡ 0 → Paired m b none
-pair-bad m b w r e h z = rw e (record { asked = λ f. index-good w r _ h ∙ part-bad 1 m r _ z; index-small = omega arith; whole = no-true; canonical = no-true })
+part-found : (k m : ℕ) (L : List ℕ) (at : ℕ) (x : List ℕ) → k < 6 → at ≤ length (words L) → x ≡ found k m L at → Part k m L at x (length x / 4)
+unfolding found
+part-found k m L at x h inside e =
+    let ws = drop at (words L) in
+    let f = front k m 0 ws in
+    let q : front k m 0 (bodyOf ws) ≡ f = front-body k m 0 ws h in
+    let few : f ≤ length (bodyOf ws) = omega (arith, front-short k m 0 (bodyOf ws)) in
+    let most : f ≤ length ws = omega (arith, front-short k m 0 ws) in
+    let room : 4 * f ≤ length (drop (4 * at) L) = omega (arith, length-drop at (words L), length-drop (4 * at) L, length-words L) in
+    let long : length x ≡ 4 * f = omega (arith, ap length e, length-take (4 * f) (drop (4 * at) L)) in
+    let n : length x / 4 ≡ f = omega (arith, long) in
+    let w : words x ≡ take f ws = ap words e ∙ words-take (drop (4 * at) L) f ∙ rw (words-drop L at) in
+    rw n (record { is = sym q; bytes = long; few = few; are = body-take ws f few ∙ sym w })
 
-pub pair-good : (m : ℕ) (b : List ℕ) (w : ℕ) (r : List ℕ) (n : ℕ) (g : Bool) → b ≡ w ∷ r → kind w ≡ 3 → n ≡ front 1 m 0 r → (n ≡ 0 → ⊥) → (g ≡ true → n ≡ length r) → (g ≡ false → n ≡ length r → ⊥)
-    → Paired m b (record { good = g; index = payload w; first = n; second = 0 })
-pair-good m b w r n g e h en z gt gf =
-    let short : n ≤ length r = omega (arith, front-short 1 m 0 r) in
-    let empty : Empty (drop n r) g = record { yes = λ t. simp length-drop (omega (arith, gt t)); no = λ t l. gf t (omega (arith, length-drop n r)) } in
-    let p : part (w ∷ r) 1 n ≡ take n r = part-behind w r 0 n ∙ sym (take-part r n) in
-    rw e (record {
-      asked = λ f. index-good w r _ h ∙ part-good 1 m n r _ en z ∙ end-is (drop n r) (f (payload w) (take n r)) g empty ∙ same g (λ t. ap (λ (q : List ℕ). asks (f (payload w) q)) (sym p));
-      index-small = small-payload w;
-      whole = λ t. omega (arith, gt t);
-      canonical = λ t. rw p (part-canonical 1 m n r (omega arith) en z);
-    })
+pub found-whole : (k m : ℕ) (L : List ℕ) (at : ℕ) (x : List ℕ) → x ≡ found k m L at → length x % 4 ≡ 0
+unfolding found
+found-whole k m L at x e =
+    let f = front k m 0 (drop at (words L)) in
+    let most : f ≤ length (drop at (words L)) = omega (arith, front-short k m 0 (drop at (words L))) in
+    omega (arith, ap length e, length-take (4 * f) (drop (4 * at) L), length-drop at (words L), length-drop (4 * at) L, length-words L)
 
-pub triple-none : (k m : ℕ) (b : List ℕ) → length b ≡ 0 → Tripled k m b none
-triple-none k m b h = rw (nothing b h) (record { asked = λ f. index-none _; index-small = omega arith; whole = no-true; first-canonical = no-true; second-canonical = no-true })
+-- ---- a body at word `at` of the list L, that ends before word `end`
+module _ (L : List ℕ) (at end : ℕ) (inside : at ≤ length (words L)) (ends : end ≡ at + length (bodyOf (drop at (words L)))) where
+  abbrev B : List ℕ
+  B = bodyOf (drop at (words L))
 
-pub triple-kind : (k m : ℕ) (b : List ℕ) (w : ℕ) (r : List ℕ) → b ≡ w ∷ r → (kind w ≡ 3 → ⊥) → Tripled k m b none
-triple-kind k m b w r e h = rw e (record { asked = λ f. index-bad w r _ h; index-small = omega arith; whole = no-true; first-canonical = no-true; second-canonical = no-true })
+  abbrev R : List ℕ
+  R = bodyOf (drop (at + 1) (words L))
 
-pub triple-first : (k m : ℕ) (b : List ℕ) (w : ℕ) (r : List ℕ) → b ≡ w ∷ r → kind w ≡ 3 → front k m 0 r ≡ 0 → Tripled k m b none
-triple-first k m b w r e h z = rw e (record { asked = λ f. index-good w r _ h ∙ part-bad k m r _ z; index-small = omega arith; whole = no-true; first-canonical = no-true; second-canonical = no-true })
+  -- ---- a monomial alone
+  module _ (m : ℕ) (x : List ℕ) (e : x ≡ found 1 m L at) where
+    pub single-bad : length x ≡ 0 → Single m B (words x) false
+    single-bad z =
+        let p = part-found 1 m L at x (omega arith) inside e in
+        record { asked = λ f. part-bad 1 m B (λ q ws. atEnd ws (f q)) (sym (p .is) ∙ omega arith); canonical = no-true }
 
-module _ (k m : ℕ) (b : List ℕ) (w : ℕ) (r : List ℕ) (n : ℕ) (pos : 0 < k) (e : b ≡ w ∷ r) (h : kind w ≡ 3) (en : n ≡ front k m 0 r) (z : n ≡ 0 → ⊥) where
-  pub triple-second : front 1 m 0 (drop n r) ≡ 0 → Tripled k m b none
-  triple-second y = rw e (record {
-    asked = λ f. index-good w r _ h ∙ part-good k m n r _ en z ∙ part-bad 1 m (drop n r) _ y;
-    index-small = omega arith;
-    whole = no-true;
-    first-canonical = no-true;
-    second-canonical = no-true;
-  })
+    pub single-good : (length x ≡ 0 → ⊥) → (g : Bool) → (g ≡ true → at + length x / 4 ≡ end) → (g ≡ false → at + length x / 4 ≡ end → ⊥) → Single m B (words x) g
+    single-good z g gt gf =
+        let p = part-found 1 m L at x (omega arith) inside e in
+        let n = length x / 4 in
+        let some : n ≡ 0 → ⊥ = λ y. z (omega (arith, p .bytes)) in
+        let empty : Empty (drop n B) g = record { yes = λ t. simp length-drop (omega (arith, gt t)); no = λ t l. gf t (omega (arith, length-drop n B, p .few)) } in
+        record {
+          asked = λ f. part-good 1 m n B (λ q ws. atEnd ws (f q)) (p .is) some ∙ end-is (drop n B) (f (take n B)) g empty ∙ same g (λ t. ap (λ (q : List ℕ). asks (f q)) (p .are));
+          canonical = λ t. rw (p .are) at (part-canonical 1 m n B (omega arith) (p .is) some);
+        }
 
-  pub triple-good : (x : ℕ) (g : Bool) → x ≡ front 1 m 0 (drop n r) → (x ≡ 0 → ⊥) → (g ≡ true → n + x ≡ length r) → (g ≡ false → n + x ≡ length r → ⊥)
-      → Tripled k m b (record { good = g; index = payload w; first = n; second = x })
-  triple-good x g ex y gt gf =
-      let short : n ≤ length r = omega (arith, front-short k m 0 r) in
-      let shorter : x ≤ length (drop n r) = omega (arith, front-short 1 m 0 (drop n r)) in
-      let long : length (drop n r) ≡ length r - n = length-drop n r in
-      let empty : Empty (drop x (drop n r)) g = record { yes = λ t. simp length-drop (omega (arith, gt t)); no = λ t l. gf t (omega (arith, length-drop x (drop n r))) } in
-      let p : part (w ∷ r) 1 n ≡ take n r = part-behind w r 0 n ∙ sym (take-part r n) in
-      let e1 : 1 + n ≡ suc n = omega arith in
-      let q : part (w ∷ r) (1 + n) x ≡ take x (drop n r) = rw e1 (part-behind w r n x ∙ part-take r n x) in
-      rw e (record {
-        asked = λ f. index-good w r _ h ∙ part-good k m n r _ en z ∙ part-good 1 m x (drop n r) _ ex y ∙ end-is (drop x (drop n r)) (f (payload w) (take n r) (take x (drop n r))) g empty
-            ∙ same g (λ t. rw (p, q));
-        index-small = small-payload w;
-        whole = λ t. omega (arith, gt t);
-        first-canonical = λ t. rw p (part-canonical k m n r pos en z);
-        second-canonical = λ t. rw q (part-canonical 1 m x (drop n r) (omega arith) ex y);
-      })
+  -- ---- an index word in front
+  pub leads-none : end ≤ at → Leads B R none
+  leads-none h = rw (nothing B (omega arith)) (record { asked = λ f. index-none f; index-small = omega arith; long = no-true })
+
+  module _ (w : ℕ) (ew : w ≡ getD (words L) at 0) (h : at < end) where
+    led : B ≡ w ∷ R
+    led =
+        let fit : at < length (words L) = omega (arith, ends, length-drop at (words L), body-most (drop at (words L))) in
+        let e1 : suc at ≡ at + 1 = omega arith in
+        let e : drop at (words L) ≡ w ∷ drop (at + 1) (words L) = drop-cons (words L) at 0 fit ∙ rw (e1, ew) in
+        let l : 0 < length (bodyOf (drop at (words L))) = omega arith in
+        ap bodyOf e ∙ body-short w (drop (at + 1) (words L)) (rw e at l)
+
+    pub leads-other : (kind w ≡ 3 → ⊥) → Leads B R none
+    leads-other k = rw led (record { asked = λ f. index-bad w R f k; index-small = omega arith; long = no-true })
+
+    pub leads : kind w ≡ 3 → (i : ℕ) → i ≡ payload w → Leads B R (record { good = true; index = i })
+    leads k i ei = rw (led, ei) (record { asked = λ f. index-good w R f k; index-small = small-payload w; long = λ t. omega arith })
+
+  -- ---- and the parts behind it
+  module _ (p : Body) (l : Leads B R p) where
+    pub paired-none : (m : ℕ) (x : List ℕ) → p .good ≡ false → Paired m B x p
+    paired-none m x h = record { asked = λ f. l .asked _ ∙ rw h; index-small = l .index-small; canonical = λ t. no-true (sym h ∙ t) }
+
+    pub tripled-none : (k m : ℕ) (x y : List ℕ) → p .good ≡ false → Tripled k m B x y p
+    tripled-none k m x y h = record { asked = λ f. l .asked _ ∙ rw h; index-small = l .index-small; first-canonical = λ t. no-true (sym h ∙ t); second-canonical = λ t. no-true (sym h ∙ t) }
+
+    module _ (h : p .good ≡ true) where
+      -- where the rest of the body stands
+      pub rest-fits : at + 1 ≤ length (words L)
+      rest-fits = omega (arith, l .long h, body-most (drop at (words L)), length-drop at (words L))
+
+      pub rest-ends : end ≡ at + 1 + length R
+      rest-ends = omega (arith, l .long h)
+
+      pub paired : (m : ℕ) (x : List ℕ) (g : Bool) → Single m R x g → Paired m B x (record { good = g; index = p .index })
+      paired m x g s = record { asked = λ f. l .asked _ ∙ rw h (s .asked (f (p .index))); index-small = l .index-small; canonical = s .canonical }
+
+      module _ (k m : ℕ) (x y : List ℕ) (pos : 0 < k) (few : k < 6) (ex : x ≡ found k m L (at + 1)) where
+        first : Part k m L (at + 1) x (length x / 4)
+        first = part-found k m L (at + 1) x few rest-fits ex
+
+        pub no-first : length x ≡ 0 → Tripled k m B (words x) (words y) none
+        no-first z = record {
+          asked = λ f. l .asked _ ∙ rw h (part-bad k m R _ (sym (first .is) ∙ omega arith));
+          index-small = omega arith;
+          first-canonical = no-true;
+          second-canonical = no-true;
+        }
+
+        -- the second part
+        module _ (z : length x ≡ 0 → ⊥) where
+          abbrev n : ℕ
+          n = length x / 4
+
+          long-one : n ≡ 0 → ⊥
+          long-one q = z (omega (arith, first .bytes))
+
+          pub second-fits : at + 1 + n ≤ length (words L)
+          second-fits = omega (arith, first .few, rest-fits, body-most (drop (at + 1) (words L)), length-drop (at + 1) (words L))
+
+          behind : drop n R ≡ bodyOf (drop (at + 1 + n) (words L))
+          behind = body-rest (drop (at + 1) (words L)) n (first .few) ∙ rw (drop-drop n (at + 1) (words L))
+
+          pub second-ends : end ≡ at + 1 + n + length (bodyOf (drop (at + 1 + n) (words L)))
+          second-ends = omega (arith, rest-ends, first .few, length-drop n R, ap length behind)
+
+          pub no-second : y ≡ found 1 m L (at + 1 + n) → length y ≡ 0 → Tripled k m B (words x) (words y) none
+          no-second ey q =
+              let p₂ = part-found 1 m L (at + 1 + n) y (omega arith) second-fits ey in
+              record {
+                asked = λ f. l .asked _ ∙ rw h (part-good k m n R _ (first .is) long-one ∙ part-bad 1 m (drop n R) _ (rw behind (sym (p₂ .is) ∙ omega arith)));
+                index-small = omega arith;
+                first-canonical = no-true;
+                second-canonical = no-true;
+              }
+
+          pub tripled : (g : Bool) → Single m (bodyOf (drop (at + 1 + n) (words L))) (words y) g → Tripled k m B (words x) (words y) (record { good = g; index = p .index })
+          tripled g s = record {
+            asked = λ f. l .asked _ ∙ rw h (part-good k m n R _ (first .is) long-one ∙ rw (behind, first .are) (s .asked (f (p .index) (words x))));
+            index-small = l .index-small;
+            first-canonical = λ t. rw (first .are) at (part-canonical k m n R pos (first .is) long-one);
+            second-canonical = s .canonical;
+          }
 
 -- ---- question 4, and the calls counted
 listed-nil : listed (words []) ≡ some []

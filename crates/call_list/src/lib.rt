@@ -3,30 +3,27 @@ ghost use mathlib.Core.Path.{_≡_};
 ghost use mathlib.Core.Bool.{true, cond};
 ghost use mathlib.Core.List.{List};
 ghost use mathlib.Core.Logic.{_↔_};
-ghost use Prim.Native.Nat.{ℕ, _+_, _≤_};
+ghost use Prim.Native.Nat.{ℕ, _+_, _/_, _≤_, _<_};
 ghost use lib.Dec.{eqb};
 ghost use lib.ListN.{length, drop};
 ghost use Rattle.words.specs.Kinds.{kind};
 ghost use Rattle.words.specs.Words.{words};
+ghost use Rattle.monomial.specs.Monomial.{found};
 ghost use Rattle.index_theory.specs.Calls.{bodyOf, calls, Request};
-ghost use Rattle.call_list.specs.Bodies.{none, IsList, Single, Paired, Tripled};
+ghost use Rattle.call_list.specs.Bodies.{none, IsList, Leads, Single, Paired, Tripled};
 
-// The number of words of two parts behind an index word; whether they make up a body.
-pub struct Parts {
+// Whether a body is an index word and the parts found behind it, and nothing else; and that index.
+pub struct Body {
     pub good: bool,
     pub index: u32,
-    pub first: usize,
-    pub second: usize,
 }
 
-fn no_parts() -> Parts
+fn no_body() -> Body
     ensures { λ r. ⌜ r ≡ none ⌝ }
 {
-    Parts {
+    Body {
         good: false,
         index: 0,
-        first: 0,
-        second: 0,
     }
 }
 
@@ -80,70 +77,71 @@ pub fn body_end(list: &[u8], at: usize) -> usize
     i
 }
 
-// Whether the body from word `at` up to `end` is exactly one canonical monomial.
-pub fn single(list: &[u8], at: usize, end: usize, variables: u32) -> bool
+// Whether the body from word `at` up to `end` is exactly the monomial x, as the finder hands it back there.
+pub fn single(list: &[u8], at: usize, end: usize, x: &[u8]) -> bool
     requires { ⌜ at ≤ length (words (now list)) ⌝ }
     requires { ⌜ end ≡ at + length (bodyOf (drop at (words (now list)))) ⌝ }
-    ensures { λ r. ⌜ Single variables (bodyOf (drop at (words (now (list .entry))))) r ⌝ }
+    ensures { λ r. ⌜ ((m : ℕ) → now (x .entry) ≡ found 1 m (now (list .entry)) at → Single m (bodyOf (drop at (words (now (list .entry))))) (words (now (x .entry))) r) ⌝ }
 {
-    let n = monomial::canonical_words(list, at, 1, variables);
-    if n == 0 {
+    if x.len() == 0 {
         return false;
     }
-    at + n == end
+    at + x.len() / 4 == end
 }
 
-// An index word and a canonical monomial, if that is the whole body.
-pub fn pair(list: &[u8], at: usize, end: usize, variables: u32) -> Parts
+// The index word that a body begins with.
+fn index_of(list: &[u8], at: usize, end: usize) -> Body
     requires { ⌜ at ≤ length (words (now list)) ⌝ }
     requires { ⌜ end ≡ at + length (bodyOf (drop at (words (now list)))) ⌝ }
-    ensures { λ r. ⌜ Paired variables (bodyOf (drop at (words (now (list .entry))))) r ⌝ }
+    ensures { λ r. ⌜ Leads (bodyOf (drop at (words (now (list .entry))))) (bodyOf (drop (at + 1) (words (now (list .entry))))) r ⌝ }
 {
     if end <= at {
-        return no_parts();
+        return no_body();
     }
     let w = words::get(list, at);
     if words::kind(w) != 3 {
-        return no_parts();
+        return no_body();
     }
-    let n = monomial::canonical_words(list, at + 1, 1, variables);
-    if n == 0 {
-        return no_parts();
-    }
-    Parts {
-        good: at + 1 + n == end,
+    Body {
+        good: true,
         index: words::payload(w),
-        first: n,
-        second: 0,
     }
 }
 
-// An index word, a canonical monomial (kind 1) or ratio (kind 2), and a canonical monomial, if that is the whole body.
-pub fn triple(list: &[u8], at: usize, end: usize, kind: u32, variables: u32) -> Parts
-    requires { ⌜ (1 ≤ kind) × (kind ≤ 2) ⌝ }
+// Whether it is an index word and the monomial x found behind it.
+pub fn pair(list: &[u8], at: usize, end: usize, x: &[u8]) -> Body
     requires { ⌜ at ≤ length (words (now list)) ⌝ }
     requires { ⌜ end ≡ at + length (bodyOf (drop at (words (now list)))) ⌝ }
-    ensures { λ r. ⌜ Tripled kind variables (bodyOf (drop at (words (now (list .entry))))) r ⌝ }
+    ensures { λ r. ⌜ ((m : ℕ) → now (x .entry) ≡ found 1 m (now (list .entry)) (at + 1) → Paired m (bodyOf (drop at (words (now (list .entry))))) (words (now (x .entry))) r) ⌝ }
 {
-    if end <= at {
-        return no_parts();
+    let b = index_of(list, at, end);
+    if !b.good {
+        return b;
     }
-    let w = words::get(list, at);
-    if words::kind(w) != 3 {
-        return no_parts();
+    Body {
+        good: single(list, at + 1, end, x),
+        index: b.index,
     }
-    let n = monomial::canonical_words(list, at + 1, kind, variables);
-    if n == 0 {
-        return no_parts();
+}
+
+// Whether it is an index word, the monomial or ratio x found behind it and the monomial y found behind that.
+pub fn triple(list: &[u8], at: usize, end: usize, x: &[u8], y: &[u8]) -> Body
+    requires { ⌜ at ≤ length (words (now list)) ⌝ }
+    requires { ⌜ end ≡ at + length (bodyOf (drop at (words (now list)))) ⌝ }
+    ensures { λ r. ⌜ ((k m : ℕ) → 0 < k → k < 6 → now (x .entry) ≡ found k m (now (list .entry)) (at + 1) → now (y .entry) ≡ found 1 m (now (list .entry)) (at + 1 + length (now (x .entry)) / 4) → Tripled k m (bodyOf (drop at (words (now (list .entry))))) (words (now (x .entry))) (words (now (y .entry))) r) ⌝ }
+{
+    let b = index_of(list, at, end);
+    if !b.good {
+        return b;
     }
-    let m = monomial::canonical_words(list, at + 1 + n, 1, variables);
-    if m == 0 {
-        return no_parts();
+    if x.len() == 0 {
+        return no_body();
     }
-    Parts {
-        good: at + 1 + n + m == end,
-        index: words::payload(w),
-        first: n,
-        second: m,
+    if y.len() == 0 {
+        return no_body();
+    }
+    Body {
+        good: at + 1 + x.len() / 4 + y.len() / 4 == end,
+        index: b.index,
     }
 }

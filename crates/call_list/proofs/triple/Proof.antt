@@ -1,128 +1,66 @@
 use native.Mathlib.Omega.{arith}
-use mathlib.Core.List.{List}
-use mathlib.Core.Path.{_≡_, refl, sym, ap, _∙_}
-use Prim.Native.Nat.{ℕ, _≤_, _+_, _*_, _-_, _/_}
-use lib.ListN.{length, drop, length-drop}
-use borrow.Author.Tests.{eqb-true, eqb-false}
-use Rattle.words.specs.Words.{words}
 use Rattle.words.proofs.Laws.{length-words}
-use Rattle.monomial.specs.Monomial.{front}
-use Rattle.monomial.proofs.Canon.{front-short}
-use Rattle.index_theory.specs.Calls.{bodyOf}
-use Rattle.call_list.specs.Bodies.{Paired, Tripled}
-use Rattle.call_list.proofs.Parting as parting
+use borrow.Author.Tests.{not-true, not-false, eqb-true, eqb-false}
+use Rattle.call_list.proofs.Parting.{tripled-none, no-first, no-second, tripled, second-fits, second-ends, single-good}
 use borrow.Author.Needs.{needs}
 use Rattle.call_list.proofs.triple.Statement.{statement}
 use Rattle.call_list.proofs.triple.Tie as tie
 use Rattle.call_list.proofs.triple.Reads as reads
 use Rattle.call_list.proofs.triple.Lts as lts
-use Rattle.call_list.proofs.no_parts.Reads as no-parts-reads
-use Rattle.monomial.proofs.canonical_words.Reads as canonical-words-reads
-use Rattle.words.proofs.get.Reads as get-reads
-use Rattle.words.proofs.kind.Reads as kind-reads
-use Rattle.words.proofs.payload.Reads as payload-reads
+use Rattle.call_list.proofs.index_of.Reads as index-of-reads
+use Rattle.call_list.proofs.no_body.Reads as no-body-reads
 
--- src/lib.rt:122:9
-no-parts-requires : tie.Need-no-parts-requires
-no-parts-requires c κs = search needs
+-- src/lib.rt:133:9
+index-of-requires : tie.Need-index-of-requires
+index-of-requires c κs = search needs
 
--- src/lib.rt:122:9
+-- src/lib.rt:135:9
 returns : tie.Need-returns
-returns c = rw (c .no-parts .ensures) (parting.triple-none (c .before .before .before .args .kind) (c .before .before .before .args .variables) (bodyOf (drop (c .before .before .before .args .at) (words (c .before .before .before .args .list .now)))) (omega (arith, c .before .if1 .taken, c .before .before .before .pre .1 .1)))
+returns c = λ k m pos few ex ey. tripled-none _ _ _ (c .before .before .before .before .before .before .pre .0) (c .before .before .before .before .before .before .pre .1) _ (c .before .before .index-of .ensures) k m _ _ (not-true _ (c .if1 .taken))
 
--- src/lib.rt:124:9
-get-requires : tie.Need-get-requires
-get-requires c κs = omega (arith, c .if1 .left, c .before .before .pre .1 .1, parting.body-most (drop (c .before .before .args .at) (words (c .before .before .args .list .now))), length-drop (c .before .before .args .at) (words (c .before .before .args .list .now)), length-words (c .before .before .args .list .now))
+-- src/lib.rt:138:9
+no-body-requires : tie.Need-no-body-requires
+no-body-requires c κs = search needs
 
--- src/lib.rt:125:8
-kind-requires : tie.Need-kind-requires
-kind-requires c κs = search needs
-
--- src/lib.rt:126:9
-no-parts-requires-2 : tie.Need-no-parts-requires-2
-no-parts-requires-2 c κs = search needs
-
--- src/lib.rt:126:9
+-- src/lib.rt:138:9
 returns-2 : tie.Need-returns-2
-returns-2 c = rw (c .no-parts2 .ensures) (parting.triple-kind (c .before .before .before .before .before .before .args .kind) (c .before .before .before .before .before .before .args .variables) (bodyOf (drop (c .before .before .before .before .before .before .args .at) (words (c .before .before .before .before .before .before .args .list .now)))) (c .before .before .before .get .result) (bodyOf (drop ((c .before .before .before .before .before .before .args .at) + 1) (words (c .before .before .before .before .before .before .args .list .now)))) (parting.led (words (c .before .before .before .before .before .before .args .list .now)) (c .before .before .before .before .before .before .args .at) (c .before .before .before .before .before .before .args .end) (c .before .before .before .before .before .before .pre .1 .0) (c .before .before .before .before .before .before .pre .1 .1) (c .before .before .before .get .result) (c .before .before .before .get .ensures) (omega (arith, c .before .before .before .before .if1 .left)) .is) (λ z. omega (arith, c .before .if2 .taken, c .before .before .kind .ensures, z)))
+returns-2 c = λ k m pos few ex ey. rw (c .no-body .ensures) (no-first _ _ _ (c .before .before .before .before .before .before .before .before .pre .0) (c .before .before .before .before .before .before .before .before .pre .1) _ (c .before .before .before .before .index-of .ensures) (not-false _ (c .before .before .if1 .left)) k m (c .before .before .before .before .before .before .before .before .args .x .now) (c .before .before .before .before .before .before .before .before .args .y .now) pos few ex (c .before .if2 .taken))
 
--- src/lib.rt:128:45
-add-canonical-words : tie.Need-add-canonical-words
-add-canonical-words c = search needs
+-- src/lib.rt:141:9
+no-body-requires-2 : tie.Need-no-body-requires-2
+no-body-requires-2 c κs = search needs
 
--- src/lib.rt:128:9
-canonical-words-requires : tie.Need-canonical-words-requires
-canonical-words-requires c κs = search needs
-
--- src/lib.rt:130:9
-no-parts-requires-3 : tie.Need-no-parts-requires-3
-no-parts-requires-3 c κs = search needs
-
--- src/lib.rt:130:9
+-- src/lib.rt:141:9
 returns-3 : tie.Need-returns-3
-returns-3 c = rw (c .no-parts3 .ensures) (parting.triple-first (c .before .before .before .before .before .before .before .before .args .kind) (c .before .before .before .before .before .before .before .before .args .variables) (bodyOf (drop (c .before .before .before .before .before .before .before .before .args .at) (words (c .before .before .before .before .before .before .before .before .args .list .now)))) (c .before .before .before .before .before .get .result) (bodyOf (drop ((c .before .before .before .before .before .before .before .before .args .at) + 1) (words (c .before .before .before .before .before .before .before .before .args .list .now)))) (parting.led (words (c .before .before .before .before .before .before .before .before .args .list .now)) (c .before .before .before .before .before .before .before .before .args .at) (c .before .before .before .before .before .before .before .before .args .end) (c .before .before .before .before .before .before .before .before .pre .1 .0) (c .before .before .before .before .before .before .before .before .pre .1 .1) (c .before .before .before .before .before .get .result) (c .before .before .before .before .before .get .ensures) (omega (arith, c .before .before .before .before .before .before .if1 .left)) .is) (omega (arith, c .before .before .before .if2 .left, c .before .before .before .before .kind .ensures)) (parting.first-front (words (c .before .before .before .before .before .before .before .before .args .list .now)) (c .before .before .before .before .before .before .before .before .args .at) (c .before .before .before .before .before .before .before .before .args .end) (c .before .before .before .before .before .before .before .before .pre .1 .0) (c .before .before .before .before .before .before .before .before .pre .1 .1) (c .before .before .before .before .before .before .before .before .args .kind) (c .before .before .before .before .before .before .before .before .args .variables) (omega (arith, c .before .before .before .before .before .before .before .before .pre .0 .1)) ∙ sym (c .before .before .canonical-words .ensures) ∙ omega (arith, c .before .if3 .taken)))
+returns-3 c = λ k m pos few ex ey. rw (c .no-body2 .ensures) (no-second _ _ _ (c .before .before .before .before .before .before .before .before .before .pre .0) (c .before .before .before .before .before .before .before .before .before .pre .1) _ (c .before .before .before .before .before .index-of .ensures) (not-false _ (c .before .before .before .if1 .left)) k m (c .before .before .before .before .before .before .before .before .before .args .x .now) (c .before .before .before .before .before .before .before .before .before .args .y .now) pos few ex (c .before .before .if2 .left) ey (c .before .if3 .taken))
 
--- src/lib.rt:132:45
-add-canonical-words-2 : tie.Need-add-canonical-words-2
-add-canonical-words-2 c = search needs
+-- src/lib.rt:144:15
+add-t8 : tie.Need-add-t8
+add-t8 c = omega (arith, c .before .before .before .before .before .before .before .before .good, c .before .before .before .before .before .before .before .before .pre .0, length-words (c .before .before .before .before .before .before .before .before .args .list .now))
 
--- src/lib.rt:132:45
-add-canonical-words-3 : tie.Need-add-canonical-words-3
-add-canonical-words-3 c = omega (arith, c .before .canonical-words .ensures, front-short (c .before .before .before .before .before .before .before .args .kind) (c .before .before .before .before .before .before .before .args .variables) 0 (drop ((c .before .before .before .before .before .before .before .args .at) + 1) (words (c .before .before .before .before .before .before .before .args .list .now))), length-drop ((c .before .before .before .before .before .before .before .args .at) + 1) (words (c .before .before .before .before .before .before .before .args .list .now)), parting.led (words (c .before .before .before .before .before .before .before .args .list .now)) (c .before .before .before .before .before .before .before .args .at) (c .before .before .before .before .before .before .before .args .end) (c .before .before .before .before .before .before .before .pre .1 .0) (c .before .before .before .before .before .before .before .pre .1 .1) (c .before .before .before .before .get .result) (c .before .before .before .before .get .ensures) (omega (arith, c .before .before .before .before .before .if1 .left)) .fits, length-words (c .before .before .before .before .before .before .before .args .list .now))
-
--- src/lib.rt:132:9
-canonical-words-requires-2 : tie.Need-canonical-words-requires-2
-canonical-words-requires-2 c κs = search needs
-
--- src/lib.rt:134:9
-no-parts-requires-4 : tie.Need-no-parts-requires-4
-no-parts-requires-4 c κs = search needs
-
--- src/lib.rt:134:9
-returns-4 : tie.Need-returns-4
-returns-4 c = let l = parting.led (words (c .before .before .before .before .before .before .before .before .before .before .args .list .now)) (c .before .before .before .before .before .before .before .before .before .before .args .at) (c .before .before .before .before .before .before .before .before .before .before .args .end) (c .before .before .before .before .before .before .before .before .before .before .pre .1 .0) (c .before .before .before .before .before .before .before .before .before .before .pre .1 .1) (c .before .before .before .before .before .before .before .get .result) (c .before .before .before .before .before .before .before .get .ensures) (omega (arith, c .before .before .before .before .before .before .before .before .if1 .left)) in rw (c .no-parts4 .ensures) (parting.triple-second (c .before .before .before .before .before .before .before .before .before .before .args .kind) (c .before .before .before .before .before .before .before .before .before .before .args .variables) (bodyOf (drop (c .before .before .before .before .before .before .before .before .before .before .args .at) (words (c .before .before .before .before .before .before .before .before .before .before .args .list .now)))) (c .before .before .before .before .before .before .before .get .result) (bodyOf (drop ((c .before .before .before .before .before .before .before .before .before .before .args .at) + 1) (words (c .before .before .before .before .before .before .before .before .before .before .args .list .now)))) (c .before .before .before .before .canonical-words .result) (c .before .before .before .before .before .before .before .before .before .before .pre .0 .0) (l .is) (omega (arith, c .before .before .before .before .before .if2 .left, c .before .before .before .before .before .before .kind .ensures)) (c .before .before .before .before .canonical-words .ensures ∙ sym (parting.first-front (words (c .before .before .before .before .before .before .before .before .before .before .args .list .now)) (c .before .before .before .before .before .before .before .before .before .before .args .at) (c .before .before .before .before .before .before .before .before .before .before .args .end) (c .before .before .before .before .before .before .before .before .before .before .pre .1 .0) (c .before .before .before .before .before .before .before .before .before .before .pre .1 .1) (c .before .before .before .before .before .before .before .before .before .before .args .kind) (c .before .before .before .before .before .before .before .before .before .before .args .variables) (omega (arith, c .before .before .before .before .before .before .before .before .before .before .pre .0 .1)))) (λ z. omega (arith, c .before .before .before .if3 .left, z)) (parting.second-front (words (c .before .before .before .before .before .before .before .before .before .before .args .list .now)) (c .before .before .before .before .before .before .before .before .before .before .args .at) (c .before .before .before .before .before .before .before .before .before .before .args .end) (c .before .before .before .before .before .before .before .before .before .before .pre .1 .0) (c .before .before .before .before .before .before .before .before .before .before .pre .1 .1) (c .before .before .before .before .before .before .before .before .before .before .args .kind) (c .before .before .before .before .before .before .before .before .before .before .args .variables) (c .before .before .before .before .canonical-words .result) (omega (arith, c .before .before .before .before .before .before .before .before .before .before .pre .0 .1)) (c .before .before .before .before .canonical-words .ensures) ∙ sym (c .before .before .canonical-words2 .ensures) ∙ omega (arith, c .before .if4 .taken)))
-
--- src/lib.rt:137:15
-add-t12 : tie.Need-add-t12
-add-t12 c = search needs
-
--- src/lib.rt:137:15
+-- src/lib.rt:144:15
 add-t11 : tie.Need-add-t11
-add-t11 c = omega (arith, c .before .before .before .canonical-words .ensures, front-short (c .before .before .before .before .before .before .before .before .before .args .kind) (c .before .before .before .before .before .before .before .before .before .args .variables) 0 (drop ((c .before .before .before .before .before .before .before .before .before .args .at) + 1) (words (c .before .before .before .before .before .before .before .before .before .args .list .now))), length-drop ((c .before .before .before .before .before .before .before .before .before .args .at) + 1) (words (c .before .before .before .before .before .before .before .before .before .args .list .now)), parting.led (words (c .before .before .before .before .before .before .before .before .before .args .list .now)) (c .before .before .before .before .before .before .before .before .before .args .at) (c .before .before .before .before .before .before .before .before .before .args .end) (c .before .before .before .before .before .before .before .before .before .pre .1 .0) (c .before .before .before .before .before .before .before .before .before .pre .1 .1) (c .before .before .before .before .before .before .get .result) (c .before .before .before .before .before .before .get .ensures) (omega (arith, c .before .before .before .before .before .before .before .if1 .left)) .fits, length-words (c .before .before .before .before .before .before .before .before .before .args .list .now))
+add-t11 c = omega (arith, c .before .before .before .before .before .before .before .before .good, c .before .before .before .before .before .before .before .before .pre .0, length-words (c .before .before .before .before .before .before .before .before .args .list .now))
 
--- src/lib.rt:137:15
-add-t13 : tie.Need-add-t13
-add-t13 c = omega (arith, c .before .before .before .canonical-words .ensures, front-short (c .before .before .before .before .before .before .before .before .before .args .kind) (c .before .before .before .before .before .before .before .before .before .args .variables) 0 (drop ((c .before .before .before .before .before .before .before .before .before .args .at) + 1) (words (c .before .before .before .before .before .before .before .before .before .args .list .now))), length-drop ((c .before .before .before .before .before .before .before .before .before .args .at) + 1) (words (c .before .before .before .before .before .before .before .before .before .args .list .now)), parting.led (words (c .before .before .before .before .before .before .before .before .before .args .list .now)) (c .before .before .before .before .before .before .before .before .before .args .at) (c .before .before .before .before .before .before .before .before .before .args .end) (c .before .before .before .before .before .before .before .before .before .pre .1 .0) (c .before .before .before .before .before .before .before .before .before .pre .1 .1) (c .before .before .before .before .before .before .get .result) (c .before .before .before .before .before .before .get .ensures) (omega (arith, c .before .before .before .before .before .before .before .if1 .left)) .fits, length-words (c .before .before .before .before .before .before .before .before .before .args .list .now), c .before .canonical-words2 .ensures, front-short 1 (c .before .before .before .before .before .before .before .before .before .args .variables) 0 (drop ((c .before .before .before .before .before .before .before .before .before .args .at) + 1 + (c .before .before .before .canonical-words .result)) (words (c .before .before .before .before .before .before .before .before .before .args .list .now))), length-drop ((c .before .before .before .before .before .before .before .before .before .args .at) + 1 + (c .before .before .before .canonical-words .result)) (words (c .before .before .before .before .before .before .before .before .before .args .list .now)))
+-- src/lib.rt:144:15
+add-t14 : tie.Need-add-t14
+add-t14 c = omega (arith, c .before .before .before .before .before .before .before .before .good, c .before .before .before .before .before .before .before .before .pre .0, length-words (c .before .before .before .before .before .before .before .before .args .list .now))
 
--- src/lib.rt:138:16
-payload-requires : tie.Need-payload-requires
-payload-requires c κs = search needs
-
--- src/lib.rt:115:1
-returns-5 : tie.Need-returns-5
-returns-5 c = let l = parting.led (words (c .before .before .before .before .before .before .before .before .before .before .args .list .now)) (c .before .before .before .before .before .before .before .before .before .before .args .at) (c .before .before .before .before .before .before .before .before .before .before .args .end) (c .before .before .before .before .before .before .before .before .before .before .pre .1 .0) (c .before .before .before .before .before .before .before .before .before .before .pre .1 .1) (c .before .before .before .before .before .before .before .get .result) (c .before .before .before .before .before .before .before .get .ensures) (omega (arith, c .before .before .before .before .before .before .before .before .if1 .left)) in rw (c .payload .ensures) (parting.triple-good (c .before .before .before .before .before .before .before .before .before .before .args .kind) (c .before .before .before .before .before .before .before .before .before .before .args .variables) (bodyOf (drop (c .before .before .before .before .before .before .before .before .before .before .args .at) (words (c .before .before .before .before .before .before .before .before .before .before .args .list .now)))) (c .before .before .before .before .before .before .before .get .result) (bodyOf (drop ((c .before .before .before .before .before .before .before .before .before .before .args .at) + 1) (words (c .before .before .before .before .before .before .before .before .before .before .args .list .now)))) (c .before .before .before .before .canonical-words .result) (c .before .before .before .before .before .before .before .before .before .before .pre .0 .0) (l .is) (omega (arith, c .before .before .before .before .before .if2 .left, c .before .before .before .before .before .before .kind .ensures)) (c .before .before .before .before .canonical-words .ensures ∙ sym (parting.first-front (words (c .before .before .before .before .before .before .before .before .before .before .args .list .now)) (c .before .before .before .before .before .before .before .before .before .before .args .at) (c .before .before .before .before .before .before .before .before .before .before .args .end) (c .before .before .before .before .before .before .before .before .before .before .pre .1 .0) (c .before .before .before .before .before .before .before .before .before .before .pre .1 .1) (c .before .before .before .before .before .before .before .before .before .before .args .kind) (c .before .before .before .before .before .before .before .before .before .before .args .variables) (omega (arith, c .before .before .before .before .before .before .before .before .before .before .pre .0 .1)))) (λ z. omega (arith, c .before .before .before .if3 .left, z)) (c .before .before .canonical-words2 .result) _ (c .before .before .canonical-words2 .ensures ∙ sym (parting.second-front (words (c .before .before .before .before .before .before .before .before .before .before .args .list .now)) (c .before .before .before .before .before .before .before .before .before .before .args .at) (c .before .before .before .before .before .before .before .before .before .before .args .end) (c .before .before .before .before .before .before .before .before .before .before .pre .1 .0) (c .before .before .before .before .before .before .before .before .before .before .pre .1 .1) (c .before .before .before .before .before .before .before .before .before .before .args .kind) (c .before .before .before .before .before .before .before .before .before .before .args .variables) (c .before .before .before .before .canonical-words .result) (omega (arith, c .before .before .before .before .before .before .before .before .before .before .pre .0 .1)) (c .before .before .before .before .canonical-words .ensures))) (λ z. omega (arith, c .before .if4 .left, z)) (λ t. let z : ((c .before .before .before .before .before .before .before .before .before .before .args .at) + 1 + (c .before .before .before .before .canonical-words .result) + (c .before .before .canonical-words2 .result)) ≡ (c .before .before .before .before .before .before .before .before .before .before .args .end) = eqb-true ((c .before .before .before .before .before .before .before .before .before .before .args .at) + 1 + (c .before .before .before .before .canonical-words .result) + (c .before .before .canonical-words2 .result)) (c .before .before .before .before .before .before .before .before .before .before .args .end) t in omega (arith, l .long)) (λ t z. eqb-false ((c .before .before .before .before .before .before .before .before .before .before .args .at) + 1 + (c .before .before .before .before .canonical-words .result) + (c .before .before .canonical-words2 .result)) (c .before .before .before .before .before .before .before .before .before .before .args .end) t (omega (arith, l .long))))
+-- src/lib.rt:128:1
+returns-4 : tie.Need-returns-4
+returns-4 c = λ k m pos few ex ey. tripled _ _ _ (c .before .before .before .before .before .before .before .before .pre .0) (c .before .before .before .before .before .before .before .before .pre .1) _ (c .before .before .before .before .index-of .ensures) (not-false _ (c .before .before .if1 .left)) k m (c .before .before .before .before .before .before .before .before .args .x .now) (c .before .before .before .before .before .before .before .before .args .y .now) pos few ex (c .before .if2 .left) _ (single-good _ _ _ (second-fits _ _ _ (c .before .before .before .before .before .before .before .before .pre .0) (c .before .before .before .before .before .before .before .before .pre .1) _ (c .before .before .before .before .index-of .ensures) (not-false _ (c .before .before .if1 .left)) k m (c .before .before .before .before .before .before .before .before .args .x .now) (c .before .before .before .before .before .before .before .before .args .y .now) pos few ex (c .before .if2 .left)) (second-ends _ _ _ (c .before .before .before .before .before .before .before .before .pre .0) (c .before .before .before .before .before .before .before .before .pre .1) _ (c .before .before .before .before .index-of .ensures) (not-false _ (c .before .before .if1 .left)) k m (c .before .before .before .before .before .before .before .before .args .x .now) (c .before .before .before .before .before .before .before .before .args .y .now) pos few ex (c .before .if2 .left)) m _ ey (c .if3 .left) _ (λ t. eqb-true _ _ t) (λ t. eqb-false _ _ t))
 
 pub triple-spec : {M : Type 1} → statement M
 triple-spec =
     tie.close
     (tie.spec
-    no-parts-requires
+    index-of-requires
     returns
-    get-requires
-    kind-requires
-    no-parts-requires-2
+    no-body-requires
     returns-2
-    add-canonical-words
-    canonical-words-requires
-    no-parts-requires-3
+    no-body-requires-2
     returns-3
-    add-canonical-words-2
-    add-canonical-words-3
-    canonical-words-requires-2
-    no-parts-requires-4
-    returns-4
-    add-t12
+    add-t8
     add-t11
-    add-t13
-    payload-requires
-    returns-5)
+    add-t14
+    returns-4)
