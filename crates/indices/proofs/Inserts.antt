@@ -18,9 +18,14 @@ use Rattle.index_image.specs.Head.{HeadOk}
 use Rattle.index_image.specs.Layout.{shapeOf, encode, Is}
 use Rattle.index_image.specs.declared.Shape.{Shape}
 use Rattle.index_image.proofs.Images.{head-ok}
+use Rattle.index_image.proofs.Unique.{state-unique}
 use Rattle.kd_insert.specs.Inserting.{Room, Inserted}
 use Rattle.listing.specs.Listed.{Root}
 use Rattle.indices.specs.Replied.{Replied}
+
+-- an image has one state, so every state there has this shape
+pub shaped : (bs : List ℕ) (s : Shape) → Root bs s → (st : State) → Is st bs → s ≡ shapeOf st
+shaped bs s R st I = R .shape ∙ ap (λ (x : State). shapeOf x) (state-unique bs (R .state) st (R .is) I)
 
 -- ---- what is asked before an insert
 pub with-room : (bs : List ℕ) (s : Shape) → Root bs s → s .entries < s .capacity → Room bs s
@@ -40,24 +45,24 @@ unfolding serve
 taken st e h = rw (lt-ltb (length (st .entries)) (st .capacity) h)
 
 -- the image of a state pasted into itself
-itself : (bs : List ℕ) (st : State) → Bytes bs → Is st bs → pasteW bs 0 (encode st) ≡ bs
+pub itself : (bs : List ℕ) (st : State) → Bytes bs → Is st bs → pasteW bs 0 (encode st) ≡ bs
 itself bs st b I = ap (pasteW bs 0) (sym (I .is)) ∙ paste-own bs _ b (I .room)
 
-pub refused : (bs : List ℕ) (s : Shape) (e : Entry) (w : ℕ) → Bytes bs → s .capacity ≤ s .entries → w ≡ refusalWord 8 → Replied s (insertion e) bs bs w
-refused bs s e w b h ew = record {
-  answer = λ st I q. let z : st .capacity ≤ length (st .entries) = subst (λ (x : Shape). x .capacity ≤ x .entries) q h in ew ∙ ap (λ d. d .answer) (sym (full st e z));
-  bytes = λ st I q.
-      let z : st .capacity ≤ length (st .entries) = subst (λ (x : Shape). x .capacity ≤ x .entries) q h in
+pub refused : (bs : List ℕ) (s : Shape) (e : Entry) (w : ℕ) → Root bs s → Bytes bs → s .capacity ≤ s .entries → w ≡ refusalWord 8 → Replied (λ st. serve st (insertion e)) bs bs w
+refused bs s e w R b h ew = record {
+  answer = λ st I. let z : st .capacity ≤ length (st .entries) = subst (λ (x : Shape). x .capacity ≤ x .entries) (shaped bs s R st I) h in ew ∙ ap (λ d. d .answer) (sym (full st e z));
+  bytes = λ st I.
+      let z : st .capacity ≤ length (st .entries) = subst (λ (x : Shape). x .capacity ≤ x .entries) (shaped bs s R st I) h in
       sym (ap (λ d. pasteW bs 0 (encode (d .state))) (full st e z) ∙ itself bs st b I);
 }
 
-pub accepted : (bs bs′ : List ℕ) (s : Shape) (e : Entry) (n w : ℕ) → s .entries < s .capacity → Inserted e n bs bs′ → w ≡ answerWord n → Replied s (insertion e) bs bs′ w
-accepted bs bs′ s e n w h d ew = record {
-  answer = λ st I q.
-      let z : length (st .entries) < st .capacity = subst (λ (x : Shape). x .entries < x .capacity) q h in
+pub accepted : (bs bs′ : List ℕ) (s : Shape) (e : Entry) (n w : ℕ) → Root bs s → s .entries < s .capacity → Inserted e n bs bs′ → w ≡ answerWord n → Replied (λ st. serve st (insertion e)) bs bs′ w
+accepted bs bs′ s e n w R h d ew = record {
+  answer = λ st I.
+      let z : length (st .entries) < st .capacity = subst (λ (x : Shape). x .entries < x .capacity) (shaped bs s R st I) h in
       ew ∙ ap answerWord (d .number st I) ∙ ap (λ d. d .answer) (sym (taken st e z));
-  bytes = λ st I q.
-      let z : length (st .entries) < st .capacity = subst (λ (x : Shape). x .entries < x .capacity) q h in
+  bytes = λ st I.
+      let z : length (st .entries) < st .capacity = subst (λ (x : Shape). x .entries < x .capacity) (shaped bs s R st I) h in
       d .bytes st I ∙ ap (λ d. pasteW bs 0 (encode (d .state))) (sym (taken st e z));
 }
 

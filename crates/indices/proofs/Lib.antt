@@ -1,1 +1,3 @@
 pub mod Inserts
+pub mod Calling
+pub mod Queries

@@ -4,11 +4,10 @@ use mathlib.Core.List.{List}
 use Prim.Native.Nat.{ℕ}
 use Rattle.words.specs.Words.{pasteW}
 use Rattle.index_theory.specs.State.{State}
-use Rattle.index_theory.specs.Calls.{Request, serve}
-use Rattle.index_image.specs.Layout.{shapeOf, encode, Is}
-use Rattle.index_image.specs.declared.Shape.{Shape}
+use Rattle.index_theory.specs.Calls.{Done}
+use Rattle.index_image.specs.Layout.{encode, Is}
 
--- a call that asks r of the image bs, in the shape s, answers the word w and leaves the bytes bs′
-pub record Replied (s : Shape) (r : Request) (bs bs′ : List ℕ) (w : ℕ) : Type 0 where
-  pub answer : (st : State) → Is st bs → s ≡ shapeOf st → w ≡ serve st r .answer
-  pub bytes : (st : State) → Is st bs → s ≡ shapeOf st → bs′ ≡ pasteW bs 0 (encode (serve st r .state))
+-- a call on the image bs answers the word w and leaves the bytes bs′: what f makes of the state that stands there
+pub record Replied (f : State → Done) (bs bs′ : List ℕ) (w : ℕ) : Type 0 where
+  pub answer : (st : State) → Is st bs → w ≡ f st .answer
+  pub bytes : (st : State) → Is st bs → bs′ ≡ pasteW bs 0 (encode (f st .state))

@@ -15,7 +15,7 @@ refusal-word-requires c κs = search needs
 
 -- src/ratio_monomial_index.rt:22:9
 returns : tie.Need-returns
-returns c = refused (c .before .before .before .before .before .before .args .image .now) (c .before .before .before .before .before .before .args .s) _ (c .refusal-word .result) (λ j. (c .before .before .before .before .before .slice-known .given) j .fits) (omega (arith, c .before .if1 .taken)) (c .refusal-word .ensures)
+returns c = refused (c .before .before .before .before .before .before .args .image .now) (c .before .before .before .before .before .before .args .s) _ (c .refusal-word .result) (c .before .before .before .before .before .before .pre .0) (λ j. (c .before .before .before .before .before .slice-known .given) j .fits) (omega (arith, c .before .if1 .taken)) (c .refusal-word .ensures)
 
 -- src/ratio_monomial_index.rt:24:9
 insert-ratio-requires : tie.Need-insert-ratio-requires
@@ -35,7 +35,7 @@ same-length c = search needs
 
 -- src/ratio_monomial_index.rt:13:1
 returns-2 : tie.Need-returns-2
-returns-2 c = accepted (c .before .before .before .before .before .before .before .before .before .before .args .image .now) _ (c .before .before .before .before .before .before .before .before .before .before .args .s) _ (c .before .before .before .insert-ratio .result) (c .answer-word .result) (omega (arith, c .before .before .before .before .before .if1 .left)) (c .before .before .before .insert-ratio .ensures) (c .answer-word .ensures)
+returns-2 c = accepted (c .before .before .before .before .before .before .before .before .before .before .args .image .now) _ (c .before .before .before .before .before .before .before .before .before .before .args .s) _ (c .before .before .before .insert-ratio .result) (c .answer-word .result) (c .before .before .before .before .before .before .before .before .before .before .pre .0) (omega (arith, c .before .before .before .before .before .if1 .left)) (c .before .before .before .insert-ratio .ensures) (c .answer-word .ensures)
 
 pub insert-spec : {M : Type 1} → statement M
 insert-spec =

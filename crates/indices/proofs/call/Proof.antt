@@ -1,0 +1,65 @@
+use Rattle.indices.proofs.Queries.{two-kinds}
+use native.Mathlib.Omega.{arith}
+use borrow.Author.Needs.{needs}
+use Rattle.indices.proofs.call.Statement.{statement}
+use Rattle.indices.proofs.call.Tie as tie
+use Rattle.indices.proofs.call.Reads as reads
+use Rattle.indices.proofs.call.Lts as lts
+use Rattle.indices.proofs.monomial_index.call.Reads as monomial-index-call-reads
+use Rattle.indices.proofs.ratio_monomial_index.call.Reads as ratio-monomial-index-call-reads
+use Rattle.indices.proofs.shape.Reads as shape-reads
+
+-- src/lib.rt:45:9
+shape-requires : tie.Need-shape-requires
+shape-requires c κs = search needs
+
+-- src/lib.rt:47:9
+call-requires : tie.Need-call-requires
+call-requires c κs = (c .before .before .before .before .shape .ensures, (c .before .before .if1 .taken, (c .before .before .before .before .before .before .before .before .before .before .pre .1 .0 .0, c .before .before .before .before .before .before .before .before .before .before .pre .1 .1)))
+
+-- src/lib.rt:47:9
+same-length : tie.Need-same-length
+same-length c = search needs
+
+-- src/lib.rt:47:9
+same-length-2 : tie.Need-same-length-2
+same-length-2 c = search needs
+
+-- src/lib.rt:47:9
+returns : tie.Need-returns
+returns c = search needs
+
+-- src/lib.rt:49:5
+call-requires-2 : tie.Need-call-requires-2
+call-requires-2 c κs = (c .before .before .before .before .before .shape .ensures, (two-kinds _ _ (c .before .before .before .before .before .shape .ensures) (c .before .before .before .if1 .left), c .before .before .before .before .before .before .before .before .before .before .before .pre .1))
+
+-- src/lib.rt:31:1
+same-length-3 : tie.Need-same-length-3
+same-length-3 c = search needs
+
+-- src/lib.rt:31:1
+same-length-4 : tie.Need-same-length-4
+same-length-4 c = search needs
+
+-- src/lib.rt:31:1
+same-length-5 : tie.Need-same-length-5
+same-length-5 c = search needs
+
+-- src/lib.rt:31:1
+returns-2 : tie.Need-returns-2
+returns-2 c = search needs
+
+pub call-spec : {M : Type 1} → statement M
+call-spec =
+    tie.close
+    (tie.spec
+    shape-requires
+    call-requires
+    same-length
+    same-length-2
+    returns
+    call-requires-2
+    same-length-3
+    same-length-4
+    same-length-5
+    returns-2)

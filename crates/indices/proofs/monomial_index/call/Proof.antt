@@ -1,0 +1,90 @@
+use Rattle.indices.proofs.Calling.{refuses, serves, of-monomials, six-monomials, bad-monomial, inserts-monomial, asks-contained}
+use Rattle.indices.proofs.Queries.{few-variables}
+use Rattle.call_list.proofs.Parting.{found-whole}
+use borrow.Author.Tests.{not-true, not-false}
+use native.Mathlib.Omega.{arith}
+use borrow.Author.Needs.{needs}
+use Rattle.indices.proofs.monomial_index.call.Statement.{statement}
+use Rattle.indices.proofs.monomial_index.call.Tie as tie
+use Rattle.indices.proofs.monomial_index.call.Reads as reads
+use Rattle.indices.proofs.monomial_index.call.Lts as lts
+use Rattle.call_list.proofs.single.Reads as single-reads
+use Rattle.indices.proofs.monomial_index.contains_divisor.Reads as contains-divisor-reads
+use Rattle.indices.proofs.monomial_index.insert.Reads as insert-reads
+use Rattle.monomial.proofs.monomial_at.Reads as monomial-at-reads
+use Rattle.words.proofs.refusal_word.Reads as refusal-word-reads
+
+-- src/monomial_index.rt:60:9
+refusal-word-requires : tie.Need-refusal-word-requires
+refusal-word-requires c κs = search needs
+
+-- src/monomial_index.rt:60:9
+returns : tie.Need-returns
+returns c = refuses _ _ 6 _ (of-monomials _ _ _ (c .before .before .before .before .before .pre .0) _ (c .before .before .before .before .before .pre .1 .0) (six-monomials _ _ _ (c .before .if1 .taken))) (λ j. (c .before .before .before .before .slice-known .given) j .fits) (c .refusal-word .ensures)
+
+-- src/monomial_index.rt:62:45
+cast-monomial-at : tie.Need-cast-monomial-at
+cast-monomial-at c = omega (arith, few-variables _ _ (c .before .before .before .before .before .pre .0))
+
+-- src/monomial_index.rt:62:9
+monomial-at-requires : tie.Need-monomial-at-requires
+monomial-at-requires c κs = search needs
+
+-- src/monomial_index.rt:63:9
+single-requires : tie.Need-single-requires
+single-requires c κs = search needs
+
+-- src/monomial_index.rt:64:9
+refusal-word-requires-2 : tie.Need-refusal-word-requires-2
+refusal-word-requires-2 c κs = search needs
+
+-- src/monomial_index.rt:64:9
+returns-2 : tie.Need-returns-2
+returns-2 c = refuses _ _ 7 _ (of-monomials _ _ _ (c .before .before .before .before .before .before .before .before .before .pre .0) _ (c .before .before .before .before .before .before .before .before .before .pre .1 .0) (bad-monomial _ _ _ _ _ (c .before .before .single .ensures _ (c .before .before .before .monomial-at .ensures)) (omega (arith, c .before .before .before .before .before .if1 .left)) (not-true _ (c .before .if2 .taken)))) (λ j. (c .before .before .before .before .before .before .before .before .slice-known .given) j .fits) (c .refusal-word2 .ensures)
+
+-- src/monomial_index.rt:67:9
+insert-requires : tie.Need-insert-requires
+insert-requires c κs = (c .before .before .before .before .before .before .before .before .before .before .pre .0, (c .before .before .before .before .before .before .before .before .before .before .pre .1 .0, (((c .before .before .before .single .ensures _ (c .before .before .before .before .monomial-at .ensures)) .canonical (not-false _ (c .before .before .if2 .left))), found-whole _ _ _ _ _ (c .before .before .before .before .monomial-at .ensures))))
+
+-- src/monomial_index.rt:67:9
+same-length : tie.Need-same-length
+same-length c = search needs
+
+-- src/monomial_index.rt:67:9
+returns-3 : tie.Need-returns-3
+returns-3 c = serves _ _ _ _ _ (of-monomials _ _ _ (c .before .before .before .before .before .before .before .before .before .before .before .before .before .pre .0) _ (c .before .before .before .before .before .before .before .before .before .before .before .before .before .pre .1 .0) (inserts-monomial _ _ _ _ _ (c .before .before .before .before .before .before .single .ensures _ (c .before .before .before .before .before .before .before .monomial-at .ensures)) (c .before .before .before .before .if3 .taken) (not-false _ (c .before .before .before .before .before .if2 .left)))) (c .before .before .insert .ensures)
+
+-- src/monomial_index.rt:69:5
+contains-divisor-requires : tie.Need-contains-divisor-requires
+contains-divisor-requires c κs = (c .before .before .before .before .before .before .before .before .before .before .before .pre .0, (c .before .before .before .before .before .before .before .before .before .before .before .pre .1 .0, (c .before .before .before .before .before .before .before .before .before .before .before .pre .1 .1 .0, ((c .before .before .before .before .single .ensures _ (c .before .before .before .before .before .monomial-at .ensures)) .canonical (not-false _ (c .before .before .before .if2 .left))))))
+
+-- src/monomial_index.rt:44:1
+same-length-2 : tie.Need-same-length-2
+same-length-2 c = search needs
+
+-- src/monomial_index.rt:44:1
+same-length-3 : tie.Need-same-length-3
+same-length-3 c = search needs
+
+-- src/monomial_index.rt:44:1
+returns-4 : tie.Need-returns-4
+returns-4 c = serves _ _ _ _ _ (of-monomials _ _ _ (c .before .before .before .before .before .before .before .before .before .before .before .before .before .before .before .before .pre .0) _ (c .before .before .before .before .before .before .before .before .before .before .before .before .before .before .before .before .pre .1 .0) (asks-contained _ _ _ _ _ (c .before .before .before .before .before .before .before .before .before .single .ensures _ (c .before .before .before .before .before .before .before .before .before .before .monomial-at .ensures)) (omega (arith, c .before .before .before .before .before .before .before .before .before .before .before .before .if1 .left)) (c .before .before .before .before .before .before .before .if3 .left) (not-false _ (c .before .before .before .before .before .before .before .before .if2 .left)))) (c .before .before .before .before .contains-divisor .ensures)
+
+pub call-spec : {M : Type 1} → statement M
+call-spec =
+    tie.close
+    (tie.spec
+    refusal-word-requires
+    returns
+    cast-monomial-at
+    monomial-at-requires
+    single-requires
+    refusal-word-requires-2
+    returns-2
+    insert-requires
+    same-length
+    returns-3
+    contains-divisor-requires
+    same-length-2
+    same-length-3
+    returns-4)

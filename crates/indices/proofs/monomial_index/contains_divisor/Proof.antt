@@ -1,0 +1,65 @@
+use Rattle.indices.proofs.Queries.{head-of, sound-of, ready, replied, yes-none, yes-some}
+use mathlib.Core.Path.{_≡_, refl, sym, ap, _∙_}
+use borrow.Author.Needs.{needs}
+use Rattle.indices.proofs.monomial_index.contains_divisor.Statement.{statement}
+use Rattle.indices.proofs.monomial_index.contains_divisor.Tie as tie
+use Rattle.indices.proofs.monomial_index.contains_divisor.Reads as reads
+use Rattle.indices.proofs.monomial_index.contains_divisor.Lts as lts
+use Rattle.kd_query.proofs.contained.Reads as contained-reads
+use Rattle.kd_tree.proofs.find.Reads as find-reads
+use Rattle.words.proofs.answer_word.Reads as answer-word-reads
+
+-- src/monomial_index.rt:36:5
+contained-requires : tie.Need-contained-requires
+contained-requires c κs = (sound-of _ _ (c .before .before .before .before .before .pre .0), (head-of _ _ (c .before .before .before .before .before .pre .0), c .before .before .before .before .before .pre .1))
+
+-- src/monomial_index.rt:37:8
+find-requires : tie.Need-find-requires
+find-requires c κs = ready _ _ _ _ _ (c .before .before .before .before .before .before .before .before .before .before .pre .0) (c .before .before .before .before .contained .ensures)
+
+-- src/monomial_index.rt:38:9
+answer-word-requires : tie.Need-answer-word-requires
+answer-word-requires c κs = search needs
+
+-- src/monomial_index.rt:38:9
+same-length : tie.Need-same-length
+same-length c = search needs
+
+-- src/monomial_index.rt:38:9
+same-length-2 : tie.Need-same-length-2
+same-length-2 c = search needs
+
+-- src/monomial_index.rt:38:9
+returns : tie.Need-returns
+returns c = replied _ _ _ _ _ (c .before .before .before .before .before .before .before .before .before .before .before .before .before .before .before .pre .0) (c .before .before .before .before .before .before .before .before .before .contained .ensures) _ _ (c .before .before .before .before .find .ensures) _ (λ st I. c .answer-word .ensures ∙ sym (yes-none _ (c .before .if1 .taken)))
+
+-- src/monomial_index.rt:40:5
+answer-word-requires-2 : tie.Need-answer-word-requires-2
+answer-word-requires-2 c κs = search needs
+
+-- src/monomial_index.rt:29:1
+same-length-3 : tie.Need-same-length-3
+same-length-3 c = search needs
+
+-- src/monomial_index.rt:29:1
+same-length-4 : tie.Need-same-length-4
+same-length-4 c = search needs
+
+-- src/monomial_index.rt:29:1
+returns-2 : tie.Need-returns-2
+returns-2 c = replied _ _ _ _ _ (c .before .before .before .before .before .before .before .before .before .before .before .before .before .before .before .pre .0) (c .before .before .before .before .before .before .before .before .before .contained .ensures) _ _ (c .before .before .before .before .find .ensures) _ (λ st I. c .answer-word2 .ensures ∙ sym (yes-some _ (c .before .if1 .left)))
+
+pub contains-divisor-spec : {M : Type 1} → statement M
+contains-divisor-spec =
+    tie.close
+    (tie.spec
+    contained-requires
+    find-requires
+    answer-word-requires
+    same-length
+    same-length-2
+    returns
+    answer-word-requires-2
+    same-length-3
+    same-length-4
+    returns-2)

@@ -1,0 +1,51 @@
+use Rattle.indices.proofs.Queries.{head-of, sound-of, ready, replied, small, found-as}
+use Rattle.monomial.proofs.Firsts.{canonical-wide}
+use native.Mathlib.Omega.{arith}
+use borrow.Author.Needs.{needs}
+use Rattle.indices.proofs.ratio_monomial_index.find_high_base_divisor.Statement.{statement}
+use Rattle.indices.proofs.ratio_monomial_index.find_high_base_divisor.Tie as tie
+use Rattle.indices.proofs.ratio_monomial_index.find_high_base_divisor.Reads as reads
+use Rattle.indices.proofs.ratio_monomial_index.find_high_base_divisor.Lts as lts
+use Rattle.kd_query.proofs.high.Reads as high-reads
+use Rattle.kd_tree.proofs.find.Reads as find-reads
+use Rattle.words.proofs.answer_word.Reads as answer-word-reads
+
+-- src/ratio_monomial_index.rt:76:5
+high-requires : tie.Need-high-requires
+high-requires c κs = (sound-of _ _ (c .before .before .before .before .before .before .pre .0), (head-of _ _ (c .before .before .before .before .before .before .pre .0), (c .before .before .before .before .before .before .pre .1 .0, (c .before .before .before .before .before .before .pre .1 .1 .0, (canonical-wide (c .before .before .before .before .before .before .pre .1 .1 .1 .0), c .before .before .before .before .before .before .pre .1 .1 .1 .1)))))
+
+-- src/ratio_monomial_index.rt:77:9
+find-requires : tie.Need-find-requires
+find-requires c κs = ready _ _ _ _ _ (c .before .before .before .before .before .before .before .before .before .before .before .pre .0) (c .before .before .before .before .high .ensures)
+
+-- src/ratio_monomial_index.rt:78:24
+cast-answer-word : tie.Need-cast-answer-word
+cast-answer-word c = omega (arith, small _ _ _ _ _ (c .before .before .before .before .before .before .before .before .before .before .before .before .before .before .pre .0) (c .before .before .before .before .before .before .before .high .ensures) _ _ (c .before .before .find .ensures))
+
+-- src/ratio_monomial_index.rt:78:5
+answer-word-requires : tie.Need-answer-word-requires
+answer-word-requires c κs = omega (arith, small _ _ _ _ _ (c .before .before .before .before .before .before .before .before .before .before .before .before .before .before .pre .0) (c .before .before .before .before .before .before .before .high .ensures) _ _ (c .before .before .find .ensures))
+
+-- src/ratio_monomial_index.rt:61:1
+same-length : tie.Need-same-length
+same-length c = search needs
+
+-- src/ratio_monomial_index.rt:61:1
+same-length-2 : tie.Need-same-length-2
+same-length-2 c = search needs
+
+-- src/ratio_monomial_index.rt:61:1
+returns : tie.Need-returns
+returns c = replied _ _ _ _ _ (c .before .before .before .before .before .before .before .before .before .before .before .before .before .before .before .pre .0) (c .before .before .before .before .before .before .before .before .high .ensures) _ _ (c .before .before .before .find .ensures) _ (found-as _ _ _ _ _ (c .before .before .before .before .before .before .before .before .before .before .before .before .before .before .before .pre .0) (c .before .before .before .before .before .before .before .before .high .ensures) _ _ (c .before .before .before .find .ensures) _ (c .answer-word .ensures))
+
+pub find-high-base-divisor-spec : {M : Type 1} → statement M
+find-high-base-divisor-spec =
+    tie.close
+    (tie.spec
+    high-requires
+    find-requires
+    cast-answer-word
+    answer-word-requires
+    same-length
+    same-length-2
+    returns)

@@ -1,0 +1,70 @@
+use Rattle.indices.proofs.Calling.{refuses, serves, of-ratioed, bad-pair, asks-low}
+use Rattle.indices.proofs.Queries.{few-variables}
+use Rattle.words.proofs.Laws.{length-words}
+use borrow.Author.Tests.{not-true, not-false}
+use mathlib.Core.Path.{refl}
+use native.Mathlib.Omega.{arith}
+use borrow.Author.Needs.{needs}
+use Rattle.indices.proofs.ratio_monomial_index.pair_call.Statement.{statement}
+use Rattle.indices.proofs.ratio_monomial_index.pair_call.Tie as tie
+use Rattle.indices.proofs.ratio_monomial_index.pair_call.Reads as reads
+use Rattle.indices.proofs.ratio_monomial_index.pair_call.Lts as lts
+use Rattle.call_list.proofs.pair.Reads as pair-reads
+use Rattle.indices.proofs.ratio_monomial_index.find_low_base_divisor.Reads as find-low-base-divisor-reads
+use Rattle.monomial.proofs.monomial_at.Reads as monomial-at-reads
+use Rattle.words.proofs.refusal_word.Reads as refusal-word-reads
+
+-- src/ratio_monomial_index.rt:134:41
+add-monomial-at : tie.Need-add-monomial-at
+add-monomial-at c = omega (arith, c .before .before .before .good, c .before .before .before .pre .1 .1 .1 .0, length-words (c .before .before .before .args .list .now))
+
+-- src/ratio_monomial_index.rt:134:49
+cast-monomial-at : tie.Need-cast-monomial-at
+cast-monomial-at c = omega (arith, few-variables _ _ (c .before .before .before .before .pre .0))
+
+-- src/ratio_monomial_index.rt:134:9
+monomial-at-requires : tie.Need-monomial-at-requires
+monomial-at-requires c κs = search needs
+
+-- src/ratio_monomial_index.rt:135:9
+pair-requires : tie.Need-pair-requires
+pair-requires c κs = search needs
+
+-- src/ratio_monomial_index.rt:137:9
+refusal-word-requires : tie.Need-refusal-word-requires
+refusal-word-requires c κs = search needs
+
+-- src/ratio_monomial_index.rt:137:9
+returns : tie.Need-returns
+returns c = refuses _ _ 7 _ (of-ratioed _ _ _ (c .before .before .before .before .before .before .before .before .before .pre .0) _ (c .before .before .before .before .before .before .before .before .before .pre .1 .0) (bad-pair _ _ _ _ _ (c .before .before .before .pair .ensures _ (c .before .before .before .before .monomial-at .ensures)) refl (not-true _ (c .before .if1 .taken)))) (λ j. (c .before .before .before .before .before .before .before .before .slice-known .given) j .fits) (c .refusal-word .ensures)
+
+-- src/ratio_monomial_index.rt:139:5
+find-low-base-divisor-requires : tie.Need-find-low-base-divisor-requires
+find-low-base-divisor-requires c κs = (c .before .before .before .before .before .before .before .before .before .before .pre .0, (c .before .before .before .before .before .before .before .before .before .before .pre .1 .0, (c .before .before .before .before .before .before .before .before .before .before .pre .1 .1 .0, ((c .before .before .before .before .pair .ensures _ (c .before .before .before .before .before .monomial-at .ensures)) .index-small, (c .before .before .before .before .pair .ensures _ (c .before .before .before .before .before .monomial-at .ensures)) .canonical (not-false _ (c .before .before .if1 .left))))))
+
+-- src/ratio_monomial_index.rt:127:1
+same-length : tie.Need-same-length
+same-length c = search needs
+
+-- src/ratio_monomial_index.rt:127:1
+same-length-2 : tie.Need-same-length-2
+same-length-2 c = search needs
+
+-- src/ratio_monomial_index.rt:127:1
+returns-2 : tie.Need-returns-2
+returns-2 c = serves _ _ _ _ _ (of-ratioed _ _ _ (c .before .before .before .before .before .before .before .before .before .before .before .before .before .before .before .pre .0) _ (c .before .before .before .before .before .before .before .before .before .before .before .before .before .before .before .pre .1 .0) (asks-low _ _ _ _ _ (c .before .before .before .before .before .before .before .before .before .pair .ensures _ (c .before .before .before .before .before .before .before .before .before .before .monomial-at .ensures)) refl (not-false _ (c .before .before .before .before .before .before .before .if1 .left)))) (c .before .before .before .before .find-low-base-divisor .ensures)
+
+pub pair-call-spec : {M : Type 1} → statement M
+pair-call-spec =
+    tie.close
+    (tie.spec
+    add-monomial-at
+    cast-monomial-at
+    monomial-at-requires
+    pair-requires
+    refusal-word-requires
+    returns
+    find-low-base-divisor-requires
+    same-length
+    same-length-2
+    returns-2)

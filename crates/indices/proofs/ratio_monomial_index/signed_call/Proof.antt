@@ -1,0 +1,106 @@
+use Rattle.indices.proofs.Calling.{refuses, serves, of-ratioed, bad-signed, inserts-signed, asks-singular}
+use Rattle.indices.proofs.Queries.{few-variables}
+use Rattle.call_list.proofs.Parting.{found-whole}
+use Rattle.words.proofs.Laws.{length-words}
+use borrow.Author.Tests.{not-true, not-false}
+use native.Mathlib.Omega.{arith}
+use borrow.Author.Needs.{needs}
+use Rattle.indices.proofs.ratio_monomial_index.signed_call.Statement.{statement}
+use Rattle.indices.proofs.ratio_monomial_index.signed_call.Tie as tie
+use Rattle.indices.proofs.ratio_monomial_index.signed_call.Reads as reads
+use Rattle.indices.proofs.ratio_monomial_index.signed_call.Lts as lts
+use Rattle.call_list.proofs.triple.Reads as triple-reads
+use Rattle.indices.proofs.ratio_monomial_index.insert.Reads as insert-reads
+use Rattle.indices.proofs.ratio_monomial_index.test_singular_criterion.Reads as test-singular-criterion-reads
+use Rattle.monomial.proofs.monomial_at.Reads as monomial-at-reads
+use Rattle.words.proofs.refusal_word.Reads as refusal-word-reads
+
+-- src/ratio_monomial_index.rt:190:13
+cast-v : tie.Need-cast-v
+cast-v c = omega (arith, few-variables _ _ (c .before .before .before .before .before .pre .0))
+
+-- src/ratio_monomial_index.rt:191:41
+add-monomial-at : tie.Need-add-monomial-at
+add-monomial-at c = omega (arith, c .before .before .before .before .before .good, c .before .before .before .before .before .pre .1 .1 .1 .1 .0, length-words (c .before .before .before .before .before .args .list .now))
+
+-- src/ratio_monomial_index.rt:191:9
+monomial-at-requires : tie.Need-monomial-at-requires
+monomial-at-requires c κs = search needs
+
+-- src/ratio_monomial_index.rt:192:41
+add-monomial-at-2 : tie.Need-add-monomial-at-2
+add-monomial-at-2 c = omega (arith, c .before .before .before .before .before .before .good, c .before .before .before .before .before .before .pre .1 .1 .1 .1 .0, length-words (c .before .before .before .before .before .before .args .list .now))
+
+-- src/ratio_monomial_index.rt:192:41
+add-monomial-at-3 : tie.Need-add-monomial-at-3
+add-monomial-at-3 c = omega (arith, c .before .before .before .before .before .before .good, c .before .before .before .before .before .before .pre .1 .1 .1 .1 .0, length-words (c .before .before .before .before .before .before .args .list .now), c .monomial-at .ok)
+
+-- src/ratio_monomial_index.rt:192:9
+monomial-at-requires-2 : tie.Need-monomial-at-requires-2
+monomial-at-requires-2 c κs = search needs
+
+-- src/ratio_monomial_index.rt:193:9
+triple-requires : tie.Need-triple-requires
+triple-requires c κs = search needs
+
+-- src/ratio_monomial_index.rt:195:9
+refusal-word-requires : tie.Need-refusal-word-requires
+refusal-word-requires c κs = search needs
+
+-- src/ratio_monomial_index.rt:195:9
+returns : tie.Need-returns
+returns c = refuses _ _ 7 _ (of-ratioed _ _ _ (c .before .before .before .before .before .before .before .before .before .before .before .pre .0) _ (c .before .before .before .before .before .before .before .before .before .before .before .pre .1 .0) (bad-signed _ _ _ _ _ _ (c .before .before .before .triple .ensures 1 _ (omega arith) (omega arith) (c .before .before .before .before .before .monomial-at .ensures) (c .before .before .before .before .monomial-at2 .ensures)) (c .before .before .before .before .before .before .before .before .before .before .before .pre .1 .1 .1 .0) (not-true _ (c .before .if1 .taken)))) (λ j. (c .before .before .before .before .before .before .before .before .before .before .slice-known .given) j .fits) (c .refusal-word .ensures)
+
+-- src/ratio_monomial_index.rt:198:9
+insert-requires : tie.Need-insert-requires
+insert-requires c κs = (c .before .before .before .before .before .before .before .before .before .before .before .before .pre .0, (c .before .before .before .before .before .before .before .before .before .before .before .before .pre .1 .0, ((c .before .before .before .before .triple .ensures 1 _ (omega arith) (omega arith) (c .before .before .before .before .before .before .monomial-at .ensures) (c .before .before .before .before .before .monomial-at2 .ensures)) .index-small, (((c .before .before .before .before .triple .ensures 1 _ (omega arith) (omega arith) (c .before .before .before .before .before .before .monomial-at .ensures) (c .before .before .before .before .before .monomial-at2 .ensures)) .first-canonical (not-false _ (c .before .before .if1 .left)), found-whole _ _ _ _ _ (c .before .before .before .before .before .before .monomial-at .ensures)), ((c .before .before .before .before .triple .ensures 1 _ (omega arith) (omega arith) (c .before .before .before .before .before .before .monomial-at .ensures) (c .before .before .before .before .before .monomial-at2 .ensures)) .second-canonical (not-false _ (c .before .before .if1 .left)), found-whole _ _ _ _ _ (c .before .before .before .before .before .monomial-at2 .ensures))))))
+
+-- src/ratio_monomial_index.rt:198:9
+same-length : tie.Need-same-length
+same-length c = search needs
+
+-- src/ratio_monomial_index.rt:198:9
+returns-2 : tie.Need-returns-2
+returns-2 c = serves _ _ _ _ _ (of-ratioed _ _ _ (c .before .before .before .before .before .before .before .before .before .before .before .before .before .before .before .pre .0) _ (c .before .before .before .before .before .before .before .before .before .before .before .before .before .before .before .pre .1 .0) (inserts-signed _ _ _ _ _ _ (c .before .before .before .before .before .before .before .triple .ensures 1 _ (omega arith) (omega arith) (c .before .before .before .before .before .before .before .before .before .monomial-at .ensures) (c .before .before .before .before .before .before .before .before .monomial-at2 .ensures)) (c .before .before .before .before .if2 .taken) (not-false _ (c .before .before .before .before .before .if1 .left)))) (c .before .before .insert .ensures)
+
+-- src/ratio_monomial_index.rt:200:5
+test-singular-criterion-requires : tie.Need-test-singular-criterion-requires
+test-singular-criterion-requires c κs = (c .before .before .before .before .before .before .before .before .before .before .before .before .before .before .pre .0, (c .before .before .before .before .before .before .before .before .before .before .before .before .before .before .pre .1 .0, (c .before .before .before .before .before .before .before .before .before .before .before .before .before .before .pre .1 .1 .0, ((c .before .before .before .before .before .before .triple .ensures 1 _ (omega arith) (omega arith) (c .before .before .before .before .before .before .before .before .monomial-at .ensures) (c .before .before .before .before .before .before .before .monomial-at2 .ensures)) .index-small, ((c .before .before .before .before .before .before .triple .ensures 1 _ (omega arith) (omega arith) (c .before .before .before .before .before .before .before .before .monomial-at .ensures) (c .before .before .before .before .before .before .before .monomial-at2 .ensures)) .first-canonical (not-false _ (c .before .before .before .before .if1 .left)), (c .before .before .before .before .before .before .triple .ensures 1 _ (omega arith) (omega arith) (c .before .before .before .before .before .before .before .before .monomial-at .ensures) (c .before .before .before .before .before .before .before .monomial-at2 .ensures)) .second-canonical (not-false _ (c .before .before .before .before .if1 .left)))))))
+
+-- src/ratio_monomial_index.rt:173:1
+same-length-2 : tie.Need-same-length-2
+same-length-2 c = search needs
+
+-- src/ratio_monomial_index.rt:173:1
+same-length-3 : tie.Need-same-length-3
+same-length-3 c = search needs
+
+-- src/ratio_monomial_index.rt:173:1
+same-length-4 : tie.Need-same-length-4
+same-length-4 c = search needs
+
+-- src/ratio_monomial_index.rt:173:1
+returns-3 : tie.Need-returns-3
+returns-3 c = serves _ _ _ _ _ (of-ratioed _ _ _ (c .before .before .before .before .before .before .before .before .before .before .before .before .before .before .before .before .before .before .before .before .before .pre .0) _ (c .before .before .before .before .before .before .before .before .before .before .before .before .before .before .before .before .before .before .before .before .before .pre .1 .0) (asks-singular _ _ _ _ _ _ (c .before .before .before .before .before .before .before .before .before .before .before .before .before .triple .ensures 1 _ (omega arith) (omega arith) (c .before .before .before .before .before .before .before .before .before .before .before .before .before .before .before .monomial-at .ensures) (c .before .before .before .before .before .before .before .before .before .before .before .before .before .before .monomial-at2 .ensures)) (c .before .before .before .before .before .before .before .before .before .before .before .before .before .before .before .before .before .before .before .before .before .pre .1 .1 .1 .0) (c .before .before .before .before .before .before .before .before .before .before .if2 .left) (not-false _ (c .before .before .before .before .before .before .before .before .before .before .before .if1 .left)))) (c .before .before .before .before .before .before .test-singular-criterion .ensures)
+
+pub signed-call-spec : {M : Type 1} → statement M
+signed-call-spec =
+    tie.close
+    (tie.spec
+    cast-v
+    add-monomial-at
+    monomial-at-requires
+    add-monomial-at-2
+    add-monomial-at-3
+    monomial-at-requires-2
+    triple-requires
+    refusal-word-requires
+    returns
+    insert-requires
+    same-length
+    returns-2
+    test-singular-criterion-requires
+    same-length-2
+    same-length-3
+    same-length-4
+    returns-3)

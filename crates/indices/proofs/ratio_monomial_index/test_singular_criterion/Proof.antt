@@ -1,0 +1,78 @@
+use Rattle.indices.proofs.Queries.{few-variables, head-of, sound-of, ready, replied, yes-none, yes-some}
+use mathlib.Core.Path.{_≡_, refl, sym, ap, _∙_}
+use native.Mathlib.Omega.{arith}
+use borrow.Author.Needs.{needs}
+use Rattle.indices.proofs.ratio_monomial_index.test_singular_criterion.Statement.{
+  statement,
+}
+use Rattle.indices.proofs.ratio_monomial_index.test_singular_criterion.Tie as tie
+use Rattle.indices.proofs.ratio_monomial_index.test_singular_criterion.Reads as reads
+use Rattle.indices.proofs.ratio_monomial_index.test_singular_criterion.Lts as lts
+use Rattle.kd_query.proofs.singular.Reads as singular-reads
+use Rattle.kd_tree.proofs.find.Reads as find-reads
+use Rattle.words.proofs.answer_word.Reads as answer-word-reads
+
+-- src/ratio_monomial_index.rt:119:5
+singular-requires : tie.Need-singular-requires
+singular-requires c κs = (sound-of _ _ (c .before .before .before .before .before .before .before .before .pre .0), (head-of _ _ (c .before .before .before .before .before .before .before .before .pre .0), (c .before .before .before .before .before .before .before .before .pre .1 .0, (c .before .before .before .before .before .before .before .before .pre .1 .1 .0 .0, (omega (arith, few-variables _ _ (c .before .before .before .before .before .before .before .before .pre .0), c .before .before .before .before .before .before .before .before .pre .1 .1 .0 .1), c .before .before .before .before .before .before .before .before .pre .1 .1 .1)))))
+
+-- src/ratio_monomial_index.rt:120:8
+find-requires : tie.Need-find-requires
+find-requires c κs = ready _ _ _ _ _ (c .before .before .before .before .before .before .before .before .before .before .before .before .before .before .before .pre .0) (c .before .before .before .before .before .before .singular .ensures)
+
+-- src/ratio_monomial_index.rt:121:9
+answer-word-requires : tie.Need-answer-word-requires
+answer-word-requires c κs = search needs
+
+-- src/ratio_monomial_index.rt:121:9
+same-length : tie.Need-same-length
+same-length c = search needs
+
+-- src/ratio_monomial_index.rt:121:9
+same-length-2 : tie.Need-same-length-2
+same-length-2 c = search needs
+
+-- src/ratio_monomial_index.rt:121:9
+same-length-3 : tie.Need-same-length-3
+same-length-3 c = search needs
+
+-- src/ratio_monomial_index.rt:121:9
+returns : tie.Need-returns
+returns c = replied _ _ _ _ _ (c .before .before .before .before .before .before .before .before .before .before .before .before .before .before .before .before .before .before .before .before .pre .0) (c .before .before .before .before .before .before .before .before .before .before .before .singular .ensures) _ _ (c .before .before .before .before .find .ensures) _ (λ st I. c .answer-word .ensures ∙ sym (yes-none _ (c .before .if1 .taken)))
+
+-- src/ratio_monomial_index.rt:123:5
+answer-word-requires-2 : tie.Need-answer-word-requires-2
+answer-word-requires-2 c κs = search needs
+
+-- src/ratio_monomial_index.rt:102:1
+same-length-4 : tie.Need-same-length-4
+same-length-4 c = search needs
+
+-- src/ratio_monomial_index.rt:102:1
+same-length-5 : tie.Need-same-length-5
+same-length-5 c = search needs
+
+-- src/ratio_monomial_index.rt:102:1
+same-length-6 : tie.Need-same-length-6
+same-length-6 c = search needs
+
+-- src/ratio_monomial_index.rt:102:1
+returns-2 : tie.Need-returns-2
+returns-2 c = replied _ _ _ _ _ (c .before .before .before .before .before .before .before .before .before .before .before .before .before .before .before .before .before .before .before .before .pre .0) (c .before .before .before .before .before .before .before .before .before .before .before .singular .ensures) _ _ (c .before .before .before .before .find .ensures) _ (λ st I. c .answer-word2 .ensures ∙ sym (yes-some _ (c .before .if1 .left)))
+
+pub test-singular-criterion-spec : {M : Type 1} → statement M
+test-singular-criterion-spec =
+    tie.close
+    (tie.spec
+    singular-requires
+    find-requires
+    answer-word-requires
+    same-length
+    same-length-2
+    same-length-3
+    returns
+    answer-word-requires-2
+    same-length-4
+    same-length-5
+    same-length-6
+    returns-2)
