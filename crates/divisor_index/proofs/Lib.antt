@@ -1,0 +1,4 @@
+pub mod Running
+pub mod Openings
+pub mod Replying
+pub mod Theorems

@@ -1,0 +1,62 @@
+use Rattle.divisor_index.proofs.Replying.{clash, listing-three, listing-six, listing-five, listing-room, listing-served}
+use borrow.Author.Tests.{not-true, not-false}
+use native.Mathlib.Omega.{arith}
+use borrow.Author.Needs.{needs}
+use Rattle.divisor_index.proofs.divisor_index_list.Statement.{statement}
+use Rattle.divisor_index.proofs.divisor_index_list.Tie as tie
+use Rattle.divisor_index.proofs.divisor_index_list.Reads as reads
+use Rattle.divisor_index.proofs.divisor_index_list.Lts as lts
+use Rattle.index_sound.proofs.sound.Reads as sound-reads
+use Rattle.indices.proofs.shape.Reads as shape-reads
+use Rattle.listing.proofs.listing_words.Reads as listing-words-reads
+use Rattle.listing.proofs.to_vec.Reads as to-vec-reads
+
+-- src/lib.rt:94:9
+sound-requires : tie.Need-sound-requires
+sound-requires c κs = search needs
+
+-- src/lib.rt:95:9
+returns : tie.Need-returns
+returns c = listing-three _ _ (λ S. clash _ (not-true _ (c .if1 .taken)) (c .before .sound .ensures .1 S))
+
+-- src/lib.rt:97:9
+shape-requires : tie.Need-shape-requires
+shape-requires c κs = (c .before .sound .ensures .0 (not-false _ (c .if1 .left)))
+
+-- src/lib.rt:99:9
+returns-2 : tie.Need-returns-2
+returns-2 c = listing-six _ _ _ (c .before .before .shape .ensures) (c .if2 .taken)
+
+-- src/lib.rt:101:28
+listing-words-requires : tie.Need-listing-words-requires
+listing-words-requires c κs = search needs
+
+-- src/lib.rt:102:9
+returns-3 : tie.Need-returns-3
+returns-3 c = listing-five (c .before .before .before .before .before .before .before .before .before .args .image .now) (c .before .before .before .before .before .before .before .before .before .args .answers .now) _ (c .before .before .before .before .shape .ensures) _ (c .before .listing-words .ensures) (c .before .before .if2 .left) (c .if3 .taken)
+
+-- src/lib.rt:104:5
+to-vec-requires : tie.Need-to-vec-requires
+to-vec-requires c κs = (c .before .before .before .before .before .shape .ensures, listing-room (c .before .before .before .before .before .before .before .before .before .before .args .image .now) (c .before .before .before .before .before .before .before .before .before .before .args .answers .now) _ (c .before .before .before .before .before .shape .ensures) _ (c .before .before .listing-words .ensures) (c .before .before .before .if2 .left) (c .before .if3 .left))
+
+-- src/lib.rt:90:1
+same-length : tie.Need-same-length
+same-length c = search needs
+
+-- src/lib.rt:90:1
+returns-4 : tie.Need-returns-4
+returns-4 c = listing-served (c .before .before .before .before .before .before .before .before .before .before .before .before .before .args .image .now) (c .before .before .before .before .before .before .before .before .before .before .before .before .before .args .answers .now) _ (c .before .before .before .before .before .before .before .before .shape .ensures) _ (c .before .before .before .before .before .listing-words .ensures) (c .before .before .before .before .before .before .if2 .left) _ (c .before .before .before .before .if3 .left) (c .before .before .to-vec .ensures)
+
+pub divisor-index-list-spec : {M : Type 1} → statement M
+divisor-index-list-spec =
+    tie.close
+    (tie.spec
+    sound-requires
+    returns
+    shape-requires
+    returns-2
+    listing-words-requires
+    returns-3
+    to-vec-requires
+    same-length
+    returns-4)

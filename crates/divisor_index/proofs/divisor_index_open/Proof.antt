@@ -1,0 +1,53 @@
+use Rattle.divisor_index.proofs.Replying.{open-one, open-two, open-served, one-kind, sizes, maxima}
+use Rattle.index_image.proofs.Shapes.{empty-range}
+use borrow.Author.Tests.{not-true, not-false}
+use mathlib.Core.Path.{_≡_, refl, sym, ap, _∙_}
+use native.Mathlib.Omega.{arith}
+use borrow.Author.Needs.{needs}
+use Rattle.divisor_index.proofs.divisor_index_open.Statement.{statement}
+use Rattle.divisor_index.proofs.divisor_index_open.Tie as tie
+use Rattle.divisor_index.proofs.divisor_index_open.Reads as reads
+use Rattle.divisor_index.proofs.divisor_index_open.Lts as lts
+use Rattle.divisor_index.proofs.opening_good.Reads as opening-good-reads
+use Rattle.divisor_index.proofs.opening.open_tables.Reads as open-tables-reads
+use Rattle.index_image.proofs.length.Reads as length-reads
+
+-- src/lib.rt:54:9
+opening-good-requires : tie.Need-opening-good-requires
+opening-good-requires c κs = search needs
+
+-- src/lib.rt:55:9
+returns : tie.Need-returns
+returns c = open-one _ _ _ _ _ (sym (c .before .opening-good .ensures) ∙ not-true _ (c .if1 .taken))
+
+-- src/lib.rt:64:22
+length-requires : tie.Need-length-requires
+length-requires c κs = (one-kind _ _ _ _ (sym (c .before .opening-good .ensures) ∙ not-false _ (c .if1 .left)), sizes _ _ _ _ (sym (c .before .opening-good .ensures) ∙ not-false _ (c .if1 .left)))
+
+-- src/lib.rt:65:9
+returns-2 : tie.Need-returns-2
+returns-2 c = open-two _ _ _ _ (sym (c .before .before .before .opening-good .ensures) ∙ not-false _ (c .before .before .if1 .left)) _ (omega (arith, c .if2 .taken, c .before .length .ensures .0))
+
+-- src/lib.rt:67:5
+open-tables-requires : tie.Need-open-tables-requires
+open-tables-requires c κs = (empty-range _ _ _ (one-kind _ _ _ _ (sym (c .before .before .before .before .opening-good .ensures) ∙ not-false _ (c .before .before .before .if1 .left))) (sizes _ _ _ _ (sym (c .before .before .before .before .opening-good .ensures) ∙ not-false _ (c .before .before .before .if1 .left))), (omega (arith, c .before .if2 .left, c .before .before .length .ensures .0), (maxima _ _ _ _ (sym (c .before .before .before .before .opening-good .ensures) ∙ not-false _ (c .before .before .before .if1 .left)) .1, maxima _ _ _ _ (sym (c .before .before .before .before .opening-good .ensures) ∙ not-false _ (c .before .before .before .if1 .left)) .0)))
+
+-- src/lib.rt:43:1
+same-length : tie.Need-same-length
+same-length c = search needs
+
+-- src/lib.rt:43:1
+returns-3 : tie.Need-returns-3
+returns-3 c = open-served _ _ _ _ (sym (c .before .before .before .before .before .before .before .opening-good .ensures) ∙ not-false _ (c .before .before .before .before .before .before .if1 .left)) _ _ (omega (arith, c .before .before .before .before .if2 .left, c .before .before .before .before .before .length .ensures .0)) (c .before .before .open-tables .ensures)
+
+pub divisor-index-open-spec : {M : Type 1} → statement M
+divisor-index-open-spec =
+    tie.close
+    (tie.spec
+    opening-good-requires
+    returns
+    length-requires
+    returns-2
+    open-tables-requires
+    same-length
+    returns-3)

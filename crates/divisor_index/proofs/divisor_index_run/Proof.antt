@@ -1,0 +1,82 @@
+use Rattle.divisor_index.proofs.Replying.{clash, run-three, run-four, run-five, run-served}
+use borrow.Author.Tests.{not-true, not-false}
+use native.Mathlib.Omega.{arith}
+use borrow.Author.Needs.{needs}
+use Rattle.divisor_index.proofs.divisor_index_run.Statement.{statement}
+use Rattle.divisor_index.proofs.divisor_index_run.Tie as tie
+use Rattle.divisor_index.proofs.divisor_index_run.Reads as reads
+use Rattle.divisor_index.proofs.divisor_index_run.Lts as lts
+use Rattle.call_list.proofs.count.Reads as count-reads
+use Rattle.call_list.proofs.is_list.Reads as is-list-reads
+use Rattle.divisor_index.proofs.run.run.Reads as run-reads
+use Rattle.index_sound.proofs.sound.Reads as sound-reads
+
+-- src/lib.rt:76:9
+sound-requires : tie.Need-sound-requires
+sound-requires c κs = search needs
+
+-- src/lib.rt:77:9
+same-length : tie.Need-same-length
+same-length c = search needs
+
+-- src/lib.rt:77:9
+returns : tie.Need-returns
+returns c = run-three _ _ _ (λ S. clash _ (not-true _ (c .if1 .taken)) (c .before .sound .ensures .1 S))
+
+-- src/lib.rt:79:9
+is-list-requires : tie.Need-is-list-requires
+is-list-requires c κs = search needs
+
+-- src/lib.rt:80:9
+same-length-2 : tie.Need-same-length-2
+same-length-2 c = search needs
+
+-- src/lib.rt:80:9
+returns-2 : tie.Need-returns-2
+returns-2 c = run-four _ _ _ (c .before .before .before .sound .ensures .0 (not-false _ (c .before .before .if1 .left))) (λ l. clash _ (not-true _ (c .if2 .taken)) (c .before .is-list .ensures .1 l))
+
+-- src/lib.rt:82:28
+count-requires : tie.Need-count-requires
+count-requires c κs = search needs
+
+-- src/lib.rt:83:9
+same-length-3 : tie.Need-same-length-3
+same-length-3 c = search needs
+
+-- src/lib.rt:83:9
+returns-3 : tie.Need-returns-3
+returns-3 c = run-five _ _ _ (c .before .before .before .before .before .sound .ensures .0 (not-false _ (c .before .before .before .before .if1 .left))) (c .before .before .before .is-list .ensures .0 (not-false _ (c .before .before .if2 .left))) (omega (arith, c .if3 .taken, c .before .count .ensures))
+
+-- src/lib.rt:85:5
+run-requires : tie.Need-run-requires
+run-requires c κs = ((c .before .before .before .before .before .before .before .sound .ensures .0 (not-false _ (c .before .before .before .before .before .before .if1 .left))), ((c .before .before .before .before .before .is-list .ensures .0 (not-false _ (c .before .before .before .before .if2 .left))), omega (arith, c .before .before .if3 .left, c .before .before .before .count .ensures)))
+
+-- src/lib.rt:72:1
+same-length-4 : tie.Need-same-length-4
+same-length-4 c = search needs
+
+-- src/lib.rt:72:1
+same-length-5 : tie.Need-same-length-5
+same-length-5 c = search needs
+
+-- src/lib.rt:72:1
+returns-4 : tie.Need-returns-4
+returns-4 c = run-served _ _ _ (c .before .before .before .before .before .before .before .before .before .before .before .before .sound .ensures .0 (not-false _ (c .before .before .before .before .before .before .before .before .before .before .before .if1 .left))) (c .before .before .before .before .before .before .before .before .before .before .is-list .ensures .0 (not-false _ (c .before .before .before .before .before .before .before .before .before .if2 .left))) _ _ (omega (arith, c .before .before .before .before .before .before .before .if3 .left, c .before .before .before .before .before .before .before .before .count .ensures)) (c .before .before .before .before .run .ensures)
+
+pub divisor-index-run-spec : {M : Type 1} → statement M
+divisor-index-run-spec =
+    tie.close
+    (tie.spec
+    sound-requires
+    same-length
+    returns
+    is-list-requires
+    same-length-2
+    returns-2
+    count-requires
+    same-length-3
+    returns-3
+    run-requires
+    same-length-4
+    same-length-5
+    returns-4)

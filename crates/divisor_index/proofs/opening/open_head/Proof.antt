@@ -1,0 +1,79 @@
+use Rattle.divisor_index.proofs.Openings.{head-written}
+use native.Mathlib.Omega.{arith}
+use borrow.Author.Needs.{needs}
+use Rattle.divisor_index.proofs.opening.open_head.Statement.{statement}
+use Rattle.divisor_index.proofs.opening.open_head.Tie as tie
+use Rattle.divisor_index.proofs.opening.open_head.Reads as reads
+use Rattle.divisor_index.proofs.opening.open_head.Lts as lts
+use Rattle.words.proofs.put.Reads as put-reads
+use Rattle.words.proofs.runs.clear.Reads as clear-reads
+
+-- src/opening.rt:23:5
+put-requires : tie.Need-put-requires
+put-requires c κs = search needs
+
+-- src/opening.rt:24:37
+cast-put : tie.Need-cast-put
+cast-put c = search needs
+
+-- src/opening.rt:24:5
+put-requires-2 : tie.Need-put-requires-2
+put-requires-2 c κs = search needs
+
+-- src/opening.rt:25:42
+cast-put-2 : tie.Need-cast-put-2
+cast-put-2 c = search needs
+
+-- src/opening.rt:25:5
+put-requires-3 : tie.Need-put-requires-3
+put-requires-3 c κs = search needs
+
+-- src/opening.rt:26:41
+cast-put-3 : tie.Need-cast-put-3
+cast-put-3 c = search needs
+
+-- src/opening.rt:26:5
+put-requires-4 : tie.Need-put-requires-4
+put-requires-4 c κs = search needs
+
+-- src/opening.rt:27:5
+put-requires-5 : tie.Need-put-requires-5
+put-requires-5 c κs = search needs
+
+-- src/opening.rt:28:5
+put-requires-6 : tie.Need-put-requires-6
+put-requires-6 c κs = search needs
+
+-- src/opening.rt:29:45
+sub-clear : tie.Need-sub-clear
+sub-clear c = search needs
+
+-- src/opening.rt:29:5
+clear-requires : tie.Need-clear-requires
+clear-requires c κs = omega (arith, c .before .before .before .before .before .before .before .before .before .before .before .before .before .before .before .before .before .before .before .before .before .before .before .before .before .before .before .before .before .pre .1, c .before .before .before .before .before .before .before .before .before .before .before .before .before .before .before .before .before .before .before .before .before .before .before .before .before .before .put .kept .0, c .before .before .before .before .before .before .before .before .before .before .before .before .before .before .before .before .before .before .before .before .before .put2 .kept .0, c .before .before .before .before .before .before .before .before .before .before .before .before .before .before .before .before .put3 .kept .0, c .before .before .before .before .before .before .before .before .before .before .before .put4 .kept .0, c .before .before .before .before .before .before .before .put5 .kept .0, c .before .before .before .put6 .kept .0)
+
+-- src/opening.rt:18:1
+same-length : tie.Need-same-length
+same-length c = search needs
+
+-- src/opening.rt:18:1
+returns : tie.Need-returns
+returns c = head-written _ _ _ _ _ _ _ _ _ _ _ (c .before .before .before .before .before .before .before .before .before .before .before .before .before .before .before .before .before .before .before .before .before .before .before .before .before .before .before .before .before .before .before .before .pre .1) (c .before .before .before .before .before .before .before .before .before .before .before .before .before .before .before .before .before .before .before .before .before .before .before .before .before .before .before .before .before .put .ensures) (c .before .before .before .before .before .before .before .before .before .before .before .before .before .before .before .before .before .before .before .before .before .before .before .before .put2 .ensures) (c .before .before .before .before .before .before .before .before .before .before .before .before .before .before .before .before .before .before .before .put3 .ensures) (c .before .before .before .before .before .before .before .before .before .before .before .before .before .before .put4 .ensures) (c .before .before .before .before .before .before .before .before .before .before .put5 .ensures) (c .before .before .before .before .before .before .put6 .ensures) (c .before .before .clear .ensures)
+
+pub open-head-spec : {M : Type 1} → statement M
+open-head-spec =
+    tie.close
+    (tie.spec
+    put-requires
+    cast-put
+    put-requires-2
+    cast-put-2
+    put-requires-3
+    cast-put-3
+    put-requires-4
+    put-requires-5
+    put-requires-6
+    sub-clear
+    clear-requires
+    same-length
+    returns)

@@ -1,0 +1,77 @@
+use Rattle.divisor_index.proofs.Openings.{labels-none, labels-written, asked-labels, part-long, part-room}
+use Prim.Native.Nat.{_*_, _+_, _-_}
+use mathlib.Core.Path.{_≡_, refl, sym, ap, _∙_}
+use native.Mathlib.Omega.{arith}
+use borrow.Author.Needs.{needs}
+use Rattle.divisor_index.proofs.opening.open_labels.Statement.{statement}
+use Rattle.divisor_index.proofs.opening.open_labels.Tie as tie
+use Rattle.divisor_index.proofs.opening.open_labels.Reads as reads
+use Rattle.divisor_index.proofs.opening.open_labels.Lts as lts
+use Rattle.fast_compare.proofs.open.Reads as open-reads
+use Rattle.index_image.proofs.Shape.labels_at.Reads as labels-at-reads
+use Rattle.index_image.proofs.Shape.labels_size.Reads as labels-size-reads
+
+-- src/opening.rt:39:9
+returns : tie.Need-returns
+returns c = labels-none _ _ _ _ (c .if1 .taken)
+
+-- src/opening.rt:41:17
+labels-at-requires : tie.Need-labels-at-requires
+labels-at-requires c κs = search needs
+
+-- src/opening.rt:41:13
+mul-a : tie.Need-mul-a
+mul-a c = search needs
+
+-- src/opening.rt:42:21
+labels-size-requires : tie.Need-labels-size-requires
+labels-size-requires c κs = search needs
+
+-- src/opening.rt:42:17
+mul-b : tie.Need-mul-b
+mul-b c = search needs
+
+-- src/opening.rt:42:13
+add-b : tie.Need-add-b
+add-b c = search needs
+
+-- src/opening.rt:43:24
+sub-open : tie.Need-sub-open
+sub-open c = search needs
+
+-- src/opening.rt:43:24
+part-open-start : tie.Need-part-open-start
+part-open-start c = search needs
+
+-- src/opening.rt:43:24
+part-open-end : tie.Need-part-open-end
+part-open-end c = search needs
+
+-- src/opening.rt:43:5
+open-requires : tie.Need-open-requires
+open-requires c κs = (asked-labels _ (c .before .before .before .before .before .before .pre .0), part-room _ _ (c .before .before .before .before .before .before .pre .0) (c .before .before .before .before .before .before .pre .1) (c .before .before .before .if1 .left) _ _ (c .before .before .labels-at .ensures) (c .before .labels-size .ensures))
+
+-- src/opening.rt:33:1
+same-length : tie.Need-same-length
+same-length c = search needs
+
+-- src/opening.rt:33:1
+returns-2 : tie.Need-returns-2
+returns-2 c = labels-written _ _ (c .before .before .before .before .before .before .before .before .before .pre .0) (c .before .before .before .before .before .before .before .before .before .pre .1) (c .before .before .before .before .before .before .if1 .left) _ (4 * c .before .before .before .before .before .labels-at .result + 4 * c .before .before .before .before .labels-size .result - 4 * c .before .before .before .before .before .labels-at .result) _ (ap (λ n. 4 * n) (c .before .before .before .before .before .labels-at .ensures)) (omega (arith, c .before .before .before .before .labels-size .ensures)) (c .before .before .«open» .ensures)
+
+pub open-labels-spec : {M : Type 1} → statement M
+open-labels-spec =
+    tie.close
+    (tie.spec
+    returns
+    labels-at-requires
+    mul-a
+    labels-size-requires
+    mul-b
+    add-b
+    sub-open
+    part-open-start
+    part-open-end
+    open-requires
+    same-length
+    returns-2)

@@ -1,0 +1,95 @@
+use Rattle.divisor_index.proofs.Openings.{opened-tables}
+use native.Mathlib.Omega.{arith}
+use borrow.Author.Needs.{needs}
+use Rattle.divisor_index.proofs.opening.open_tables.Statement.{statement}
+use Rattle.divisor_index.proofs.opening.open_tables.Tie as tie
+use Rattle.divisor_index.proofs.opening.open_tables.Reads as reads
+use Rattle.divisor_index.proofs.opening.open_tables.Lts as lts
+use Rattle.divisor_index.proofs.opening.open_head.Reads as open-head-reads
+use Rattle.divisor_index.proofs.opening.open_labels.Reads as open-labels-reads
+use Rattle.index_image.proofs.Shape.entry_at.Reads as entry-at-reads
+use Rattle.index_image.proofs.Shape.labels_at.Reads as labels-at-reads
+use Rattle.index_image.proofs.Shape.node_at.Reads as node-at-reads
+use Rattle.index_image.proofs.Shape.size.Reads as size-reads
+use Rattle.words.proofs.runs.clear.Reads as clear-reads
+use Rattle.words.proofs.runs.paste.Reads as paste-reads
+
+-- src/opening.rt:55:5
+open-head-requires : tie.Need-open-head-requires
+open-head-requires c κs = search needs
+
+-- src/opening.rt:56:5
+paste-requires : tie.Need-paste-requires
+paste-requires c κs = search needs
+
+-- src/opening.rt:57:31
+add-paste : tie.Need-add-paste
+add-paste c = search needs
+
+-- src/opening.rt:57:5
+paste-requires-2 : tie.Need-paste-requires-2
+paste-requires-2 c κs = search needs
+
+-- src/opening.rt:58:9
+entry-at-requires : tie.Need-entry-at-requires
+entry-at-requires c κs = search needs
+
+-- src/opening.rt:59:40
+labels-at-requires : tie.Need-labels-at-requires
+labels-at-requires c κs = search needs
+
+-- src/opening.rt:59:40
+sub-clear : tie.Need-sub-clear
+sub-clear c = search needs
+
+-- src/opening.rt:59:5
+clear-requires : tie.Need-clear-requires
+clear-requires c κs = search needs
+
+-- src/opening.rt:60:5
+open-labels-requires : tie.Need-open-labels-requires
+open-labels-requires c κs = search needs
+
+-- src/opening.rt:61:9
+node-at-requires : tie.Need-node-at-requires
+node-at-requires c κs = search needs
+
+-- src/opening.rt:62:38
+size-requires : tie.Need-size-requires
+size-requires c κs = search needs
+
+-- src/opening.rt:62:38
+sub-clear-2 : tie.Need-sub-clear-2
+sub-clear-2 c = search needs
+
+-- src/opening.rt:62:5
+clear-requires-2 : tie.Need-clear-requires-2
+clear-requires-2 c κs = search needs
+
+-- src/opening.rt:47:1
+same-length : tie.Need-same-length
+same-length c = search needs
+
+-- src/opening.rt:47:1
+returns : tie.Need-returns
+returns c = opened-tables _ (c .before .before .before .before .before .before .before .before .before .before .before .before .before .before .before .before .before .before .before .before .before .before .before .before .before .before .before .before .before .before .pre .0) _ (c .before .before .before .before .before .before .before .before .before .before .before .before .before .before .before .before .before .before .before .before .before .before .before .before .before .before .before .before .before .before .pre .1 .1 .0) _ _ _ _ _ _ _ _ _ _ _ (c .before .before .before .before .before .before .before .before .before .before .before .before .before .before .before .before .before .before .before .before .before .before .before .before .before .before .before .before .before .before .pre .1 .0) (c .before .before .before .before .before .before .before .before .before .before .before .before .before .before .before .entry-at .ensures) (c .before .before .before .before .before .before .before .before .before .before .before .before .before .labels-at .ensures) (c .before .before .before .before .before .node-at .ensures) (c .before .before .before .size .ensures) (c .before .before .before .before .before .before .before .before .before .before .before .before .before .before .before .before .before .before .before .before .before .before .before .before .before .before .open-head .ensures) (c .before .before .before .before .before .before .before .before .before .before .before .before .before .before .before .before .before .before .before .before .before .before .paste .ensures) (c .before .before .before .before .before .before .before .before .before .before .before .before .before .before .before .before .before .before .paste2 .ensures) (c .before .before .before .before .before .before .before .before .before .before .before .before .clear .ensures) (c .before .before .before .before .before .before .before .before .open-labels .ensures) (c .before .before .clear2 .ensures)
+
+pub open-tables-spec : {M : Type 1} → statement M
+open-tables-spec =
+    tie.close
+    (tie.spec
+    open-head-requires
+    paste-requires
+    add-paste
+    paste-requires-2
+    entry-at-requires
+    labels-at-requires
+    sub-clear
+    clear-requires
+    open-labels-requires
+    node-at-requires
+    size-requires
+    sub-clear-2
+    clear-requires-2
+    same-length
+    returns)
