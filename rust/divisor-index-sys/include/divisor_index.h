@@ -63,7 +63,16 @@ uint32_t divisor_index_fast_compare_rebuild(uint8_t *image, size_t image_len);
  * or 3. Nothing is changed. */
 uint32_t divisor_index_check(const uint8_t *image, size_t image_len);
 
-/* To come: the indexes' divisor_index_*. */
+/* libdivisor_index.a: the index, in an image of the caller's. kind is 0 for a monomial
+ * index, 1 for a ratio index; maxima are one word a variable. divisor_index_length
+ * returns the image's length in bytes, which is above 16, or 1; the others 0 or a
+ * refusal, which changes no byte. divisor_index_run writes one answer word a call,
+ * divisor_index_list the monomials of a monomial index. On the deepest tree a list
+ * needs at most 1 MiB of stack, the listing 1,096 KiB. */
+uint32_t divisor_index_length(uint32_t kind, uint32_t variables, uint32_t capacity, const uint8_t *maxima, size_t maxima_len);
+uint32_t divisor_index_open(uint32_t kind, uint32_t variables, uint32_t capacity, const uint8_t *maxima, size_t maxima_len, uint8_t *image, size_t image_len);
+uint32_t divisor_index_run(uint8_t *image, size_t image_len, const uint8_t *list, size_t list_len, uint8_t *answers, size_t answers_len);
+uint32_t divisor_index_list(const uint8_t *image, size_t image_len, uint8_t *answers, size_t answers_len);
 
 #ifdef __cplusplus
 }

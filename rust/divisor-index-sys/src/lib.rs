@@ -142,4 +142,44 @@ extern "C" {
     pub fn divisor_index_check(image: *const u8, image_len: usize) -> u32;
 }
 
-// To come, with a line in exports.txt: the indexes' divisor_index_*.
+// crates/divisor_index. Refusals: 1 kind, variables, capacity and maxima, 2 buffer, 3 image, 4 list, 6 no
+// monomial index, 5 room. Inside a list a refusal (6, 7, 8) is a kind 5 word in its call's place.
+extern "C" {
+    /// The length in bytes of an index's image, which is above 16, or 1.
+    pub fn divisor_index_length(
+        kind: u32,
+        variables: u32,
+        capacity: u32,
+        maxima: *const u8,
+        maxima_len: usize,
+    ) -> u32;
+
+    /// Writes the image of an index that holds nothing.
+    pub fn divisor_index_open(
+        kind: u32,
+        variables: u32,
+        capacity: u32,
+        maxima: *const u8,
+        maxima_len: usize,
+        image: *mut u8,
+        image_len: usize,
+    ) -> u32;
+
+    /// Runs a list of calls on an image, and writes one answer word a call.
+    pub fn divisor_index_run(
+        image: *mut u8,
+        image_len: usize,
+        list: *const u8,
+        list_len: usize,
+        answers: *mut u8,
+        answers_len: usize,
+    ) -> u32;
+
+    /// Writes the monomials of a monomial index, one behind the other.
+    pub fn divisor_index_list(
+        image: *const u8,
+        image_len: usize,
+        answers: *mut u8,
+        answers_len: usize,
+    ) -> u32;
+}

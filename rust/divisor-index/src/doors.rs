@@ -131,3 +131,58 @@ pub fn divisor_index_check(image: &[u8]) -> u32 {
     // SAFETY: as in `on_two`, and nothing is written.
     unsafe { sys::divisor_index_check(image.as_ptr(), image.len()) }
 }
+
+/// The length in bytes of an index's image, or 1.
+pub fn divisor_index_length(kind: u32, variables: u32, capacity: u32, maxima: &[u8]) -> u32 {
+    // SAFETY: as in `on_two`, and nothing is written.
+    unsafe {
+        sys::divisor_index_length(kind, variables, capacity, maxima.as_ptr(), maxima.len())
+    }
+}
+
+pub fn divisor_index_open(
+    kind: u32,
+    variables: u32,
+    capacity: u32,
+    maxima: &[u8],
+    image: &mut [u8],
+) -> u32 {
+    // SAFETY: as in `on_two`, with `image` exclusive.
+    unsafe {
+        sys::divisor_index_open(
+            kind,
+            variables,
+            capacity,
+            maxima.as_ptr(),
+            maxima.len(),
+            image.as_mut_ptr(),
+            image.len(),
+        )
+    }
+}
+
+pub fn divisor_index_run(image: &mut [u8], list: &[u8], answers: &mut [u8]) -> u32 {
+    // SAFETY: as in `on_two`, with `image` and `answers` exclusive.
+    unsafe {
+        sys::divisor_index_run(
+            image.as_mut_ptr(),
+            image.len(),
+            list.as_ptr(),
+            list.len(),
+            answers.as_mut_ptr(),
+            answers.len(),
+        )
+    }
+}
+
+pub fn divisor_index_list(image: &[u8], answers: &mut [u8]) -> u32 {
+    // SAFETY: as in `on_two`, with `answers` exclusive.
+    unsafe {
+        sys::divisor_index_list(
+            image.as_ptr(),
+            image.len(),
+            answers.as_mut_ptr(),
+            answers.len(),
+        )
+    }
+}

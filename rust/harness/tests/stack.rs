@@ -1,4 +1,4 @@
-//! The port's check of the deepest trees.
+//! Every call, and the check, on the deepest trees.
 
 use std::path::Path;
 

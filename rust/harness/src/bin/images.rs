@@ -6,7 +6,7 @@
 //! were refused, and for each rule how many break it, and it alone; a rule that
 //! nothing breaks alone could be left out unnoticed.
 //!
-//! `images stack` prints the least stack on which the port judges the deepest
+//! `images stack` prints the least stack on which the port serves the deepest
 //! trees.
 //!
 //! `images chain` writes the deepest tree that `crates/stack_case` reads.

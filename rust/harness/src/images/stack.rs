@@ -15,7 +15,7 @@ use super::{
 };
 use crate::{
     model::{image::encode, Kind},
-    words::MAX_CAPACITY,
+    words::{monomial_words, ratio_words, word, CALL, INDEX, MAX_CAPACITY, MAX_POWER},
 };
 
 /// Stacks are tried in steps of a page.
@@ -32,11 +32,36 @@ pub fn deepest(kind: Kind, form: Form) -> Vec<u8> {
     bytes(&encode(&full(kind, 1, MAX_CAPACITY, form)))
 }
 
-/// What the port returns for an image in a thread with so many bytes of stack.
-/// If they are too few, the process ends.
-fn check_in_thread(image: Vec<u8>, stack: usize) -> u32 {
+/// Every call that the index serves, with a monomial that all entries divide,
+/// so that a search for the largest ratio visits all of them.
+fn calls(kind: Kind) -> Vec<u8> {
+    let large = monomial_words([(0, MAX_POWER)]);
+    let ratio = ratio_words([(0, MAX_POWER)]);
+    let (index, one) = (vec![word(INDEX, 0)], monomial_words([]));
+    let bodies = match kind {
+        Kind::Monomial => vec![(0, large.clone()), (1, large), (1, one)],
+        Kind::Ratio => vec![
+            (2, [&index[..], &large, &large].concat()),
+            (3, [&index[..], &ratio, &large].concat()),
+            (4, [&index[..], &ratio, &large].concat()),
+            (5, [&index[..], &large].concat()),
+            (6, [&index[..], &large, &one].concat()),
+        ],
+    };
+    let call = |(number, body): (u32, Vec<u32>)| [vec![word(CALL, number)], body].concat();
+    bytes(&bodies.into_iter().flat_map(call).collect::<Vec<u32>>())
+}
+
+/// What the port returns for an image and a list of all calls on it, in a
+/// thread with so many bytes of stack. If they are too few, the process ends.
+fn serve_in_thread(kind: Kind, mut image: Vec<u8>, stack: usize) -> u32 {
     let thread = thread::Builder::new().stack_size(stack);
-    let thread = thread.spawn(move || doors::divisor_index_check(&image));
+    let mut answers = [0; 64];
+    let list = calls(kind);
+    let thread = thread.spawn(move || {
+        let run = doors::divisor_index_run(&mut image, &list, &mut answers);
+        doors::divisor_index_check(&image) + run
+    });
     thread.expect("a thread").join().expect("a number")
 }
 
@@ -72,5 +97,5 @@ pub fn try_out(words: &[String]) -> Option<bool> {
     let kind = kinds.find(|kind| format!("{kind:?}") == *kind_name)?;
     let mut forms = Form::ALL.into_iter();
     let form = forms.find(|form| format!("{form:?}") == *form_name)?;
-    Some(check_in_thread(deepest(kind, form), stack.parse().ok()?) == 0)
+    Some(serve_in_thread(kind, deepest(kind, form), stack.parse().ok()?) == 0)
 }

@@ -174,6 +174,15 @@ impl<O: Ordering> Syzygies<O> {
         });
     }
 
+    /// The same without the maxima, for benchmarks: they are tracked here in a
+    /// way of the oracle's own.
+    pub fn insert_untracked(&mut self, monomial: Monomial<O>) {
+        self.index.insert(MaskedMonomial {
+            divmask: self.div_map.map(&monomial),
+            monomial,
+        });
+    }
+
     pub fn contains_divisor(&self, monomial: &Monomial<O>) -> bool {
         let divmask = self.div_map.map(monomial);
         self.index
@@ -225,6 +234,16 @@ impl<O: Ordering> Basis<O> {
             self.max_exp.update::<O>(&vars(&term.monomial));
         }
 
+        let sign_poly = Rc::new(RefCell::new(sign_poly));
+        self.index.insert(Rc::clone(&sign_poly));
+        self.polys.push(sign_poly);
+    }
+
+    /// The same without the maxima, for benchmarks: they are tracked here in a
+    /// way of the oracle's own.
+    pub fn insert_untracked(&mut self, idx: u32, sign: Monomial<O>, lm: Monomial<O>) {
+        let mut sign_poly = self.sign_poly(idx, sign, lm);
+        self.label(&mut sign_poly);
         let sign_poly = Rc::new(RefCell::new(sign_poly));
         self.index.insert(Rc::clone(&sign_poly));
         self.polys.push(sign_poly);
