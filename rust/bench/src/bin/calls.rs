@@ -1,9 +1,9 @@
 //! Measures the calls of a list beside the original, on the same calls and in
 //! one run, and prints a table.
 //!
-//! `calls [ROUNDS]` inserts 4,000 entries, makes each query once, so that leaves
-//! are split, and then makes the queries ROUNDS times on each side in turn; it
-//! shows medians. The port gets each batch as one list: the time of an empty
+//! `calls [ROUNDS]` inserts 2,000 entries, searches, so that leaves are split, and
+//! times the inserts of 2,000 more; then it makes each query once, for the splits,
+//! and ROUNDS times on each side in turn; it shows medians. The port gets each batch as one list: the time of an empty
 //! list, which judges the image, is taken off and shown by itself. The original
 //! is called on its own values, made before the clock starts; its inserts are
 //! timed without the tracking of maxima, which is the oracle's own.
@@ -189,12 +189,7 @@ impl Index {
 
 /// The queries in which the original does not panic. A panic leaves its tree
 /// without the nodes visited, so each has the trial's index made anew.
-fn served(kind: u32, variables: u32, number: u32, entries: &[Call], queries: Vec<Call>) -> Vec<Call> {
-    let fresh = || {
-        let mut index = Index::open(kind, variables);
-        index.insert(entries);
-        index
-    };
+fn served(fresh: impl Fn() -> Index, number: u32, queries: Vec<Call>) -> Vec<Call> {
     let mut index = fresh();
     let mut good = vec![];
     for query in queries {
@@ -224,28 +219,44 @@ fn measure(kind: u32, variables: u32, rounds: usize) {
     let insert = 2 * kind;
     let entries: Vec<Call> = (0..ENTRIES).map(|_| call(insert, variables, &[], &mut rng)).collect();
     let mut answers = vec![0; 4 * ENTRIES];
-    let (list, few) = (bytes(&entries), rounds.min(21));
-    let mut times = (vec![], vec![]);
+    // Half of the entries stand in a split tree before the rest is timed. These searches never panic.
+    let search = [1, 5][kind as usize];
+    let splits: Vec<Call> = (0..QUERIES).map(|_| call(search, variables, &entries, &mut rng)).collect();
+    let (early, late) = entries.split_at(ENTRIES / 2);
+    let (lists, few) = ([bytes(early), bytes(&splits), bytes(late)], rounds.min(21));
+    let mut times = (vec![], vec![], vec![]);
     let mut pair = (vec![], Index::open(kind, variables));
     for _ in 0..few {
         pair = (open(kind, variables), Index::open(kind, variables));
-        let check = run(&mut pair.0, &[], &mut answers);
-        times.0.push(pair.1.insert(&entries));
-        times.1.push(run(&mut pair.0, &list, &mut answers).saturating_sub(check));
+        run(&mut pair.0, &lists[0], &mut answers);
+        run(&mut pair.0, &lists[1], &mut answers);
+        pair.1.insert(early);
+        pair.1.query(search, &splits);
+        times.2.push(run(&mut pair.0, &[], &mut answers));
+        times.0.push(pair.1.insert(late));
+        times.1.push(run(&mut pair.0, &lists[2], &mut answers));
     }
-    let count = ENTRIES as f64;
-    print(insert as usize, kind, variables, median(times.0) / count, median(times.1) / count);
+    let count = late.len() as f64;
+    let port = (median(times.1) - median(times.2)) / count;
+    print(insert as usize, kind, variables, median(times.0) / count, port);
 
     let (mut image, index) = pair;
+    let fresh = || {
+        let mut index = Index::open(kind, variables);
+        index.insert(early);
+        index.query(search, &splits);
+        index.insert(late);
+        index
+    };
     let numbers = if kind == 0 { vec![1] } else { vec![3, 4, 5, 6] };
     for number in numbers {
-        let queries = (0..4 * QUERIES).map(|_| call(number, variables, &entries, &mut rng));
-        let mut queries: Vec<Call> = served(kind, variables, number, &entries, queries.collect());
+        let queries = (0..2 * QUERIES).map(|_| call(number, variables, &entries, &mut rng));
+        let mut queries: Vec<Call> = served(fresh, number, queries.collect());
         queries.truncate(QUERIES);
         let list = bytes(&queries);
         run(&mut image, &list, &mut answers);
         index.query(number, &queries);
-        assert!(queries.len() >= QUERIES / 4, "too few queries are served");
+        assert!(queries.len() >= QUERIES / 20, "too few queries are served");
         let mut times = (vec![], vec![], vec![]);
         for _ in 0..rounds {
             times.0.push(index.query(number, &queries));
