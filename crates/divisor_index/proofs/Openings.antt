@@ -25,7 +25,7 @@ use Rattle.index_image.specs.Shape as at
 use Rattle.index_image.specs.declared.Shape.{Shape}
 use Rattle.index_image.proofs.Gcds.{Powers, gcd-none}
 use Rattle.kd_query.proofs.Posing.{six-written}
-use Rattle.divisor_index.specs.Ran.{kindOf}
+use Rattle.divisor_index.specs.Ran.{indexKind}
 
 suc-row : (n w : ℕ) → suc n * w ≡ w + n * w
 suc-row n w = omega arith
@@ -38,17 +38,17 @@ head-written b₀ b₁ b₂ b₃ b₄ b₅ b₆ b₇ k m c room e₁ e₂ e₃ e
     e₇ ∙ rw z (pasteW-append b₀ 0 (1 ∷ k ∷ m ∷ c ∷ 0 ∷ 1 ∷ []) 6 (zeros 18) (omega arith) (omega arith))
 
 -- ---- the label map
-none-of : (k : ℕ) (l : map.State) → k ≡ 0 → labelWords (kindOf k) l ≡ []
+none-of : (k : ℕ) (l : map.State) → k ≡ 0 → labelWords (indexKind k) l ≡ []
 unfolding labelWords
 none-of zero l e = refl
 none-of (suc k) l e = absurd (omega arith)
 
-all-of : (k : ℕ) (l : map.State) → k ≡ 1 → labelWords (kindOf k) l ≡ labels.encode l
+all-of : (k : ℕ) (l : map.State) → k ≡ 1 → labelWords (indexKind k) l ≡ labels.encode l
 unfolding labelWords
 all-of zero l e = absurd (omega arith)
 all-of (suc k) l e = refl
 
-pub labels-none : (bs : List ℕ) (k a : ℕ) (l : map.State) → k ≡ 0 → bs ≡ pasteW bs a (labelWords (kindOf k) l)
+pub labels-none : (bs : List ℕ) (k a : ℕ) (l : map.State) → k ≡ 0 → bs ≡ pasteW bs a (labelWords (indexKind k) l)
 labels-none bs k a l e = sym (ap (pasteW bs a) (none-of k l e) ∙ pasteW-nil bs a)
 
 empty-length : (m c : ℕ) → length (labels.encode (map.empty m c)) ≡ labels.size m c
@@ -77,7 +77,7 @@ module _ (bs : List ℕ) (s : Shape) (R : at.InRange s) (room : 4 * at.size s �
       omega (arith, t, length-drop (4 * a) bs, part-long, labels-room s)
 
   pub labels-written : (a k : ℕ) (ys : List ℕ) → a ≡ 4 * at.labelsAt s → k ≡ 4 * at.labelsSize s → ys ≡ pasteW (take k (drop a bs)) 0 (labels.encode (map.empty (s .variables) (s .capacity)))
-      → putMid a k bs ys ≡ pasteW bs (at.labelsAt s) (labelWords (kindOf (s .kind)) (map.empty (s .variables) (s .capacity)))
+      → putMid a k bs ys ≡ pasteW bs (at.labelsAt s) (labelWords (indexKind (s .kind)) (map.empty (s .variables) (s .capacity)))
   labels-written a k ys ea ek ey =
       let l = map.empty (s .variables) (s .capacity) in
       let long : length (labels.encode l) ≡ at.labelsSize s = empty-length (s .variables) (s .capacity) ∙ sym (labels-long s (kind-one s R z)) in
@@ -139,12 +139,12 @@ module _ (m c : ℕ) (xs : List ℕ) (M : Maxima m xs) (one : 1 ≤ c) (few : c 
       let zB : zeros B ≡ zeros (m + 6) ++ zeros ((2 * c - 1 - 1) * (m + 6)) = ap zeros b ∙ zeros-add (m + 6) ((2 * c - 1 - 1) * (m + 6)) in
       rw (e, row-blank, zA, zB) (ap (λ (r : List ℕ). (1 ∷ code k ∷ m ∷ c ∷ 0 ∷ 1 ∷ zeros 18) ++ (xs ++ (xs ++ r))) (sym (append-assoc (zeros (c * at.widthOf (code k) m)) (zeros c) (labelWords k (map.empty m c) ++ (zeros (m + 6) ++ zeros ((2 * c - 1 - 1) * (m + 6)))))))
 
-code-kind : (k : ℕ) → k ≤ 1 → code (kindOf k) ≡ k
+code-kind : (k : ℕ) → k ≤ 1 → code (indexKind k) ≡ k
 code-kind zero h = refl
 code-kind (suc zero) h = refl
 code-kind (suc (suc k)) h = absurd (omega arith)
 
-label-length : (k m c : ℕ) → k ≤ 1 → length (labelWords (kindOf k) (map.empty m c)) ≡ k * labels.size m c
+label-length : (k m c : ℕ) → k ≤ 1 → length (labelWords (indexKind k) (map.empty m c)) ≡ k * labels.size m c
 label-length zero m c h = ap length (none-of 0 (map.empty m c) refl) ∙ omega arith
 label-length (suc zero) m c h = ap length (all-of 1 (map.empty m c) refl) ∙ empty-length m c ∙ omega arith
 label-length (suc (suc k)) m c h = absurd (omega arith)
@@ -155,22 +155,22 @@ module _ (s : Shape) (R : at.InRange s) (xs : List ℕ) (M : Maxima (s .variable
   k = s .kind
 
   abbrev lab : List ℕ
-  lab = labelWords (kindOf (s .kind)) (map.empty (s .variables) (s .capacity))
+  lab = labelWords (indexKind (s .kind)) (map.empty (s .variables) (s .capacity))
 
   pub opened-tables : (b₀ b₁ b₂ b₃ b₄ b₅ b₆ : List ℕ) (e l n z : ℕ) → 4 * at.size s ≤ length b₀ → e ≡ at.entryAt s 0 → l ≡ at.labelsAt s → n ≡ at.nodeAt s 0 → z ≡ at.size s
       → b₁ ≡ pasteW b₀ 0 (1 ∷ s .kind ∷ s .variables ∷ s .capacity ∷ 0 ∷ 1 ∷ zeros 18) → b₂ ≡ pasteW b₁ 24 xs → b₃ ≡ pasteW b₂ (24 + s .variables) xs
-      → b₄ ≡ pasteW b₃ e (zeros (l - e)) → b₅ ≡ pasteW b₄ (at.labelsAt s) (labelWords (kindOf (s .kind)) (map.empty (s .variables) (s .capacity))) → b₆ ≡ pasteW b₅ n (zeros (z - n))
-      → b₆ ≡ pasteW b₀ 0 (encode (opened (kindOf (s .kind)) (s .variables) (s .capacity) xs))
+      → b₄ ≡ pasteW b₃ e (zeros (l - e)) → b₅ ≡ pasteW b₄ (at.labelsAt s) (labelWords (indexKind (s .kind)) (map.empty (s .variables) (s .capacity))) → b₆ ≡ pasteW b₅ n (zeros (z - n))
+      → b₆ ≡ pasteW b₀ 0 (encode (opened (indexKind (s .kind)) (s .variables) (s .capacity) xs))
   opened-tables b₀ b₁ b₂ b₃ b₄ b₅ b₆ e l n z room ee el en ez e₁ e₂ e₃ e₄ e₅ e₆ =
       let m = s .variables in
       let c = s .capacity in
       let h : List ℕ = 1 ∷ s .kind ∷ s .variables ∷ s .capacity ∷ 0 ∷ 1 ∷ zeros 18 in
       let ll : length lab ≡ at.labelsSize s = label-length (s .kind) m c (R .kind-to) in
-      let w : code (kindOf (s .kind)) ≡ s .kind = code-kind (s .kind) (R .kind-to) in
-      let A : l - e ≡ c * at.widthOf (code (kindOf (s .kind))) m + c = omega arith ∙ ap (λ x. c * at.widthOf x m + c) (sym w) in
+      let w : code (indexKind (s .kind)) ≡ s .kind = code-kind (s .kind) (R .kind-to) in
+      let A : l - e ≡ c * at.widthOf (code (indexKind (s .kind))) m + c = omega arith ∙ ap (λ x. c * at.widthOf x m + c) (sym w) in
       let B : z - n ≡ (2 * c - 1) * (m + 6) = omega arith in
       let six = six-pieces b₀ b₁ b₂ b₃ b₄ b₅ b₆ h xs xs (zeros (l - e)) lab (zeros (z - n)) 24 (24 + m) e (at.labelsAt s) n
       (omega (arith, length-zeros 18)) (omega (arith, M .one-each)) (omega (arith, M .one-each)) (omega (arith, length-zeros (l - e))) (omega (arith, ll)) (omega arith) e₁ e₂ e₃ e₄ e₅ e₆ in
-      let im = empty-image m c xs M (R .cap-from) (R .cap-to) (kindOf (s .kind)) (l - e) (z - n) A B in
-      let head : (1 ∷ code (kindOf (s .kind)) ∷ m ∷ c ∷ 0 ∷ 1 ∷ zeros 18) ≡ h = ap (λ x. 1 ∷ x ∷ s .variables ∷ s .capacity ∷ 0 ∷ 1 ∷ zeros 18) w in
+      let im = empty-image m c xs M (R .cap-from) (R .cap-to) (indexKind (s .kind)) (l - e) (z - n) A B in
+      let head : (1 ∷ code (indexKind (s .kind)) ∷ m ∷ c ∷ 0 ∷ 1 ∷ zeros 18) ≡ h = ap (λ x. 1 ∷ x ∷ s .variables ∷ s .capacity ∷ 0 ∷ 1 ∷ zeros 18) w in
       six ∙ ap (pasteW b₀ 0) (sym (im ∙ ap (λ (x : List ℕ). x ++ (xs ++ (xs ++ (zeros (l - e) ++ (lab ++ zeros (z - n)))))) head))

@@ -9,6 +9,7 @@ use lib.ListN.{length}
 use borrow.Author.Tests.{leb-true, lt-leb, le-leb, lt-ltb, le-ltb}
 use Rattle.words.specs.Words.{words, pasteW}
 use Rattle.monomial.specs.Sizes.{Sizes, sizesFit}
+use Rattle.monomial.proofs.Canon.{both-true}
 use Rattle.monomial.proofs.Sizing.{sizes-fit}
 use Rattle.divmask.specs.Tracker.{Maxima, maximaLent}
 use Rattle.divmask.proofs.Growth.{lent-maxima}
@@ -24,7 +25,7 @@ use Rattle.index_image.proofs.Shapes.{empty-range}
 use Rattle.call_list.specs.Bodies.{IsList}
 use Rattle.listing.specs.Listed.{Root, Each}
 use Rattle.indices.proofs.Inserts.{shaped}
-use Rattle.divisor_index.specs.Ran.{kindOf, Ran}
+use Rattle.divisor_index.specs.Ran.{indexKind, Ran}
 use Rattle.divisor_index.specs.Doors.{openingGood, lengthNumber, openNumber, openBytes, RunIs, ListingIs}
 use Rattle.divisor_index.proofs.Running.{list-calls}
 
@@ -47,10 +48,6 @@ module _ (k m c : ℕ) (xs : List ℕ) where
   good-is r a b e = e ∙ rw (le-leb k 1 a, b)
 
 -- ---- opening
-and-both : (a b : Bool) → (a && b) ≡ true → (a ≡ true) × (b ≡ true)
-and-both true b e = (refl, e)
-and-both false b e = (e, absurd (let z : _≡_ {A = ℕ} 0 1 = cc in omega arith))
-
 module _ (k m c : ℕ) (xs : List ℕ) where
   pub length-refused : openingGood k m c xs ≡ false → 1 ≡ lengthNumber k m c xs
   unfolding lengthNumber
@@ -63,10 +60,10 @@ module _ (k m c : ℕ) (xs : List ℕ) where
   module _ (e : openingGood k m c xs ≡ true) where
     first : (leb k 1 ≡ true) × ((sizesFit m c && maximaLent m xs) ≡ true)
     unfolding openingGood
-    first = and-both (leb k 1) (sizesFit m c && maximaLent m xs) e
+    first = both-true (leb k 1) (sizesFit m c && maximaLent m xs) e
 
     second : (sizesFit m c ≡ true) × (maximaLent m xs ≡ true)
-    second = and-both (sizesFit m c) (maximaLent m xs) (first .1)
+    second = both-true (sizesFit m c) (maximaLent m xs) (first .1)
 
     pub maxima : (length xs ≡ 4 * m) × Maxima m (words xs)
     maxima = lent-maxima m xs .0 (second .1)
@@ -88,7 +85,7 @@ module _ (k m c : ℕ) (xs : List ℕ) where
     unfolding openNumber openBytes
     open-two bs h = rw (e, lt-ltb (length bs) (bytes k m c) h, lt-leb (bytes k m c) (length bs) h) (refl, refl)
 
-    pub open-served : (bs bs′ : List ℕ) → bytes k m c ≤ length bs → bs′ ≡ pasteW bs 0 (encode (opened (kindOf k) m c (words xs))) → (0 ≡ openNumber k m c xs bs) × (bs′ ≡ openBytes k m c xs bs)
+    pub open-served : (bs bs′ : List ℕ) → bytes k m c ≤ length bs → bs′ ≡ pasteW bs 0 (encode (opened (indexKind k) m c (words xs))) → (0 ≡ openNumber k m c xs bs) × (bs′ ≡ openBytes k m c xs bs)
     unfolding openNumber openBytes
     open-served bs bs′ h q = rw (e, le-ltb (length bs) (bytes k m c) h, le-leb (bytes k m c) (length bs) h) (refl, q)
 

@@ -7,8 +7,8 @@ use Prim.Native.Nat.{ℕ, zero, suc, _+_, _-_, _*_, _≤_, _<_}
 use native.Mathlib.Omega.{arith}
 use lib.Dec.{eqb}
 use lib.ListN.{length, getD, take, drop, length-append, length-take, length-drop}
-use lib.Seq.{drop-cons, drop-drop, getD-drop}
-use borrow.Author.Tests.{eqb-true, eqb-false, eq-eqb}
+use lib.Seq.{drop-drop, getD-drop}
+use borrow.Author.Tests.{eqb-true, eqb-false}
 use borrow.Rule.Slice.PartMut.{putMid}
 use Rattle.words.specs.Kinds.{kind, payload}
 use Rattle.words.specs.Words.{words, putW, pasteW}
@@ -17,7 +17,7 @@ use Rattle.words.proofs.Laws.{Bytes, length-pasteW, pasteW-nil, putW-paste}
 use Rattle.words.proofs.Tables.{length-zeros}
 use Rattle.index_theory.specs.State.{State, Valid}
 use Rattle.index_theory.specs.Calls.{Call, bodyOf, calls, listed, step, after, answers}
-use Rattle.index_theory.proofs.Lists.{answers-many, answers-two, after-two, lists-exact}
+use Rattle.index_theory.proofs.Lists.{calls-at, answers-many, answers-two, after-two, lists-exact}
 use Rattle.index_theory.proofs.Keeps.{step-valid, after-valid}
 use Rattle.index_theory.proofs.Theorems.{step-stores}
 use Rattle.index_image.specs.Layout.{code, shapeOf, encode, Is, Sound}
@@ -53,12 +53,6 @@ next-call (w ∷ ws) h = go (eqb (kind w) 6) refl h (next-call ws)
     go : (t : Bool) → eqb (kind w) 6 ≡ t → length (cond t [] (w ∷ bodyOf ws)) < suc (length ws) → (length (bodyOf ws) < length ws → kind (getD ws (length (bodyOf ws)) 0) ≡ 6) → kind (getD (w ∷ ws) (length (cond t [] (w ∷ bodyOf ws))) 0) ≡ 6
     go true e l r = eqb-true _ _ e
     go false e l r = r (omega arith)
-
--- the call there, and what follows it
-calls-at : (ws : List ℕ) (i : ℕ) → i < length ws → kind (getD ws i 0) ≡ 6
-    → calls (drop i ws) ≡ record { number = payload (getD ws i 0); body = bodyOf (drop (suc i) ws) } ∷ calls (drop (suc i) ws)
-unfolding calls
-calls-at ws i h k = ap calls (drop-cons ws i 0 h) ∙ rw (eq-eqb _ _ k) refl
 
 -- the call at word i, and the calls from word j on, which stands behind it
 module _ (W : List ℕ) (i j : ℕ) (h : i < length W) (k : kind (getD W i 0) ≡ 6) (e : j ≡ i + 1 + length (bodyOf (drop (i + 1) W))) where

@@ -38,14 +38,14 @@ use Rattle.index_image.proofs.Lengths.{valid-fits}
 use Rattle.index_image.proofs.Pasted.{pasted}
 use Rattle.index_image.proofs.Unique.{state-unique}
 use Rattle.call_list.specs.Bodies.{IsList}
-use Rattle.divisor_index.specs.Ran.{kindOf, Ran}
+use Rattle.divisor_index.specs.Ran.{indexKind, Ran}
 use Rattle.divisor_index.specs.Doors.{openingGood, RunIs}
 use Rattle.divisor_index.specs.Claims.{OpeningLeaves, OpeningServed, ranCalls, RunLeaves, SoundKept, Right, EveryAnswer, Queried, Demand3Bytes}
 use Rattle.divisor_index.proofs.Running.{after-is, list-calls}
 use Rattle.divisor_index.proofs.Replying as replying
 
 -- ---- an opening
-opening-size : (k m c : ℕ) (xs : List ℕ) → k ≤ 1 → at.size (shapeOf (opened (kindOf k) m c xs)) ≡ at.size (size.emptyShape k m c)
+opening-size : (k m c : ℕ) (xs : List ℕ) → k ≤ 1 → at.size (shapeOf (opened (indexKind k) m c xs)) ≡ at.size (size.emptyShape k m c)
 opening-size zero m c xs h = refl
 opening-size (suc zero) m c xs h = refl
 opening-size (suc (suc k)) m c xs h = absurd (omega arith)
@@ -61,9 +61,9 @@ opening-served k m c xs bs = go (openingGood k m c xs) refl
         elim (decLe (size.bytes k m c) (length bs)) [
           | yes h ↦
               let q = replying.sizes k m c xs e in
-              let st = opened (kindOf k) m c (words xs) in
+              let st = opened (indexKind k) m c (words xs) in
               let o = replying.open-served k m c xs e bs (pasteW bs 0 (encode st)) h refl in
-              let v : Valid st = opening-valid (kindOf k) m c (words xs) (replying.maxima k m c xs e .1) (q .cap-from) (q .cap-to) in
+              let v : Valid st = opening-valid (indexKind k) m c (words xs) (replying.maxima k m c xs e .1) (q .cap-from) (q .cap-to) in
               let i = pasted st v bs (omega (arith, opening-size k m c (words xs) (replying.one-kind k m c xs e))) in
               record { image = λ z. rw (o .1) at i; kept = λ z. absurd (z (sym (o .0))) }
           | no h ↦

@@ -17,12 +17,12 @@ use Rattle.index_theory.specs.Claims.{CallOf, AnswerIs, Ties}
 use Rattle.index_theory.specs.Demand3.{Side, HoldsEach, NotUnsaid}
 use Rattle.index_image.specs.Layout.{shapeOf, Is}
 use Rattle.index_image.specs.Shape as at
-use Rattle.divisor_index.specs.Ran.{kindOf}
+use Rattle.divisor_index.specs.Ran.{indexKind}
 use Rattle.divisor_index.specs.Doors.{openNumber, openBytes, RunIs}
 
 -- ---- an opening that is served leaves a sound image, which holds nothing; one that is refused changes nothing
 pub record OpeningLeaves (k m c : ℕ) (xs bs : List ℕ) : Type 0 where
-  pub image : openNumber k m c xs bs ≡ 0 → Is (opened (kindOf k) m c (words xs)) (openBytes k m c xs bs)
+  pub image : openNumber k m c xs bs ≡ 0 → Is (opened (indexKind k) m c (words xs)) (openBytes k m c xs bs)
   pub kept : (openNumber k m c xs bs ≡ 0 → ⊥) → openBytes k m c xs bs ≡ bs
 
 abbrev pub OpeningServed : Type 0

@@ -13,7 +13,7 @@ use Rattle.index_theory.specs.Listing.{listing}
 use Rattle.index_image.specs.Layout.{encode, Is, Sound}
 use Rattle.index_image.specs.Size.{bytes}
 use Rattle.call_list.specs.Bodies.{IsList}
-use Rattle.divisor_index.specs.Ran.{kindOf, Ran}
+use Rattle.divisor_index.specs.Ran.{indexKind, Ran}
 
 -- ---- opening
 -- question 1: index kind 0 or 1, variables 1 to 64, capacity 1 to 4,096, one maximum a variable, each 1 to 32,767
@@ -29,7 +29,7 @@ unfoldable pub openNumber : (kind variables capacity : ℕ) (maxima image : List
 openNumber k m c xs bs = cond (openingGood k m c xs) (cond (ltb (length bs) (bytes k m c)) 2 0) 1
 
 unfoldable pub openBytes : (kind variables capacity : ℕ) (maxima image : List ℕ) → List ℕ
-openBytes k m c xs bs = cond (openingGood k m c xs && leb (bytes k m c) (length bs)) (pasteW bs 0 (encode (opened (kindOf k) m c (words xs)))) bs
+openBytes k m c xs bs = cond (openingGood k m c xs && leb (bytes k m c) (length bs)) (pasteW bs 0 (encode (opened (indexKind k) m c (words xs)))) bs
 
 -- ---- a list of calls
 pub record RunIs (bs list out bs′ out′ : List ℕ) (r : ℕ) : Type 0 where

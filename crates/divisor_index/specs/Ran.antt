@@ -10,9 +10,9 @@ use Rattle.index_theory.specs.Calls.{Call, bodyOf, step, after, answers}
 use Rattle.index_image.specs.Layout.{encode, Is}
 
 -- the index kind of a number: 0 for a monomial index, else a ratio index
-abbrev pub kindOf : ℕ → Kind
-kindOf zero = monomials
-kindOf (suc k) = ratioed
+abbrev pub indexKind : ℕ → Kind
+indexKind zero = monomials
+indexKind (suc k) = ratioed
 
 -- the call at word i of a list
 abbrev pub callAt : List ℕ → ℕ → Call

@@ -12,7 +12,7 @@ ghost use Rattle.fast_compare.specs.Map.{empty};
 ghost use Rattle.index_theory.specs.State.{opened};
 ghost use Rattle.index_image.specs.Layout.{labelWords, encode};
 ghost use Rattle.index_image.specs.Shape as at;
-ghost use Rattle.divisor_index.specs.Ran.{kindOf};
+ghost use Rattle.divisor_index.specs.Ran.{indexKind};
 
 // Writes the header.
 fn open_head(image: &mut [u8], s: Shape)
@@ -33,7 +33,7 @@ fn open_head(image: &mut [u8], s: Shape)
 fn open_labels(image: &mut [u8], s: Shape)
     requires { ⌜ at.InRange s ⌝ }
     requires { ⌜ 4 * at.size s ≤ length (now image) ⌝ }
-    ensures { λ _. ⌜ now (image .exit) ≡ pasteW (now (image .entry)) (at.labelsAt s) (labelWords (kindOf (s .kind)) (empty (s .variables) (s .capacity))) ⌝ }
+    ensures { λ _. ⌜ now (image .exit) ≡ pasteW (now (image .entry)) (at.labelsAt s) (labelWords (indexKind (s .kind)) (empty (s .variables) (s .capacity))) ⌝ }
 {
     if s.kind == 0 {
         return;
@@ -49,7 +49,7 @@ pub fn open_tables(image: &mut [u8], s: Shape, maxima: &[u8])
     requires { ⌜ 4 * at.size s ≤ length (now image) ⌝ }
     requires { ⌜ Maxima (s .variables) (words (now maxima)) ⌝ }
     requires { ⌜ length (now maxima) ≡ 4 * s .variables ⌝ }
-    ensures { λ _. ⌜ now (image .exit) ≡ pasteW (now (image .entry)) 0 (encode (opened (kindOf (s .kind)) (s .variables) (s .capacity) (words (now (maxima .entry))))) ⌝ }
+    ensures { λ _. ⌜ now (image .exit) ≡ pasteW (now (image .entry)) 0 (encode (opened (indexKind (s .kind)) (s .variables) (s .capacity) (words (now (maxima .entry))))) ⌝ }
 {
     let m = s.variables;
     open_head(image, s);

@@ -30,6 +30,10 @@ pub code-ratio : (k : Kind) → code k ≡ 1 → k ≡ ratioed
 code-ratio monomials e = absurd (omega (arith, e))
 code-ratio ratioed e = refl
 
+pub code-monomial : (k : Kind) → code k ≡ 0 → k ≡ monomials
+code-monomial monomials e = refl
+code-monomial ratioed e = absurd (omega (arith, e))
+
 -- the empty index
 pub empty-range : (kind m c : ℕ) → kind ≤ 1 → Sizes m c → at.InRange (emptyShape kind m c)
 empty-range kind m c k a = record {

@@ -6,9 +6,11 @@ ghost use Prim.Native.Nat.{_+_, _*_, _<_, _≤_};
 ghost use lib.ListN.{length, drop};
 ghost use Rattle.words.specs.Words.{words, pasteW};
 ghost use Rattle.words.specs.Tables.{part};
-ghost use Rattle.monomial.specs.Monomial.{Canonical, Starts, first, front};
+ghost use Rattle.monomial.specs.Monomial.{Canonical, Starts, pow, first, front};
 ghost use Rattle.monomial.specs.Operations.{result};
 ghost use Rattle.monomial.specs.declared.ordered_ops.Op.the-variants.{Gcd};
+ghost use Rattle.divmask.specs.Mask.{mask, vector};
+ghost use Rattle.divmask.specs.Tracker.{Maxima};
 ghost use Rattle.index_image.specs.Layout.{gcdOf};
 ghost use Rattle.index_image.specs.Shape as shape;
 ghost use Rattle.index_image.specs.Walk.{Ready};
@@ -47,6 +49,20 @@ pub fn label_in(image: &[u8], s: Shape, e: usize) -> u64
         image,
         s.labels_at() + (fields::LABELS + r * (m + fields::LABEL_ROW) + (m + fields::LABEL)),
     ) as u64
+}
+
+// Mask and short exponent vector of a monomial, by the map of the image.
+pub fn masks_of(image: &[u8], s: Shape, monomial: &[u8]) -> u64
+    requires { ⌜ shape.InRange s ⌝ }
+    requires { ⌜ 4 * shape.size s ≤ length (now image) ⌝ }
+    requires { ⌜ Maxima (s .variables) (entry.mapMaxima (words (now image)) s) ⌝ }
+    requires { ⌜ Canonical 1 (s .variables) (words (now monomial)) ⌝ }
+    ensures { λ r. ⌜ r ≡ mask (s .variables) (entry.mapMaxima (words (now (image .entry))) s) (pow 1 (words (now (monomial .entry)))) + 4294967296 * vector (s .variables) (pow 1 (words (now (monomial .entry)))) ⌝ }
+{
+    let m = s.variables;
+    let x = 4 * (fields::HEADER + m);
+    let y = x + 4 * m;
+    divmask::pairs::map(&image[x..y], m as u32, monomial)
 }
 
 // Replaces the monomial in the first n words by its gcd with the one that another slice begins with, and returns its length in words.

@@ -18,6 +18,7 @@ use Rattle.index_theory.specs.Searches.{containment, reducing, high, low, singu
 use Rattle.index_theory.specs.Calls.{Call, Request, insertion, query, plain, Asked, refused, asks, askMonomials, askRatioed, ask, reply, serve, step}
 use Rattle.index_image.specs.Layout.{code, shapeOf, encode, Is}
 use Rattle.index_image.specs.declared.Shape.{Shape}
+use Rattle.index_image.proofs.Shapes.{code-ratio, code-monomial}
 use Rattle.call_list.specs.Bodies.{Single, Paired, Tripled}
 use Rattle.call_list.specs.declared.Body.{Body}
 use Rattle.kd_insert.specs.Inserting.{signed}
@@ -55,14 +56,6 @@ module _ (c : Call) (bs : List ℕ) where
   }
 
 -- ---- the questions of a call to a monomial index
-is-monomials : (k : Kind) → code k ≡ 0 → k ≡ monomials
-is-monomials monomials e = refl
-is-monomials ratioed e = absurd (omega arith)
-
-is-ratioed : (k : Kind) → code k ≡ 1 → k ≡ ratioed
-is-ratioed monomials e = absurd (omega arith)
-is-ratioed ratioed e = refl
-
 ask-monomials : (m : ℕ) (c : Call) → ask monomials m c ≡ askMonomials m (c .number) (c .body)
 unfolding ask
 ask-monomials m c = refl
@@ -75,14 +68,14 @@ module _ (s : Shape) (c : Call) (bs : List ℕ) (R : Root bs s) (a : Asked) wher
   pub of-monomials : s .kind ≡ 0 → askMonomials (s .variables) (c .number) (c .body) ≡ a → Asks c bs a
   of-monomials k e st I =
       let q = shaped bs s R st I in
-      let kind : st .kind ≡ monomials = is-monomials (st .kind) (sym (ap (λ x. x .kind) q) ∙ k) in
+      let kind : st .kind ≡ monomials = code-monomial (st .kind) (sym (ap (λ x. x .kind) q) ∙ k) in
       let vars : s .variables ≡ st .variables = ap (λ x. x .variables) q in
       ap (λ k. ask k (st .variables) c) kind ∙ ask-monomials (st .variables) c ∙ rw (← vars) e
 
   pub of-ratioed : s .kind ≡ 1 → askRatioed (s .variables) (c .number) (c .body) ≡ a → Asks c bs a
   of-ratioed k e st I =
       let q = shaped bs s R st I in
-      let kind : st .kind ≡ ratioed = is-ratioed (st .kind) (sym (ap (λ x. x .kind) q) ∙ k) in
+      let kind : st .kind ≡ ratioed = code-ratio (st .kind) (sym (ap (λ x. x .kind) q) ∙ k) in
       let vars : s .variables ≡ st .variables = ap (λ x. x .variables) q in
       ap (λ k. ask k (st .variables) c) kind ∙ ask-ratioed (st .variables) c ∙ rw (← vars) e
 

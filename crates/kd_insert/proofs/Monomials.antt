@@ -28,6 +28,7 @@ use Rattle.index_image.specs.declared.Shape.{Shape}
 use Rattle.index_image.proofs.Bounds.{entry-inside, width-least}
 use Rattle.kd_insert.proofs.Writing.{masked-length}
 use Rattle.index_image.proofs.Heads.{same-shape}
+use Rattle.index_image.proofs.Shapes.{code-monomial}
 use Rattle.index_image.proofs.Images as of
 use Rattle.kd_insert.specs.Inserting.{Room, Inserted, Hangs, hung}
 use Rattle.words.proofs.Pasting.{part-before, part-after}
@@ -181,16 +182,12 @@ First bs lm im1 im2 s =
     × ((im2 ≡ pasteW im1 (at.entryAt s (s .entries)) (masked (s .variables) (mapMaxima (words im1) s) lm []))
     × ((Canonical 1 (s .variables) lm) × ((s .kind ≡ 0) × (s .entries < s .capacity))))
 
-kind-none : (k : Kind) → code k ≡ 0 → k ≡ monomials
-kind-none monomials e = refl
-kind-none ratioed e = absurd (omega (arith, e))
-
 pub monomial-hangs : (bs im1 im2 lm : List ℕ) (s : Shape) → Bytes bs → Room bs s → First bs lm im1 im2 s → Hangs (words im2) s lm 0
 monomial-hangs bs im1 im2 lm s B R f =
     let st = R .sound .state in
     let q = shape-is bs s (R .head) st (R .sound .is) in
     let g : First bs lm im1 im2 (shapeOf st) = subst (λ (x : Shape). First bs lm im1 im2 x) (sym q) f in
-    subst (λ (x : Shape). Hangs (words im2) x lm 0) q (hangs2 bs B st (R .sound .is) lm (g .1 .1 .0) (kind-none (st .kind) (g .1 .1 .1 .0)) (g .1 .1 .1 .1) im1 im2 (g .0) (g .1 .0))
+    subst (λ (x : Shape). Hangs (words im2) x lm 0) q (hangs2 bs B st (R .sound .is) lm (g .1 .1 .0) (code-monomial (st .kind) (g .1 .1 .1 .0)) (g .1 .1 .1 .1) im1 im2 (g .0) (g .1 .0))
 
 pub monomial-inserted : (bs im1 im2 im3 lm : List ℕ) (s : Shape) → Bytes bs → Room bs s → First bs lm im1 im2 s → ((h : Hangs (words im2) s lm 0) → im3 ≡ hung im2 s lm 0 (h .growth)) → Inserted (plain lm) (s .entries) bs im3
 monomial-inserted bs im1 im2 im3 lm s B R f h = record {
@@ -199,5 +196,5 @@ monomial-inserted bs im1 im2 im3 lm s B R f h = record {
       let q = shape-is bs s (R .head) st I in
       let g : First bs lm im1 im2 (shapeOf st) = subst (λ (x : Shape). First bs lm im1 im2 x) (sym q) f in
       let h′ : (z : Hangs (words im2) (shapeOf st) lm 0) → im3 ≡ hung im2 (shapeOf st) lm 0 (z .growth) = subst (λ (x : Shape). (z : Hangs (words im2) x lm 0) → im3 ≡ hung im2 x lm 0 (z .growth)) (sym q) h in
-      finish2 bs B st I lm (g .1 .1 .0) (kind-none (st .kind) (g .1 .1 .1 .0)) (g .1 .1 .1 .1) im1 im2 (g .0) (g .1 .0) im3 h′;
+      finish2 bs B st I lm (g .1 .1 .0) (code-monomial (st .kind) (g .1 .1 .1 .0)) (g .1 .1 .1 .1) im1 im2 (g .0) (g .1 .0) im3 h′;
 }

@@ -1,13 +1,14 @@
 // Monomials written into slots, and their masks.
 use index_image::Shape;
 use index_image::fields;
+use index_image::stored;
 ghost use mathlib.Core.Path.{_≡_};
 ghost use mathlib.Core.List.{[]};
 ghost use Prim.Native.Nat.{_+_, _*_, _%_, _≤_, _<_};
 ghost use lib.ListN.{length};
 ghost use Rattle.words.specs.Words.{words, pasteW};
 ghost use Rattle.monomial.specs.Monomial.{Canonical, pow};
-ghost use Rattle.divmask.specs.Mask.{mask, vector};
+ghost use Rattle.divmask.specs.Mask.{mask};
 ghost use Rattle.divmask.specs.Tracker.{Maxima};
 ghost use Rattle.index_image.specs.Layout.{slot, masked};
 ghost use Rattle.index_image.specs.Shape as shape;
@@ -42,20 +43,6 @@ pub fn mask_of(image: &[u8], s: Shape, monomial: &[u8]) -> u32
     divmask::map(&image[x..y], m as u32, monomial)
 }
 
-// Mask and short exponent vector of a monomial, by the map of the image.
-fn masks_of(image: &[u8], s: Shape, monomial: &[u8]) -> u64
-    requires { ⌜ shape.InRange s ⌝ }
-    requires { ⌜ 4 * shape.size s ≤ length (now image) ⌝ }
-    requires { ⌜ Maxima (s .variables) (mapMaxima (words (now image)) s) ⌝ }
-    requires { ⌜ Canonical 1 (s .variables) (words (now monomial)) ⌝ }
-    ensures { λ r. ⌜ r ≡ mask (s .variables) (mapMaxima (words (now (image .entry))) s) (pow 1 (words (now (monomial .entry)))) + 4294967296 * vector (s .variables) (pow 1 (words (now (monomial .entry)))) ⌝ }
-{
-    let m = s.variables;
-    let x = 4 * (fields::HEADER + m);
-    let y = x + 4 * m;
-    divmask::pairs::map(&image[x..y], m as u32, monomial)
-}
-
 // Writes the slot at word i, and behind it mask and short exponent vector.
 pub fn write_masked(image: &mut [u8], s: Shape, i: usize, monomial: &[u8])
     requires { ⌜ shape.InRange s ⌝ }
@@ -66,7 +53,7 @@ pub fn write_masked(image: &mut [u8], s: Shape, i: usize, monomial: &[u8])
     requires { ⌜ i + shape.maskedWidth (s .variables) ≤ shape.size s ⌝ }
     ensures { λ _. ⌜ now (image .exit) ≡ pasteW (now (image .entry)) i (masked (s .variables) (mapMaxima (words (now (image .entry))) s) (words (now (monomial .entry))) []) ⌝ }
 {
-    let masks = masks_of(image, s, monomial);
+    let masks = stored::masks_of(image, s, monomial);
     write_slot(image, i, s.variables, monomial);
     words::put(
         image,

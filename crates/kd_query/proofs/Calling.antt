@@ -28,17 +28,13 @@ use Rattle.index_image.proofs.EntryWords.{no-ratio}
 use Rattle.index_image.proofs.Images as of
 use Rattle.index_image.proofs.Labels.{MapIs, is-map}
 use Rattle.index_image.proofs.Reading.{front-pasted}
-use Rattle.index_image.proofs.Shapes.{code-ratio}
+use Rattle.index_image.proofs.Shapes.{code-ratio, code-monomial}
 use Rattle.index_image.proofs.Slots.{MadeAside}
 use Rattle.kd_query.specs.Ended.{Ends, From}
-use Rattle.kd_query.specs.Posed.{numberOf, Poses, PosedFor}
+use Rattle.kd_query.specs.Posed.{searchNumber, Poses, PosedFor}
 use Rattle.kd_query.specs.declared.Search.the-variants.{Contained, Reducer, High, Low, Singular}
 use Rattle.kd_query.proofs.Ending.{high-range, reducing-range, low-range, singular-range}
 use Rattle.kd_query.proofs.Standing.{shape-is}
-
-code-plain : (k : Kind) → layout.code k ≡ 0 → k ≡ monomials
-code-plain monomials e = refl
-code-plain ratioed e = absurd (omega (arith, e))
 
 -- ---- a ratio made in a scratch
 module _ (m : ℕ) (few : m ≤ 64) (a b : List ℕ) (ca : Canonical 1 m a) (cb : Canonical 1 m b) where
@@ -66,7 +62,7 @@ module _ (m : ℕ) (few : m ≤ 64) (a b : List ℕ) (ca : Canonical 1 m a) (cb 
 
 module _ (bs : List ℕ) (s : Shape) (h : HeadOk (words bs) (length bs) s) where
   plain-of : (st : State) → Is st bs → s .kind ≡ 0 → st .kind ≡ monomials
-  plain-of st I k = code-plain (st .kind) (ap (λ (y : Shape). y .kind) (shape-is bs s h st I) ∙ k)
+  plain-of st I k = code-monomial (st .kind) (ap (λ (y : Shape). y .kind) (shape-is bs s h st I) ∙ k)
 
   kind-of : (st : State) → Is st bs → s .kind ≡ 1 → st .kind ≡ ratioed
   kind-of st I k = code-ratio (st .kind) (ap (λ (y : Shape). y .kind) (shape-is bs s h st I) ∙ k)
@@ -86,35 +82,35 @@ module _ (bs : List ℕ) (s : Shape) (h : HeadOk (words bs) (length bs) s) where
 
   -- ---- the queries
   module _ (ms Q : List ℕ) where
-    pub contained-posed : s .kind ≡ 0 → Poses bs ms (numberOf Contained) 0 0 0 Q → PosedFor bs ms (containment (words ms)) Q
-    unfolding PosedFor Poses numberOf dividend
+    pub contained-posed : s .kind ≡ 0 → Poses bs ms (searchNumber Contained) 0 0 0 Q → PosedFor bs ms (containment (words ms)) Q
+    unfolding PosedFor Poses searchNumber dividend
     contained-posed k P st I = let p = plain-of st I k in P st (containment (words ms)) I p refl refl (λ r. no-ratio (sym p ∙ r))
 
     module _ (k : s .kind ≡ 1) where
-      pub reducer-posed : (v : map.Value) (up down : ℕ) → ((st : State) → Is st bs → Ends (st .labels) v up down) → Poses bs ms (numberOf Reducer) 0 up down Q
+      pub reducer-posed : (v : map.Value) (up down : ℕ) → ((st : State) → Is st bs → Ends (st .labels) v up down) → Poses bs ms (searchNumber Reducer) 0 up down Q
           → PosedFor bs ms (reducing v (words ms)) Q
-      unfolding PosedFor Poses numberOf dividend
+      unfolding PosedFor Poses searchNumber dividend
       reducer-posed v up down E P st I =
           let r = kind-of st I k in
           P st (reducing v (words ms)) I r refl refl (λ _. reducing-range st (I .valid) r v up down (E st I) (words ms))
 
       pub high-posed : (v : map.Value) (up down floor : ℕ) → ((st : State) → Is st bs → Ends (st .labels) v up down)
-          → Poses bs ms (numberOf High) up 4294967296 floor Q → PosedFor bs ms (high v (words ms)) Q
-      unfolding PosedFor Poses numberOf dividend
+          → Poses bs ms (searchNumber High) up 4294967296 floor Q → PosedFor bs ms (high v (words ms)) Q
+      unfolding PosedFor Poses searchNumber dividend
       high-posed v up down floor E P st I =
           let r = kind-of st I k in
           P st (high v (words ms)) I r refl refl (λ _. high-range st (I .valid) r v up down (E st I) (words ms) floor)
 
       pub low-posed : (i from to floor : ℕ) → ((st : State) → Is st bs → From (st .labels) i from) → ((st : State) → Is st bs → From (st .labels) (i + 1) to)
-          → Poses bs ms (numberOf Low) from to floor Q → PosedFor bs ms (low i (words ms)) Q
-      unfolding PosedFor Poses numberOf dividend
+          → Poses bs ms (searchNumber Low) from to floor Q → PosedFor bs ms (low i (words ms)) Q
+      unfolding PosedFor Poses searchNumber dividend
       low-posed i from to floor F T P st I =
           let r = kind-of st I k in
           P st (low i (words ms)) I r refl refl (λ _. low-range st (I .valid) r (words ms) i from to floor (F st I) (T st I))
 
       pub singular-posed : (i : ℕ) (rs l : List ℕ) (up down to floor : ℕ) → rs ≡ result Op.Ratio (words ms) l → ((st : State) → Is st bs → Ends (st .labels) (map.valueOf i rs) up down)
-          → ((st : State) → Is st bs → From (st .labels) (i + 1) to) → Poses bs ms (numberOf Singular) up to floor Q → PosedFor bs ms (singular i (words ms) l) Q
-      unfolding PosedFor Poses numberOf dividend quotientOf
+          → ((st : State) → Is st bs → From (st .labels) (i + 1) to) → Poses bs ms (searchNumber Singular) up to floor Q → PosedFor bs ms (singular i (words ms) l) Q
+      unfolding PosedFor Poses searchNumber dividend quotientOf
       singular-posed i rs l up down to floor e E T P st I =
           let r = kind-of st I k in
           P st (singular i (words ms) l) I r refl refl (λ _. singular-range st (I .valid) r i (words ms) l up down to floor (rw e at (E st I)) (T st I))

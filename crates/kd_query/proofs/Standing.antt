@@ -28,7 +28,7 @@ use Rattle.index_image.proofs.Heads.{same-shape}
 use Rattle.index_image.proofs.Images as of
 use Rattle.kd_tree.specs.Asked.{shapeIn, searchOf, slotAt, Range, Laid, Asks}
 use Rattle.kd_tree.specs.Rooted.{Rooted}
-use Rattle.kd_query.specs.Posed.{numberOf, lmDivides, limitFor, Limited, maskWords, rangeWords, slotWords, placeWords, shapeWords, Poses}
+use Rattle.kd_query.specs.Posed.{searchNumber, lmDivides, limitFor, Limited, maskWords, rangeWords, slotWords, placeWords, shapeWords, Poses}
 use Rattle.kd_query.specs.declared.Search.{Search}
 use Rattle.kd_query.specs.declared.Search.the-variants.{Contained, Reducer, High, Low, Singular}
 use Rattle.kd_query.proofs.Posing.{node-small, slot-small, laid}
@@ -123,8 +123,8 @@ module _ (s : Shape) (R : at.InRange s) (lm : Bool) (n x v from to floor : ℕ) 
     }
 
 -- ---- the search's number says which monomial is to divide
-lm-number : (x : Search) → lmDivides x ≡ ltb (numberOf x) 3
-unfolding lmDivides numberOf
+lm-number : (x : Search) → lmDivides x ≡ ltb (searchNumber x) 3
+unfolding lmDivides searchNumber
 lm-number Contained = refl
 lm-number Reducer = refl
 lm-number High = refl
@@ -139,8 +139,8 @@ by-search (high v q) = refl
 by-search (low i s) = refl
 by-search (singular i s l) = refl
 
-pub number-small : (x : Search) → numberOf x < 5
-unfolding numberOf
+pub number-small : (x : Search) → searchNumber x < 5
+unfolding searchNumber
 number-small Contained = omega arith
 number-small Reducer = omega arith
 number-small High = omega arith
@@ -169,14 +169,14 @@ module _ (bs : List ℕ) (s : Shape) (h : HeadOk (words bs) (length bs) s) (st :
 module _ (bs ms Q₁ Q : List ℕ) (s : Shape) (h : HeadOk (words bs) (length bs) s) (can : Canonical 1 (s .variables) (words ms)) (x : Search) (masks from to floor : ℕ)
     (L : Limited Q₁ s (limitFor (lmDivides x) (words ms)))
     (em : masks ≡ mask (s .variables) (mapMaxima (words bs) s) (pow 1 (words ms)) + 4294967296 * vector (s .variables) (pow 1 (words ms)))
-    (A : WordsAre Q₁ Q s (lmDivides x) (numberOf x) (masks % 4294967296) (masks / 4294967296) from to floor) where
+    (A : WordsAre Q₁ Q s (lmDivides x) (searchNumber x) (masks % 4294967296) (masks / 4294967296) from to floor) where
   low-half : masks % 4294967296 ≡ mask (s .variables) (mapMaxima (words bs) s) (pow 1 (words ms))
   low-half = omega (arith, em, mask-small (s .variables) (mapMaxima (words bs) s) (pow 1 (words ms)))
 
   high-half : masks / 4294967296 ≡ vector (s .variables) (pow 1 (words ms))
   high-half = omega (arith, em, mask-small (s .variables) (mapMaxima (words bs) s) (pow 1 (words ms)))
 
-  module _ (st : State) (r : Query) (I : Is st bs) (home : st .kind ≡ kindFor r) (is : searchOf r ≡ numberOf x) (em′ : words ms ≡ dividend r)
+  module _ (st : State) (r : Query) (I : Is st bs) (home : st .kind ≡ kindFor r) (is : searchOf r ≡ searchNumber x) (em′ : words ms ≡ dividend r)
       (range : st .kind ≡ ratioed → Range st r from to floor) where
     lm-is : lmDivides x ≡ byLm r
     lm-is = lm-number x ∙ ap (λ (k : ℕ). ltb k 3) (sym is) ∙ sym (by-search r)
@@ -199,7 +199,7 @@ module _ (bs ms Q₁ Q : List ℕ) (s : Shape) (h : HeadOk (words bs) (length bs
           range = λ k. rw (A .from-is, A .to-is, A .floor-is) (range k);
         }
 
-  pub posed : Poses bs ms (numberOf x) from to floor Q
+  pub posed : Poses bs ms (searchNumber x) from to floor Q
   unfolding Poses
   posed st r I home is em′ range =
       let e = A .laid-is .shape in
@@ -212,13 +212,13 @@ module _ (bs ms Q₁ Q : List ℕ) (s : Shape) (h : HeadOk (words bs) (length bs
 -- the same, from the writes
 pub all-written : (bs ms b₁ b₂ b₃ b₄ b₅ : List ℕ) (s : Shape) → HeadOk (words bs) (length bs) s → Canonical 1 (s .variables) (words ms)
     → (x : Search) (n : ℕ) (lm : Bool) (masks from to floor : ℕ)
-    → (from < 2 ^ 64) × ((to < 2 ^ 64) × (floor < 2 ^ 64)) → 368 ≤ length b₁ → n ≡ numberOf x → lm ≡ lmDivides x → Limited (words b₁) s (limitFor lm (words ms))
+    → (from < 2 ^ 64) × ((to < 2 ^ 64) × (floor < 2 ^ 64)) → 368 ≤ length b₁ → n ≡ searchNumber x → lm ≡ lmDivides x → Limited (words b₁) s (limitFor lm (words ms))
     → masks ≡ mask (s .variables) (mapMaxima (words bs) s) (pow 1 (words ms)) + 4294967296 * vector (s .variables) (pow 1 (words ms))
     → b₂ ≡ pasteW b₁ 66 (maskWords n lm (masks % 4294967296) (masks / 4294967296)) → b₃ ≡ pasteW b₂ 72 (rangeWords from to floor)
-    → b₄ ≡ pasteW b₃ 78 (slotWords s lm) → b₅ ≡ pasteW b₄ 80 (placeWords s ++ shapeWords s) → Poses bs ms (numberOf x) from to floor (words b₅)
+    → b₄ ≡ pasteW b₃ 78 (slotWords s lm) → b₅ ≡ pasteW b₄ 80 (placeWords s ++ shapeWords s) → Poses bs ms (searchNumber x) from to floor (words b₅)
 all-written bs ms b₁ b₂ b₃ b₄ b₅ s h can x n lm masks from to floor (hf, (ht, hl)) room en el L em e₂ e₃ e₄ e₅ =
     let lim : Limited (words b₁) s (limitFor (lmDivides x) (words ms)) = rw el at L in
-    let d₂ : b₂ ≡ pasteW b₁ 66 (maskWords (numberOf x) (lmDivides x) (masks % 4294967296) (masks / 4294967296)) = rw (en, el) at e₂ in
+    let d₂ : b₂ ≡ pasteW b₁ 66 (maskWords (searchNumber x) (lmDivides x) (masks % 4294967296) (masks / 4294967296)) = rw (en, el) at e₂ in
     let d₄ : b₄ ≡ pasteW b₃ 78 (slotWords s (lmDivides x)) = rw el at e₄ in
     let hv : masks / 4294967296 < 4294967296 = omega (
       arith,
@@ -228,5 +228,5 @@ all-written bs ms b₁ b₂ b₃ b₄ b₅ s h can x n lm masks from to floor (h
           (pow 1 (words ms)),
     ) in
     posed bs ms (words b₁) (words b₅) s h can x masks from to floor lim em
-    (asked-are s (h .range) (lmDivides x) (numberOf x) (masks % 4294967296) (masks / 4294967296) from to floor (omega (arith, number-small x)) (omega arith) hv hf ht hl b₁
+    (asked-are s (h .range) (lmDivides x) (searchNumber x) (masks % 4294967296) (masks / 4294967296) from to floor (omega (arith, number-small x)) (omega arith) hv hf ht hl b₁
     b₂ b₃ b₄ b₅ room d₂ e₃ d₄ e₅)

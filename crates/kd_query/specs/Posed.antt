@@ -19,12 +19,12 @@ use Rattle.kd_query.specs.declared.Search.the-variants.{Contained, Reduc
 
 -- ---- what is searched for
 -- its number, which is `searchOf` of the request
-unfoldable pub numberOf : Search → ℕ
-numberOf Contained = 0
-numberOf Reducer = 1
-numberOf High = 2
-numberOf Low = 3
-numberOf Singular = 4
+unfoldable pub searchNumber : Search → ℕ
+searchNumber Contained = 0
+searchNumber Reducer = 1
+searchNumber High = 2
+searchNumber Low = 3
+searchNumber Singular = 4
 
 -- lms are to divide, or else signature monomials
 unfoldable pub lmDivides : Search → Bool

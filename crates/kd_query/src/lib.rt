@@ -4,7 +4,7 @@ pub mod ranges;
 pub mod writing;
 
 use index_image::Shape;
-use index_image::fields;
+use index_image::stored;
 ghost use mathlib.Core.Path.{_≡_};
 ghost use Prim.Native.Nat.{_+_, _*_, _<_, _≤_};
 ghost use lib.ListN.{length};
@@ -18,7 +18,7 @@ ghost use Rattle.index_image.specs.Head.{HeadOk};
 ghost use Rattle.index_image.specs.Layout.{Sound};
 ghost use Rattle.index_image.specs.Shape as at;
 ghost use Rattle.index_image.specs.Walk.{mapMaxima};
-ghost use Rattle.kd_query.specs.Posed.{numberOf, lmDivides, Poses, PosedFor};
+ghost use Rattle.kd_query.specs.Posed.{searchNumber, lmDivides, Poses, PosedFor};
 
 pub enum Search {
     Contained,
@@ -30,7 +30,7 @@ pub enum Search {
 
 // Its number in the words of a query.
 fn number(search: Search) -> usize
-    ensures { λ r. ⌜ r ≡ numberOf search ⌝ }
+    ensures { λ r. ⌜ r ≡ searchNumber search ⌝ }
 {
     match search {
         Search::Contained => 0,
@@ -54,20 +54,6 @@ fn by_lm(search: Search) -> bool
     }
 }
 
-// Mask and short exponent vector of a monomial, by the map of the image.
-fn masks_of(image: &[u8], s: Shape, m: &[u8]) -> u64
-    requires { ⌜ at.InRange s ⌝ }
-    requires { ⌜ 4 * at.size s ≤ length (now image) ⌝ }
-    requires { ⌜ Maxima (s .variables) (mapMaxima (words (now image)) s) ⌝ }
-    requires { ⌜ Canonical 1 (s .variables) (words (now m)) ⌝ }
-    ensures { λ r. ⌜ r ≡ mask (s .variables) (mapMaxima (words (now (image .entry))) s) (pow 1 (words (now (m .entry)))) + 4294967296 * vector (s .variables) (pow 1 (words (now (m .entry)))) ⌝ }
-{
-    let n = s.variables;
-    let a = 4 * (fields::HEADER + n);
-    let b = a + 4 * n;
-    divmask::pairs::map(&image[a..b], n as u32, m)
-}
-
 // Writes the words of a query: what is searched for, the monomial m to be divided, and the range of labels that count.
 // A reducer's label below `floor` is a regular one's.
 pub fn pose(
@@ -84,11 +70,11 @@ pub fn pose(
     requires { ⌜ HeadOk (words (now image)) (length (now image)) s ⌝ }
     requires { ⌜ 368 ≤ length (now q) ⌝ }
     requires { ⌜ Canonical 1 (s .variables) (words (now m)) ⌝ }
-    ensures { λ _. ⌜ Poses (now (image .entry)) (now (m .entry)) (numberOf search) from to floor (words (now (q .exit))) ⌝ }
+    ensures { λ _. ⌜ Poses (now (image .entry)) (now (m .entry)) (searchNumber search) from to floor (words (now (q .exit))) ⌝ }
 {
     let lm = by_lm(search);
     limits::limit(q, s, lm, m);
-    writing::put_masks(q, number(search), lm, masks_of(image, s, m));
+    writing::put_masks(q, number(search), lm, stored::masks_of(image, s, m));
     writing::put_range(q, from, to, floor);
     writing::put_slot(q, s, lm);
     writing::lay(q, s);

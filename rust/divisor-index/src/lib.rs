@@ -6,7 +6,7 @@
 //! [`doors`] are the C functions themselves on byte slices. Nothing is decided
 //! on this side: every question is asked by the proved code.
 //!
-//! The indexes follow as a module of their own, once they are exported.
+//! [`doors`] has the index too: opening, call lists and the listing.
 
 mod answer;
 pub mod divmask;

@@ -1,4 +1,4 @@
-use Rattle.kd_query.specs.Posed.{numberOf}
+use Rattle.kd_query.specs.Posed.{searchNumber}
 use borrow.Author.Needs.{needs}
 use Rattle.kd_query.proofs.number.Statement.{statement}
 use Rattle.kd_query.proofs.number.Tie as tie
@@ -27,27 +27,27 @@ enum-told-5 c = search needs
 
 -- src/lib.rt:31:1
 returns : tie.Need-returns
-unfolding numberOf
+unfolding searchNumber
 returns c = search needs
 
 -- src/lib.rt:31:1
 returns-2 : tie.Need-returns-2
-unfolding numberOf
+unfolding searchNumber
 returns-2 c = search needs
 
 -- src/lib.rt:31:1
 returns-3 : tie.Need-returns-3
-unfolding numberOf
+unfolding searchNumber
 returns-3 c = search needs
 
 -- src/lib.rt:31:1
 returns-4 : tie.Need-returns-4
-unfolding numberOf
+unfolding searchNumber
 returns-4 c = search needs
 
 -- src/lib.rt:31:1
 returns-5 : tie.Need-returns-5
-unfolding numberOf
+unfolding searchNumber
 returns-5 c = search needs
 
 pub number-spec : {M : Type 1} → statement M

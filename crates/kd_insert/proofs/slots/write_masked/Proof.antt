@@ -8,7 +8,7 @@ use Rattle.kd_insert.proofs.slots.write_masked.Statement.{statement}
 use Rattle.kd_insert.proofs.slots.write_masked.Tie as tie
 use Rattle.kd_insert.proofs.slots.write_masked.Reads as reads
 use Rattle.kd_insert.proofs.slots.write_masked.Lts as lts
-use Rattle.kd_insert.proofs.slots.masks_of.Reads as masks-of-reads
+use Rattle.index_image.proofs.stored.masks_of.Reads as masks-of-reads
 use Rattle.kd_insert.proofs.slots.write_slot.Reads as write-slot-reads
 use Rattle.words.proofs.put.Reads as put-reads
 

@@ -1,48 +1,48 @@
 use native.Mathlib.Omega.{arith}
 use Prim.Native.Nat.{_+_, _-_, _*_}
 use Rattle.index_image.specs.Shape as at
 use Rattle.words.proofs.Drafts.{part-of}
 use Rattle.monomial.proofs.Firsts.{starts-whole, first-whole}
 use borrow.Author.Needs.{needs}
-use Rattle.kd_query.proofs.masks_of.Statement.{statement}
-use Rattle.kd_query.proofs.masks_of.Tie as tie
-use Rattle.kd_query.proofs.masks_of.Reads as reads
-use Rattle.kd_query.proofs.masks_of.Lts as lts
+use Rattle.index_image.proofs.stored.masks_of.Statement.{statement}
+use Rattle.index_image.proofs.stored.masks_of.Tie as tie
+use Rattle.index_image.proofs.stored.masks_of.Reads as reads
+use Rattle.index_image.proofs.stored.masks_of.Lts as lts
 use Rattle.divmask.proofs.pairs.map.Reads as map-reads
 
--- src/lib.rt:65:18
-add-a : tie.Need-add-a
-add-a c = search needs
+-- src/stored.rt:65:18
+add-x : tie.Need-add-x
+add-x c = search needs
 
--- src/lib.rt:65:13
-mul-a : tie.Need-mul-a
-mul-a c = search needs
+-- src/stored.rt:65:13
+mul-x : tie.Need-mul-x
+mul-x c = search needs
 
--- src/lib.rt:66:17
-mul-b : tie.Need-mul-b
-mul-b c = search needs
+-- src/stored.rt:66:17
+mul-y : tie.Need-mul-y
+mul-y c = search needs
 
--- src/lib.rt:66:13
-add-b : tie.Need-add-b
-add-b c = search needs
+-- src/stored.rt:66:13
+add-y : tie.Need-add-y
+add-y c = search needs
 
--- src/lib.rt:67:25
+-- src/stored.rt:67:25
 sub-map : tie.Need-sub-map
 sub-map c = search needs
 
--- src/lib.rt:67:25
+-- src/stored.rt:67:25
 part-map-start : tie.Need-part-map-start
 part-map-start c = search needs
 
--- src/lib.rt:67:25
+-- src/stored.rt:67:25
 part-map-end : tie.Need-part-map-end
 part-map-end c = search needs
 
--- src/lib.rt:67:39
+-- src/stored.rt:67:39
 cast-map : tie.Need-cast-map
 cast-map c = search needs
 
--- src/lib.rt:67:5
+-- src/stored.rt:67:5
 map-requires : tie.Need-map-requires
 map-requires c κs =
     let s = c .before .before .before in (
@@ -51,7 +51,7 @@ map-requires c κs =
       starts-whole (s .pre .1 .1 .1),
     )
 
--- src/lib.rt:57:1
+-- src/stored.rt:57:1
 returns : tie.Need-returns
 returns c =
     let s = c .before .before .before .before in
@@ -66,10 +66,10 @@ pub masks-of-spec : {M : Type 1} → statement M
 masks-of-spec =
     tie.close
     (tie.spec
-    add-a
-    mul-a
-    mul-b
-    add-b
+    add-x
+    mul-x
+    mul-y
+    add-y
     sub-map
     part-map-start
     part-map-end
