@@ -6,7 +6,9 @@ use lib.ListN.{length, getD, drop}
 use Rattle.words.specs.Kinds.{kind, payload, indexWord}
 use Rattle.words.specs.Words.{words, pasteW}
 use Rattle.words.specs.Tables.{part, zeros, table}
-use Rattle.monomial.specs.Monomial.{front}
+use Rattle.monomial.specs.Monomial.{front, first}
+use Rattle.monomial.specs.Order.{TotalOf}
+use Rattle.monomial.specs.declared.monomial_ordering.Total.{Total}
 use Rattle.monomial.specs.declared.monomial_ordering.CmpOrd.the-variants.{Less}
 use Rattle.fast_compare.specs.Labels.{sorted}
 use Rattle.fast_compare.specs.Map.{Value, cmp, Row, State, row, value, Valid, answer, after}
@@ -57,6 +59,10 @@ pub record SoundFor (m c : ℕ) (bs : List ℕ) : Type 0 where
 -- how many words the ratio at word `at` has; 0 where no canonical ratio in m variables stands there
 abbrev pub ratioWords : List ℕ → ℕ → ℕ → ℕ
 ratioWords W m at = front 2 m 0 (drop at W)
+
+-- the total of the ratio in the row at word `at`
+abbrev pub TotalAt : List ℕ → ℕ → Total → Type 0
+TotalAt W at t = TotalOf 2 (first 2 (drop (at + 1) W)) t
 
 -- the value of the row that starts at word `at`
 unfoldable pub valueAt : List ℕ → ℕ → ℕ → Value

@@ -4,6 +4,7 @@ pub mod rows;
 pub mod soundness;
 
 use monomial::monomial_ordering::CmpOrd;
+use monomial::monomial_ordering::Total;
 ghost use mathlib.Core.Path.{_≡_};
 ghost use Prim.Native.Nat.{ℕ, _+_, _*_, _<_, _≤_};
 ghost use lib.ListN.{length, getD};
@@ -11,6 +12,7 @@ ghost use Rattle.words.specs.Words.{words, pasteW};
 ghost use Rattle.monomial.specs.Monomial.{Canonical};
 ghost use Rattle.monomial.specs.Sizes.{Sizes};
 ghost use mathlib.Core.Option.{none};
+ghost use Rattle.monomial.specs.Order.{TotalOf};
 ghost use Rattle.fast_compare.specs.Labels as Labels;
 ghost use Rattle.fast_compare.specs.Labels.{below, known, sorted};
 ghost use Rattle.fast_compare.specs.Map as Map;
@@ -79,15 +81,22 @@ pub fn index_of(map: &[u8], row: usize) -> u32
     words::payload(words::get(map, 4 + row * (variables + 3)))
 }
 
-// The value of a row, compared with another.
-pub fn compare(map: &[u8], row: usize, index: u32, ratio: &[u8]) -> CmpOrd
+// The value of a row, compared with another, whose ratio has the total t. Rows of another index need no total.
+pub fn compare(map: &[u8], row: usize, index: u32, ratio: &[u8], t: Total) -> CmpOrd
     requires { ⌜ Sound (now map) ⌝ }
     requires { ⌜ row < getD (words (now map)) 3 0 ⌝ }
     requires { ⌜ Canonical 2 4096 (words (now ratio)) ⌝ }
+    requires { ⌜ TotalOf 2 (words (now ratio)) t ⌝ }
     ensures { λ r. ⌜ ((st : State) → Is st (now (map .entry)) → r ≡ cmp (value (st .rows) row) (valueOf index (words (now (ratio .entry))))) ⌝ }
 {
     let variables = words::get(map, 1) as usize;
-    rows::compare_at(map, 4 + row * (variables + 3), index, ratio)
+    let at = 4 + row * (variables + 3);
+    let i = words::payload(words::get(map, at));
+    if i != index {
+        return monomial::monomial_ordering::cmp(i, index);
+    }
+    let s = rows::total_at(map, at);
+    rows::compare_at(map, at, s, index, ratio, t)
 }
 
 // The place of a value: how many values lie below it, and whether it is known.
@@ -96,12 +105,13 @@ pub fn search(map: &[u8], index: u32, ratio: &[u8]) -> Place
     requires { ⌜ Canonical 2 4096 (words (now ratio)) ⌝ }
     ensures { λ r. ⌜ ((st : State) → Is st (now (map .entry)) → r ≡ place (st .rows) (valueOf index (words (now (ratio .entry))))) ⌝ }
 {
+    let t = monomial::monomial_ordering::total_of(ratio, 2);
     let mut lo: usize = 0;
     let mut hi = count(map);
     while lo < hi {
         let mid = lo + (hi - lo) / 2;
         let row = row_at(map, mid);
-        let c = compare(map, row, index, ratio);
+        let c = compare(map, row, index, ratio, t);
         match c {
             CmpOrd::Less => {
                 lo = mid + 1;

@@ -64,18 +64,20 @@ fn rising_ok(map: &[u8], variables: usize, at: usize, n: usize) -> bool
     requires { ⌜ ((k : ℕ) → k < n → getD (words (now map)) (at + k) 0 < n) ⌝ }
     ensures { λ r. ⌜ (r ≡ true) ↔ ((k : ℕ) → suc k < n → Rises (words (now (map .entry))) variables (rowAt variables (getD (words (now (map .entry))) (at + k) 0)) (rowAt variables (getD (words (now (map .entry))) (at + suc k) 0))) ⌝ }
 {
+    if n == 0 {
+        return true;
+    }
+    let mut a = 4 + words::get(map, at) as usize * (variables + 3);
+    let mut s = rows::total_at(map, a);
     let mut i: usize = 1;
     while i < n {
-        let x = words::get(map, at + (i - 1)) as usize;
-        let y = words::get(map, at + i) as usize;
-        if !rows::rises(
-            map,
-            variables,
-            4 + x * (variables + 3),
-            4 + y * (variables + 3),
-        ) {
+        let b = 4 + words::get(map, at + i) as usize * (variables + 3);
+        let t = rows::total_at(map, b);
+        if !rows::rises(map, variables, a, s, b, t) {
             return false;
         }
+        a = b;
+        s = t;
         i += 1;
     }
     true

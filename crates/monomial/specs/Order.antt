@@ -1,11 +1,14 @@
 -- The graded reverse lexicographic order of document 01, on monomials and on ratios. Assumes nothing.
+use mathlib.Core.Path.{_≡_}
 use mathlib.Core.Bool.{cond}
 use mathlib.Core.List.{List}
 use Prim.Native.Nat.{ℕ, zero, suc, _+_}
 use lib.Dec.{ltb}
+use lib.ListN.{length}
 use Rattle.monomial.specs.Monomial.{pow}
 use Rattle.monomial.specs.declared.monomial_ordering.CmpOrd.{CmpOrd}
 use Rattle.monomial.specs.declared.monomial_ordering.CmpOrd.the-variants.{Less, Equal, Greater}
+use Rattle.monomial.specs.declared.monomial_ordering.Total.{Total}
 
 unfoldable pub compare : ℕ → ℕ → CmpOrd
 compare x y = cond (ltb x y) Less (cond (ltb y x) Greater Equal)
@@ -33,3 +36,8 @@ grevlex n p q = andThen (compare (total n p) (total n q)) (revlex n p q)
 -- the order on words of kind k. An id has 12 bits.
 unfoldable pub order : ℕ → List ℕ → List ℕ → CmpOrd
 order k a b = grevlex 4096 (pow k a) (pow k b)
+
+-- the total of the words m of kind k, and their number of variables
+pub record TotalOf (k : ℕ) (m : List ℕ) (t : Total) : Type 0 where
+  pub sum : t .sum ≡ total 4096 (pow k m)
+  pub variables : t .variables + 1 ≡ length m

@@ -4,7 +4,7 @@ ghost use Prim.Native.Nat.{_+_, _≤_};
 ghost use lib.ListN.{length};
 ghost use Rattle.words.specs.Words.{words};
 ghost use Rattle.monomial.specs.Monomial.{Starts, first, pow};
-ghost use Rattle.monomial.specs.Order.{compare, total, revlex, order};
+ghost use Rattle.monomial.specs.Order.{compare, TotalOf, revlex, order};
 ghost use Rattle.monomial.specs.Walk.{differing};
 
 pub enum CmpOrd {
@@ -27,15 +27,15 @@ pub fn cmp(x: u32, y: u32) -> CmpOrd
 
 // The sum of a monomial's powers and its number of variables. In a ratio each of the 4,096 powers has 32,768 added, those of absent ones too.
 pub struct Total {
-    sum: u32,
-    variables: usize,
+    pub sum: u32,
+    pub variables: usize,
 }
 
 // The total of the monomial or ratio at the front of a slice.
-fn total_of(s: &[u8], kind: u32) -> Total
+pub fn total_of(s: &[u8], kind: u32) -> Total
     requires { ⌜ (1 ≤ kind) × (kind ≤ 2) ⌝ }
     requires { ⌜ Starts kind 4096 (words (now s)) ⌝ }
-    ensures { λ r. ⌜ (r .sum ≡ total 4096 (pow kind (first kind (words (now (s .entry)))))) × (r .variables + 1 ≡ length (first kind (words (now (s .entry))))) ⌝ }
+    ensures { λ r. ⌜ TotalOf kind (first kind (words (now (s .entry)))) r ⌝ }
 {
     let absent = 32768 * (kind - 1);
     let mut sum: u32 = 0;
@@ -99,7 +99,25 @@ fn revlex(a: &[u8], i: usize, b: &[u8], j: usize, kind: u32) -> CmpOrd
     }
 }
 
-// Compares two monomials (kind 1) or two ratios (kind 2): by their totals, then from their ends.
+// Compares two monomials (kind 1) or two ratios (kind 2) whose totals are known: by these, then from their ends.
+pub fn ord_by_totals(a: &[u8], s: Total, b: &[u8], t: Total, kind: u32) -> CmpOrd
+    requires { ⌜ (1 ≤ kind) × (kind ≤ 2) ⌝ }
+    requires { ⌜ Starts kind 4096 (words (now a)) ⌝ }
+    requires { ⌜ TotalOf kind (first kind (words (now a))) s ⌝ }
+    requires { ⌜ Starts kind 4096 (words (now b)) ⌝ }
+    requires { ⌜ TotalOf kind (first kind (words (now b))) t ⌝ }
+    ensures { λ r. ⌜ r ≡ order kind (first kind (words (now (a .entry)))) (first kind (words (now (b .entry)))) ⌝ }
+{
+    if s.sum < t.sum {
+        return CmpOrd::Less;
+    }
+    if t.sum < s.sum {
+        return CmpOrd::Greater;
+    }
+    revlex(a, s.variables, b, t.variables, kind)
+}
+
+// Compares two monomials or two ratios.
 pub fn ord(a: &[u8], b: &[u8], kind: u32) -> CmpOrd
     requires { ⌜ (1 ≤ kind) × (kind ≤ 2) ⌝ }
     requires { ⌜ Starts kind 4096 (words (now a)) ⌝ }
@@ -108,11 +126,5 @@ pub fn ord(a: &[u8], b: &[u8], kind: u32) -> CmpOrd
 {
     let s = total_of(a, kind);
     let t = total_of(b, kind);
-    if s.sum < t.sum {
-        return CmpOrd::Less;
-    }
-    if t.sum < s.sum {
-        return CmpOrd::Greater;
-    }
-    revlex(a, s.variables, b, t.variables, kind)
+    ord_by_totals(a, s, b, t, kind)
 }

@@ -1,102 +1,79 @@
 use native.Mathlib.Omega.{arith}
 use mathlib.Core.Path.{_≡_, sym, ap, _∙_}
-use Prim.Native.Nat.{_+_, _-_, _*_, _≤_}
-use lib.ListN.{length}
-use Rattle.words.specs.Kinds.{payload}
+use Prim.Native.Nat.{_+_}
 use Rattle.words.specs.Words.{words}
-use Rattle.words.proofs.Laws.{length-words}
 use Rattle.monomial.specs.Order.{order}
 use Rattle.monomial.specs.Monomial.{first}
 use Rattle.fast_compare.specs.Map.{valueOf}
-use Rattle.fast_compare.specs.Layout.{ratioWords, valueAt}
-use Rattle.fast_compare.proofs.Images.{ratio-within}
-use Rattle.fast_compare.proofs.Scans.{ratio-starts, ratio-first, cmp-less, cmp-greater, cmp-ratio, value-index, value-ratio}
+use Rattle.fast_compare.specs.Layout.{valueAt}
+use Rattle.fast_compare.proofs.Scans.{row-fits, total-lent, ratio-starts, ratio-first, cmp-less, cmp-greater, cmp-ratio, value-index, value-ratio}
 use borrow.Author.Needs.{needs}
 use Rattle.fast_compare.proofs.rows.compare_at.Statement.{statement}
 use Rattle.fast_compare.proofs.rows.compare_at.Tie as tie
 use Rattle.fast_compare.proofs.rows.compare_at.Reads as reads
 use Rattle.fast_compare.proofs.rows.compare_at.Lts as lts
-use Rattle.monomial.proofs.monomial_ordering.ord.Reads as ord-reads
+use Rattle.monomial.proofs.monomial_ordering.ord_by_totals.Reads as ord-by-totals-reads
 use Rattle.words.proofs.get.Reads as get-reads
 use Rattle.words.proofs.payload.Reads as payload-reads
 
--- helpers
--- the ratio stands within the bytes
-fits : (s : tie.Start) → 4 * (s .args .at + 2) ≤ length (s .args .map .now)
-fits s =
-    let W = words (s .args .map .now) in
-    let p = s .pre .0 in
-    let nz : ratioWords W (p .vars) (s .args .at + 1) ≡ 0 → ⊥ = p .some in
-    omega (arith, ratio-within W (p .vars) (s .args .at + 1) (p .few) (p .some) .1, length-words (s .args .map .now))
-
--- end of helpers
-
--- src/rows.rt:19:28
+-- src/rows.rt:39:28
 get-requires : tie.Need-get-requires
-get-requires c κs = omega (arith, fits (c .before .before))
+get-requires c κs = omega (arith, row-fits (c .before .before .args .map .now) (c .before .before .args .at) (c .before .before .pre .0))
 
--- src/rows.rt:19:9
+-- src/rows.rt:39:9
 payload-requires : tie.Need-payload-requires
 payload-requires c κs = search needs
 
--- src/rows.rt:21:9
+-- src/rows.rt:41:9
 returns : tie.Need-returns
-returns c =
-    let start = c .before .before .before .before .before in
-    λ m s. let W = words (start .args .map .now) in
-    let a = (start .args .at) in
-    let q = valueOf (start .args .index) (first 2 (words (start .args .ratio .now))) in
-    let x = value-index W m a in
-    cmp-less (valueAt W m a) q (omega (arith, x, c .before .before .get .ensures, c .before .payload .ensures))
+returns c = λ m s. let W = words (c .before .before .before .before .before .args .map .now) in
+    let q = valueOf (c .before .before .before .before .before .args .index) (first 2 (words (c .before .before .before .before .before .args .ratio .now))) in
+    cmp-less (valueAt W m (c .before .before .before .before .before .args .at)) q (omega (arith, value-index W m (c .before .before .before .before .before .args .at), c .before .before .get .ensures, c .before .payload .ensures))
 
--- src/rows.rt:24:9
+-- src/rows.rt:44:9
 returns-2 : tie.Need-returns-2
-returns-2 c =
-    let start = c .before .before .before .before .before .before in
-    λ m s. let W = words (start .args .map .now) in
-    let a = (start .args .at) in
-    let q = valueOf (start .args .index) (first 2 (words (start .args .ratio .now))) in
-    let x = value-index W m a in
-    cmp-greater (valueAt W m a) q (omega (arith, x, c .before .before .before .get .ensures, c .before .before .payload .ensures))
+returns-2 c = λ m s. let W = words (c .before .before .before .before .before .before .args .map .now) in
+    let q = valueOf (c .before .before .before .before .before .before .args .index) (first 2 (words (c .before .before .before .before .before .before .args .ratio .now))) in
+    cmp-greater (valueAt W m (c .before .before .before .before .before .before .args .at)) q (omega (arith, value-index W m (c .before .before .before .before .before .before .args .at), c .before .before .before .get .ensures, c .before .before .payload .ensures))
 
--- src/rows.rt:26:18
+-- src/rows.rt:46:18
 add-a : tie.Need-add-a
-add-a c = omega (arith, fits (c .before .before .before .before .before .before))
+add-a c = omega (arith, row-fits (c .before .before .before .before .before .before .args .map .now) (c .before .before .before .before .before .before .args .at) (c .before .before .before .before .before .before .pre .0))
 
--- src/rows.rt:26:13
+-- src/rows.rt:46:13
 mul-a : tie.Need-mul-a
-mul-a c = omega (arith, fits (c .before .before .before .before .before .before))
+mul-a c = omega (arith, row-fits (c .before .before .before .before .before .before .args .map .now) (c .before .before .before .before .before .before .args .at) (c .before .before .before .before .before .before .pre .0))
 
--- src/rows.rt:27:38
-sub-ord : tie.Need-sub-ord
-sub-ord c = omega (arith, fits (c .before .before .before .before .before .before))
+-- src/rows.rt:47:48
+sub-ord-by-totals : tie.Need-sub-ord-by-totals
+sub-ord-by-totals c = omega (arith, row-fits (c .before .before .before .before .before .before .args .map .now) (c .before .before .before .before .before .before .args .at) (c .before .before .before .before .before .before .pre .0))
 
--- src/rows.rt:27:38
-part-ord-start : tie.Need-part-ord-start
-part-ord-start c = omega (arith, fits (c .before .before .before .before .before .before))
+-- src/rows.rt:47:48
+part-ord-by-totals-start : tie.Need-part-ord-by-totals-start
+part-ord-by-totals-start c = omega (arith, row-fits (c .before .before .before .before .before .before .args .map .now) (c .before .before .before .before .before .before .args .at) (c .before .before .before .before .before .before .pre .0))
 
--- src/rows.rt:27:38
-part-ord-end : tie.Need-part-ord-end
-part-ord-end c = search needs
+-- src/rows.rt:47:48
+part-ord-by-totals-end : tie.Need-part-ord-by-totals-end
+part-ord-by-totals-end c = search needs
 
--- src/rows.rt:27:5
-ord-requires : tie.Need-ord-requires
-ord-requires c κs =
-    let start = c .before .before .before .before .before .before .before in
-    ((omega arith, omega arith), (ratio-starts (start .args .map .now) (start .pre .0 .vars) ((start .args .at) + 1) (start .pre .0 .some), start .pre .1))
+-- src/rows.rt:47:5
+ord-by-totals-requires : tie.Need-ord-by-totals-requires
+ord-by-totals-requires c κs = let start = (c .before .before .before .before .before .before .before) in (
+  (omega arith, omega arith),
+  (
+    ratio-starts (start .args .map .now) (start .pre .0 .vars) ((start .args .at) + 1) (start .pre .0 .some),
+    (total-lent (start .args .map .now) (start .args .at) (start .args .s) .0 (start .pre .1 .0), (start .pre .1 .1 .0, start .pre .1 .1 .1)),
+  ),
+)
 
--- src/rows.rt:14:1
+-- src/rows.rt:25:1
 returns-3 : tie.Need-returns-3
-returns-3 c =
-    let payload = c .before .before .before .before .payload in
-    let get = c .before .before .before .before .before .get in
-    let start = c .before .before .before .before .before .before .before .before in
+returns-3 c = let start = (c .before .before .before .before .before .before .before .before) in
     λ m s. let W = words (start .args .map .now) in
-    let a = (start .args .at) in
+    let a = start .args .at in
     let q = valueOf (start .args .index) (first 2 (words (start .args .ratio .now))) in
-    let x = value-index W m a in
-    (c .ord .ensures) ∙ rw (ratio-first (start .args .map .now) m (a + 1) s)
-    (ap (λ r. order 2 r (q .ratio)) (sym (value-ratio W m a)) ∙ cmp-ratio (valueAt W m a) q (omega (arith, x, get .ensures, payload .ensures)))
+    (c .ord-by-totals .ensures) ∙ rw (ratio-first (start .args .map .now) m (a + 1) s)
+    (ap (λ r. order 2 r (q .ratio)) (sym (value-ratio W m a)) ∙ cmp-ratio (valueAt W m a) q (omega (arith, value-index W m a, c .before .before .before .before .before .get .ensures, c .before .before .before .before .payload .ensures)))
 
 pub compare-at-spec : {M : Type 1} → statement M
 compare-at-spec =
@@ -108,8 +85,8 @@ compare-at-spec =
     returns-2
     add-a
     mul-a
-    sub-ord
-    part-ord-start
-    part-ord-end
-    ord-requires
+    sub-ord-by-totals
+    part-ord-by-totals-start
+    part-ord-by-totals-end
+    ord-by-totals-requires
     returns-3)

@@ -10,7 +10,7 @@ use Rattle.monomial.specs.Monomial.{first}
 use Rattle.fast_compare.specs.Map.{Value, valueOf, cmp}
 use Rattle.fast_compare.specs.Layout.{valueAt, HasRatio}
 use Rattle.fast_compare.proofs.Ranks.{less-equal, less-greater}
-use Rattle.fast_compare.proofs.Scans.{ratio-starts, ratio-first, value-parts}
+use Rattle.fast_compare.proofs.Scans.{ratio-starts, ratio-first, total-lent, value-parts}
 use borrow.Author.Needs.{needs}
 use Rattle.fast_compare.proofs.rows.rises.Statement.{statement}
 use Rattle.fast_compare.proofs.rows.rises.Tie as tie
@@ -32,99 +32,105 @@ compared c =
     let b = s .args .b in
     let e = ratio-first (s .args .map .now) m (b + 1) (s .pre .1 .1 .0 .some) in
     let i : c .before .before .payload .result ≡ payload (getD W b 0) = c .before .before .payload .ensures ∙ ap (λ (x : ℕ). payload x) (c .before .before .before .get .ensures) in
-    let v : valueOf (c .before .before .payload .result) (first 2 (words (take (length (s .args .map .now) - 4 * (b + 1)) (drop (4 * (b + 1)) (s .args .map .now))))) ≡ valueAt W m b = rw (i, e) (sym (value-parts W m b)) in
+    let lent = take (length (s .args .map .now) - 4 * (b + 1)) (drop (4 * (b + 1)) (s .args .map .now)) in
+    let v : valueOf (c .before .before .payload .result) (first 2 (words lent)) ≡ valueAt W m b = rw (i, e) (sym (value-parts W m b)) in
     c .compare-at .ensures m (s .pre .1 .0 .some) ∙ ap (λ (x : Value). cmp (valueAt W m (s .args .a)) x) v
 
 -- end of helpers
 
--- src/rows.rt:38:28
+-- src/rows.rt:60:28
 get-requires : tie.Need-get-requires
 get-requires c κs = search needs
 
--- src/rows.rt:38:9
+-- src/rows.rt:60:9
 payload-requires : tie.Need-payload-requires
 payload-requires c κs = search needs
 
--- src/rows.rt:39:18
-add-s : tie.Need-add-s
-add-s c = search needs
+-- src/rows.rt:61:18
+add-x : tie.Need-add-x
+add-x c = search needs
 
--- src/rows.rt:39:13
-mul-s : tie.Need-mul-s
-mul-s c = search needs
+-- src/rows.rt:61:13
+mul-x : tie.Need-mul-x
+mul-x c = search needs
 
--- src/rows.rt:40:35
+-- src/rows.rt:62:38
 sub-compare-at : tie.Need-sub-compare-at
 sub-compare-at c = search needs
 
--- src/rows.rt:40:35
+-- src/rows.rt:62:38
 part-compare-at-start : tie.Need-part-compare-at-start
 part-compare-at-start c = search needs
 
--- src/rows.rt:40:35
+-- src/rows.rt:62:38
 part-compare-at-end : tie.Need-part-compare-at-end
 part-compare-at-end c = search needs
 
--- src/rows.rt:40:9
+-- src/rows.rt:62:9
 compare-at-requires : tie.Need-compare-at-requires
-compare-at-requires c κs =
-    let s = (c .before .before .before .before) in
-    let h : HasRatio (words (s .args .map .now)) (s .args .a + 1) = record { vars = s .args .variables; few = omega arith; some = s .pre .1 .0 .some } in
-    (h, ratio-starts (s .args .map .now) (s .args .variables) (s .args .b + 1) (s .pre .1 .1 .0 .some))
+compare-at-requires c κs = let s = (c .before .before .before .before) in
+    let h : HasRatio (words (s .args .map .now)) (s .args .a + 1) = record { vars = s .args .variables; few = omega arith; some = s .pre .1 .0 .some } in (
+      h,
+      (
+        s .pre .1 .1 .1 .1 .0,
+        (
+          ratio-starts (s .args .map .now) (s .args .variables) (s .args .b + 1) (s .pre .1 .1 .0 .some),
+          total-lent (s .args .map .now) (s .args .b) (s .args .t) .0 (s .pre .1 .1 .1 .1 .1),
+        ),
+      ),
+    )
 
--- src/rows.rt:42:46
+-- src/rows.rt:64:46
 enum-told : tie.Need-enum-told
 enum-told c = search needs
 
--- src/rows.rt:42:46
+-- src/rows.rt:64:46
 add-get : tie.Need-add-get
 add-get c = search needs
 
--- src/rows.rt:42:41
+-- src/rows.rt:64:41
 add-get-2 : tie.Need-add-get-2
 add-get-2 c = search needs
 
--- src/rows.rt:42:25
+-- src/rows.rt:64:25
 get-requires-2 : tie.Need-get-requires-2
 get-requires-2 c κs = search needs
 
--- src/rows.rt:42:85
+-- src/rows.rt:64:85
 add-get-3 : tie.Need-add-get-3
 add-get-3 c = search needs
 
--- src/rows.rt:42:80
+-- src/rows.rt:64:80
 add-get-4 : tie.Need-add-get-4
 add-get-4 c = search needs
 
--- src/rows.rt:42:64
+-- src/rows.rt:64:64
 get-requires-3 : tie.Need-get-requires-3
 get-requires-3 c κs = search needs
 
--- src/rows.rt:43:26
+-- src/rows.rt:65:26
 enum-told-2 : tie.Need-enum-told-2
 enum-told-2 c = search needs
 
--- src/rows.rt:44:28
+-- src/rows.rt:66:28
 enum-told-3 : tie.Need-enum-told-3
 enum-told-3 c = search needs
 
--- src/rows.rt:31:1
+-- src/rows.rt:51:1
 returns : tie.Need-returns
-returns c =
-    let get3 = c .get3 in
-    let get2 = c .before .get2 in (
-      λ z. record {
-        values = sym (compared (c .before .before .before .before)) ∙ c .before .before .enum-told .given .1;
-        labels = omega (arith, ltb-true (get2 .result) (get3 .result) z, get2 .ensures, get3 .ensures);
-      },
-      λ h. lt-ltb (get2 .result) (get3 .result) (omega (arith, h .labels, get2 .ensures, get3 .ensures)),
-    )
+returns c = (
+  λ z. record {
+    values = sym (compared (c .before .before .before .before)) ∙ c .before .before .enum-told .given .1;
+    labels = omega (arith, ltb-true (c .before .get2 .result) (c .get3 .result) z, c .before .get2 .ensures, c .get3 .ensures);
+  },
+  λ h. lt-ltb (c .before .get2 .result) (c .get3 .result) (omega (arith, h .labels, c .before .get2 .ensures, c .get3 .ensures)),
+)
 
--- src/rows.rt:31:1
+-- src/rows.rt:51:1
 returns-2 : tie.Need-returns-2
 returns-2 c = (λ z. never z, λ h. less-equal (sym (h .values) ∙ sym (compared (c .before .before)) ∙ c .enum-told2 .given .1))
 
--- src/rows.rt:31:1
+-- src/rows.rt:51:1
 returns-3 : tie.Need-returns-3
 returns-3 c = (λ z. never z, λ h. less-greater (sym (h .values) ∙ sym (compared (c .before .before)) ∙ c .enum-told3 .given .1))
 
@@ -134,8 +140,8 @@ rises-spec =
     (tie.spec
     get-requires
     payload-requires
-    add-s
-    mul-s
+    add-x
+    mul-x
     sub-compare-at
     part-compare-at-start
     part-compare-at-end

@@ -93,7 +93,7 @@ returns c =
     let start = c .before .before .before .before .before in
     let t = totalled (start .pre .0 .0) (start .pre .0 .1) (loop .inv) (seen _ (loop .inv .ra) (c .before .before .get .ensures))
     (first-canonical (start .pre .0 .0) (start .pre .1)) (is-end-true _ (c .before .is-end .ensures) (c .if1 .taken)) in
-    (t .is, t .last)
+    record { sum = t .is; variables = t .last }
 
 -- src/monomial_ordering.rt:51:16
 power-requires : tie.Need-power-requires Inv-loop μ-loop
