@@ -68,7 +68,7 @@ module _ (bs : List ℕ) (s : Shape) (R : at.InRange s) (room : 4 * at.size s �
 
   module _ (ys : List ℕ) (done : (l : map.State) → labels.Is l (take (4 * x + 4 * y - 4 * x) (drop (4 * x) bs)) → ys ≡ pasteW (take (4 * x + 4 * y - 4 * x) (drop (4 * x) bs)) 0 (labels.encode (settled l v)))
       (l : map.State) (M : MapIs (words bs) s l) where
-    is-l : labels.Is l (take (4 * x + 4 * y - 4 * x) (drop (4 * x) bs))
+    pub is-l : labels.Is l (take (4 * x + 4 * y - 4 * x) (drop (4 * x) bs))
     is-l = rw part-is (is-map bs s R room one l M)
 
     W′ : Whole l (settled l v)

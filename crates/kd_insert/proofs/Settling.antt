@@ -21,7 +21,7 @@ use Rattle.fast_compare.specs.declared.Comparer.{Comparer}
 use Rattle.fast_compare.specs.declared.Comparer.the-variants.{Known, New, Full, NoLabel}
 use Rattle.fast_compare.specs.declared.Place.the-variants.{At, Before}
 use Rattle.fast_compare.proofs.Images.{encode-length}
-use Rattle.fast_compare.proofs.Maps.{after-as, stored-same, rebuild-valid, after-valid, retry}
+use Rattle.fast_compare.proofs.Maps.{value-new, after-as, stored-new, stored-same, rebuild-length, rebuild-valid, after-valid, retry}
 use Rattle.fast_compare.proofs.Kept.{gave-sound, rebuild-is, after-is}
 use Rattle.fast_compare.proofs.Reading.{vars-of}
 use Rattle.fast_compare.proofs.Giving.{at-place, before-place, known-row}
@@ -30,6 +30,7 @@ use Rattle.index_image.specs.Shape as at
 use Rattle.index_image.specs.Layout.{slot, masked}
 use Rattle.index_theory.specs.State.{rowOr, rowOf}
 use Rattle.index_image.proofs.Encoding.{slot-length}
+use Rattle.index_image.proofs.Rows.{row-of}
 use Rattle.kd_insert.specs.Labelling.{isNoLabel, settled, ratioRow}
 
 -- ---- an image pasted over an image
@@ -130,6 +131,31 @@ row-at-place l v p r val e er =
 pub no-row : (l : State) (v : Value) (p : ℕ) → Before p ≡ place (l .rows) v → 0 ≡ rowOf l v
 unfolding rowOf rowOr
 no-row l v p e = rw (before-place l v p e .is)
+
+-- a new value's row is the last
+module _ (l : State) (v : Value) where
+  new-last : Valid (after l v) → length (l .rows) < length (after l v .rows) → length (l .rows) ≡ rowOf (after l v) v
+  new-last val h = go (answer l v) refl
+    where
+      kept : (c : Comparer) → answer l v ≡ c → ((x : ℕ) → c ≡ New x → ⊥) → length (l .rows) ≡ rowOf (after l v) v
+      kept c e other = absurd (omega (arith, h, ap (λ (s : State). length (s .rows)) (after-as l v c e ∙ stored-same l v c other)))
+
+      go : (c : Comparer) → answer l v ≡ c → length (l .rows) ≡ rowOf (after l v) v
+      go (New x) e =
+          sym (row-of (after l v) val v (length (l .rows)) h (rw (after-as l v (New x) e ∙ stored-new l v x) (value-new (l .rows) (record { value = v; label = x }))))
+      go (Known x) e = kept (Known x) e (λ y w. let u : _≡_ {A = ℕ} 0 1 = cc in omega arith)
+      go Full e = kept Full e (λ y w. let u : _≡_ {A = ℕ} 0 1 = cc in omega arith)
+      go NoLabel e = kept NoLabel e (λ y w. let u : _≡_ {A = ℕ} 0 1 = cc in omega arith)
+
+pub settled-last : (l : State) (v : Value) → Valid l → Valid (settled l v) → length (l .rows) < length (settled l v .rows) → length (l .rows) ≡ rowOf (settled l v) v
+unfolding relabel
+settled-last l v ok = go (answer l v)
+  where
+    go : (c : Comparer) → Valid (relabel c l v) → length (l .rows) < length (relabel c l v .rows) → length (l .rows) ≡ rowOf (relabel c l v) v
+    go (Known x) val h = new-last l v val h
+    go (New x) val h = new-last l v val h
+    go Full val h = new-last l v val h
+    go NoLabel val h = sym (rebuild-length l ok) ∙ new-last (rebuild l) v val (omega (arith, h, rebuild-length l ok))
 
 -- ---- the row of an entry, written piece by piece
 pub ratio-row-written : (im a b c d : List ℕ) (i m ix row : ℕ) (xs sign lm : List ℕ) → length sign ≤ at.slotWidth m → length lm ≤ at.slotWidth m → 4 * (i + at.widthOf 1 m) ≤ length im

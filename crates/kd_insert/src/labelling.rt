@@ -55,6 +55,18 @@ pub fn row_of(labels: &[u8], index: u32, ratio: &[u8]) -> usize
     }
 }
 
+// The row of a value that was settled in a map of n rows: the last one where it is new, else the one where it is found.
+fn settled_row(labels: &[u8], n: usize, index: u32, ratio: &[u8]) -> usize
+    requires { ⌜ layout.Sound (now labels) ⌝ }
+    requires { ⌜ Canonical 2 4096 (words (now ratio)) ⌝ }
+    ensures { λ r. ⌜ ((l : map.State) → map.Valid l → n ≡ length (l .rows) → layout.Is (settled l (map.valueOf index (words (now (ratio .entry))))) (now (labels .entry)) → r ≡ rowOf (settled l (map.valueOf index (words (now (ratio .entry))))) (map.valueOf index (words (now (ratio .entry))))) ⌝ }
+{
+    if n < fast_compare::count(labels) {
+        return n;
+    }
+    row_of(labels, index, ratio)
+}
+
 // Gives a ratio a row and a label in the label map of the image, and returns the row.
 pub fn label_ratio(image: &mut [u8], s: Shape, index: u32, ratio: &[u8]) -> usize
     requires { ⌜ shape.InRange s ⌝ }
@@ -66,8 +78,9 @@ pub fn label_ratio(image: &mut [u8], s: Shape, index: u32, ratio: &[u8]) -> usiz
 {
     let a = 4 * s.labels_at();
     let b = a + 4 * s.labels_size();
+    let n = fast_compare::count(&image[a..b]);
     settle(&mut image[a..b], index, ratio);
-    row_of(&image[a..b], index, ratio)
+    settled_row(&image[a..b], n, index, ratio)
 }
 
 // The same for the ratio of a signature and an lm.

@@ -4,76 +4,107 @@ use Rattle.fast_compare.specs.Map.{valueOf}
 use Rattle.monomial.proofs.Laws.{canonical-more}
 use Rattle.index_image.proofs.Labels.{map-of}
 use Rattle.kd_insert.specs.Labelling.{settled}
-use Rattle.kd_insert.proofs.Parts.{lent-ready, read-again, labels-are}
+use Rattle.kd_insert.proofs.Parts.{lent-ready, is-l, read-again, labels-are}
 use borrow.Author.Needs.{needs}
 use Rattle.kd_insert.proofs.labelling.label_ratio.Statement.{statement}
 use Rattle.kd_insert.proofs.labelling.label_ratio.Tie as tie
 use Rattle.kd_insert.proofs.labelling.label_ratio.Reads as reads
 use Rattle.kd_insert.proofs.labelling.label_ratio.Lts as lts
+use Rattle.fast_compare.proofs.count.Reads as count-reads
 use Rattle.index_image.proofs.Shape.labels_at.Reads as labels-at-reads
 use Rattle.index_image.proofs.Shape.labels_size.Reads as labels-size-reads
-use Rattle.kd_insert.proofs.labelling.row_of.Reads as row-of-reads
 use Rattle.kd_insert.proofs.labelling.settle.Reads as settle-reads
+use Rattle.kd_insert.proofs.labelling.settled_row.Reads as settled-row-reads
 
--- src/labelling.rt:66:17
+-- src/labelling.rt:79:17
 labels-at-requires : tie.Need-labels-at-requires
 labels-at-requires c κs = search needs
 
--- src/labelling.rt:66:13
+-- src/labelling.rt:79:13
 mul-a : tie.Need-mul-a
 mul-a c = search needs
 
--- src/labelling.rt:67:21
+-- src/labelling.rt:80:21
 labels-size-requires : tie.Need-labels-size-requires
 labels-size-requires c κs = search needs
 
--- src/labelling.rt:67:17
+-- src/labelling.rt:80:17
 mul-b : tie.Need-mul-b
 mul-b c = search needs
 
--- src/labelling.rt:67:13
+-- src/labelling.rt:80:13
 add-b : tie.Need-add-b
 add-b c = search needs
 
--- src/labelling.rt:68:12
+-- src/labelling.rt:81:33
+sub-count : tie.Need-sub-count
+sub-count c = search needs
+
+-- src/labelling.rt:81:33
+part-count-start : tie.Need-part-count-start
+part-count-start c = search needs
+
+-- src/labelling.rt:81:33
+part-count-end : tie.Need-part-count-end
+part-count-end c = search needs
+
+-- src/labelling.rt:81:9
+count-requires : tie.Need-count-requires
+count-requires c κs = let s = (c .before .before .before .before .before .before) in
+    let v = valueOf (s .args .index) (words (s .args .ratio .now)) in
+    lent-ready (s .args .image .now) (s .args .s) (s .pre .0) (s .pre .1 .0) (s .pre .1 .1 .0) (c .before .before .before .labels-at .result) (c .before .before .labels-size .result) (c .before .before .before .labels-at .ensures) (c .before .before .labels-size .ensures) v (s .pre .1 .1 .1 .1) (s .pre .1 .1 .1 .0) .0
+
+-- src/labelling.rt:82:12
 sub-settle : tie.Need-sub-settle
 sub-settle c = search needs
 
--- src/labelling.rt:68:12
+-- src/labelling.rt:82:12
 part-settle-start : tie.Need-part-settle-start
 part-settle-start c = search needs
 
--- src/labelling.rt:68:12
+-- src/labelling.rt:82:12
 part-settle-end : tie.Need-part-settle-end
 part-settle-end c = search needs
 
--- src/labelling.rt:68:5
+-- src/labelling.rt:82:5
 settle-requires : tie.Need-settle-requires
-settle-requires c κs = lent-ready (c .before .before .before .before .before .args .image .now) (c .before .before .before .before .before .args .s) (c .before .before .before .before .before .pre .0) (c .before .before .before .before .before .pre .1 .0) (c .before .before .before .before .before .pre .1 .1 .0) (c .before .before .labels-at .result) (c .before .labels-size .result) (c .before .before .labels-at .ensures) (c .before .labels-size .ensures) (valueOf (c .before .before .before .before .before .args .index) (words (c .before .before .before .before .before .args .ratio .now))) (c .before .before .before .before .before .pre .1 .1 .1 .1) (c .before .before .before .before .before .pre .1 .1 .1 .0)
+settle-requires c κs = let s = (c .before .before .before .before .before .before .before .before) in
+    let v = valueOf (s .args .index) (words (s .args .ratio .now)) in
+    lent-ready (s .args .image .now) (s .args .s) (s .pre .0) (s .pre .1 .0) (s .pre .1 .1 .0) (c .before .before .before .before .before .labels-at .result) (c .before .before .before .before .labels-size .result) (c .before .before .before .before .before .labels-at .ensures) (c .before .before .before .before .labels-size .ensures) v (s .pre .1 .1 .1 .1) (s .pre .1 .1 .1 .0)
 
--- src/labelling.rt:69:12
-sub-row-of : tie.Need-sub-row-of
-sub-row-of c = search needs
+-- src/labelling.rt:83:17
+sub-settled-row : tie.Need-sub-settled-row
+sub-settled-row c = search needs
 
--- src/labelling.rt:69:12
-part-row-of-start : tie.Need-part-row-of-start
-part-row-of-start c = search needs
+-- src/labelling.rt:83:17
+part-settled-row-start : tie.Need-part-settled-row-start
+part-settled-row-start c = search needs
 
--- src/labelling.rt:69:12
-part-row-of-end : tie.Need-part-row-of-end
-part-row-of-end c = search needs
+-- src/labelling.rt:83:17
+part-settled-row-end : tie.Need-part-settled-row-end
+part-settled-row-end c = search needs
 
--- src/labelling.rt:69:5
-row-of-requires : tie.Need-row-of-requires
-row-of-requires c κs = (record { state = settled ((c .before .before .before .before .before .before .before .before .before .before .pre .1 .1 .1 .0) .state) (valueOf (c .before .before .before .before .before .before .before .before .before .before .args .index) (words (c .before .before .before .before .before .before .before .before .before .before .args .ratio .now))); is = read-again (c .before .before .before .before .before .before .before .before .before .before .args .image .now) (c .before .before .before .before .before .before .before .before .before .before .args .s) (c .before .before .before .before .before .before .before .before .before .before .pre .0) (c .before .before .before .before .before .before .before .before .before .before .pre .1 .0) (c .before .before .before .before .before .before .before .before .before .before .pre .1 .1 .0) (c .before .before .before .before .before .before .before .labels-at .result) (c .before .before .before .before .before .before .labels-size .result) (c .before .before .before .before .before .before .before .labels-at .ensures) (c .before .before .before .before .before .before .labels-size .ensures) (valueOf (c .before .before .before .before .before .before .before .before .before .before .args .index) (words (c .before .before .before .before .before .before .before .before .before .before .args .ratio .now))) (c .before .before .before .before .before .before .before .before .before .before .pre .1 .1 .1 .1) (c .before .before .before .before .settle .last .0) (c .before .before .before .before .settle .ensures) ((c .before .before .before .before .before .before .before .before .before .before .pre .1 .1 .1 .0) .state) (map-of (c .before .before .before .before .before .before .before .before .before .before .args .image .now) (c .before .before .before .before .before .before .before .before .before .before .args .s) (c .before .before .before .before .before .before .before .before .before .before .pre .0) (c .before .before .before .before .before .before .before .before .before .before .pre .1 .0) (c .before .before .before .before .before .before .before .before .before .before .pre .1 .1 .0) (c .before .before .before .before .before .before .before .before .before .before .pre .1 .1 .1 .0)) }, canonical-more (omega arith) (omega (arith, c .before .before .before .before .before .before .before .before .before .before .pre .0 .vars-to)) (c .before .before .before .before .before .before .before .before .before .before .pre .1 .1 .1 .1 .canonical))
+-- src/labelling.rt:83:5
+settled-row-requires : tie.Need-settled-row-requires
+settled-row-requires c κs = let s = (c .before .before .before .before .before .before .before .before .before .before .before .before .before) in
+    let v = valueOf (s .args .index) (words (s .args .ratio .now)) in
+    let l = s .pre .1 .1 .1 .0 .state in
+    let m = map-of (s .args .image .now) (s .args .s) (s .pre .0) (s .pre .1 .0) (s .pre .1 .1 .0) (s .pre .1 .1 .1 .0) in (
+      record { state = settled l v; is = read-again (s .args .image .now) (s .args .s) (s .pre .0) (s .pre .1 .0) (s .pre .1 .1 .0) (c .before .before .before .before .before .before .before .before .before .before .labels-at .result) (c .before .before .before .before .before .before .before .before .before .labels-size .result) (c .before .before .before .before .before .before .before .before .before .before .labels-at .ensures) (c .before .before .before .before .before .before .before .before .before .labels-size .ensures) v (s .pre .1 .1 .1 .1) (c .before .before .before .before .settle .last .0) (c .before .before .before .before .settle .ensures) l m },
+      canonical-more (omega arith) (omega (arith, s .pre .0 .vars-to)) (s .pre .1 .1 .1 .1 .canonical),
+    )
 
--- src/labelling.rt:58:1
+-- src/labelling.rt:71:1
 same-length : tie.Need-same-length
 same-length c = search needs
 
--- src/labelling.rt:58:1
+-- src/labelling.rt:71:1
 returns : tie.Need-returns
-returns c = λ l m. labels-are (c .before .before .before .before .before .before .before .before .before .before .before .args .image .now) (c .before .before .before .before .before .before .before .before .before .before .before .args .s) (c .before .before .before .before .before .before .before .before .before .before .before .pre .0) (c .before .before .before .before .before .before .before .before .before .before .before .pre .1 .0) (c .before .before .before .before .before .before .before .before .before .before .before .pre .1 .1 .0) (c .before .before .before .before .before .before .before .before .labels-at .result) (c .before .before .before .before .before .before .before .labels-size .result) (c .before .before .before .before .before .before .before .before .labels-at .ensures) (c .before .before .before .before .before .before .before .labels-size .ensures) (valueOf (c .before .before .before .before .before .before .before .before .before .before .before .args .index) (words (c .before .before .before .before .before .before .before .before .before .before .before .args .ratio .now))) (c .before .before .before .before .before .before .before .before .before .before .before .pre .1 .1 .1 .1) (c .before .before .before .before .before .settle .last .0) (c .before .before .before .before .before .settle .ensures) l m (c .row-of .result) ((c .row-of .ensures) (settled l (valueOf (c .before .before .before .before .before .before .before .before .before .before .before .args .index) (words (c .before .before .before .before .before .before .before .before .before .before .before .args .ratio .now)))) (read-again (c .before .before .before .before .before .before .before .before .before .before .before .args .image .now) (c .before .before .before .before .before .before .before .before .before .before .before .args .s) (c .before .before .before .before .before .before .before .before .before .before .before .pre .0) (c .before .before .before .before .before .before .before .before .before .before .before .pre .1 .0) (c .before .before .before .before .before .before .before .before .before .before .before .pre .1 .1 .0) (c .before .before .before .before .before .before .before .before .labels-at .result) (c .before .before .before .before .before .before .before .labels-size .result) (c .before .before .before .before .before .before .before .before .labels-at .ensures) (c .before .before .before .before .before .before .before .labels-size .ensures) (valueOf (c .before .before .before .before .before .before .before .before .before .before .before .args .index) (words (c .before .before .before .before .before .before .before .before .before .before .before .args .ratio .now))) (c .before .before .before .before .before .before .before .before .before .before .before .pre .1 .1 .1 .1) (c .before .before .before .before .before .settle .last .0) (c .before .before .before .before .before .settle .ensures) l m))
+returns c = let s = (c .before .before .before .before .before .before .before .before .before .before .before .before .before .before) in
+    let v = valueOf (s .args .index) (words (s .args .ratio .now)) in
+    λ l m. let few = (c .before .before .before .before .before .before .before .count .ensures .1) l (is-l (s .args .image .now) (s .args .s) (s .pre .0) (s .pre .1 .0) (s .pre .1 .1 .0) (c .before .before .before .before .before .before .before .before .before .before .before .labels-at .result) (c .before .before .before .before .before .before .before .before .before .before .labels-size .result) (c .before .before .before .before .before .before .before .before .before .before .before .labels-at .ensures) (c .before .before .before .before .before .before .before .before .before .before .labels-size .ensures) v (s .pre .1 .1 .1 .1) (c .before .before .before .before .before .settle .last .0) (c .before .before .before .before .before .settle .ensures) l m) in
+    labels-are (s .args .image .now) (s .args .s) (s .pre .0) (s .pre .1 .0) (s .pre .1 .1 .0) (c .before .before .before .before .before .before .before .before .before .before .before .labels-at .result) (c .before .before .before .before .before .before .before .before .before .before .labels-size .result) (c .before .before .before .before .before .before .before .before .before .before .before .labels-at .ensures) (c .before .before .before .before .before .before .before .before .before .before .labels-size .ensures) v (s .pre .1 .1 .1 .1) (c .before .before .before .before .before .settle .last .0) (c .before .before .before .before .before .settle .ensures) l m (c .settled-row .result)
+    ((c .settled-row .ensures) l (m .valid) few (read-again (s .args .image .now) (s .args .s) (s .pre .0) (s .pre .1 .0) (s .pre .1 .1 .0) (c .before .before .before .before .before .before .before .before .before .before .before .labels-at .result) (c .before .before .before .before .before .before .before .before .before .before .labels-size .result) (c .before .before .before .before .before .before .before .before .before .before .before .labels-at .ensures) (c .before .before .before .before .before .before .before .before .before .before .labels-size .ensures) v (s .pre .1 .1 .1 .1) (c .before .before .before .before .before .settle .last .0) (c .before .before .before .before .before .settle .ensures) l m))
 
 pub label-ratio-spec : {M : Type 1} → statement M
 label-ratio-spec =
@@ -84,13 +115,17 @@ label-ratio-spec =
     labels-size-requires
     mul-b
     add-b
+    sub-count
+    part-count-start
+    part-count-end
+    count-requires
     sub-settle
     part-settle-start
     part-settle-end
     settle-requires
-    sub-row-of
-    part-row-of-start
-    part-row-of-end
-    row-of-requires
+    sub-settled-row
+    part-settled-row-start
+    part-settled-row-end
+    settled-row-requires
     same-length
     returns)
