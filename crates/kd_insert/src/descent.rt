@@ -55,7 +55,7 @@ fn meet(image: &mut [u8], s: Shape, at: usize, lm: &[u8])
     requires { ⌜ part (words (now image)) (shape.nodeMaskAt at) (gcdWidth (s .variables)) ≡ gcdWords (s .variables) (mapMaxima (words (now image)) s) (monomialIn (words (now image)) (s .variables) (shape.gcdAt at)) ⌝ }
     ensures { λ _. ⌜ now (image .exit) ≡ pasteW (now (image .entry)) (shape.nodeMaskAt at) (gcdWords (s .variables) (mapMaxima (words (now (image .entry))) s) (result Op.Gcd (monomialIn (words (now (image .entry))) (s .variables) (shape.gcdAt at)) (words (now (lm .entry))))) ⌝ }
 {
-    if monomial::divides(stored::monomial_in(image, s, at + fields::GCD), lm) {
+    if monomial::divides(stored::monomial_from(image, s, at + fields::GCD), lm) {
         return;
     }
     make_gcd(image, s, at, lm);
