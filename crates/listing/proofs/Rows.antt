@@ -1,29 +1,24 @@
 -- The rows that the listing goes by, and the whole listing. Assumes nothing.
 use mathlib.Core.Path.{_≡_, refl, sym, ap, _∙_}
 use mathlib.Core.List.{List, _++_}
-use Prim.Native.Nat.{ℕ, zero, suc, _+_, _-_, _*_, _≤_, _<_}
+use Prim.Native.Nat.{ℕ, _+_, _-_, _*_, _≤_, _<_}
 use native.Mathlib.Omega.{arith}
 use lib.ListN.{length, getD, take, drop, length-append, length-take, length-drop}
 use borrow.Rule.Slice.PartMut.{putMid}
-use Rattle.words.specs.Words.{words, pasteW}
-use Rattle.words.specs.Tables.{part}
-use Rattle.words.proofs.Laws.{length-words, length-pasteW}
+use Rattle.words.specs.Words.{pasteW}
+use Rattle.words.proofs.Laws.{length-pasteW}
 use Rattle.kd_theory.specs.Tree.{Tree, leaf, branch, inorder, nodes, count}
-use Rattle.index_theory.specs.State.{State}
-use Rattle.index_theory.specs.Entries.{entryAt}
 use Rattle.index_theory.specs.Listing.{monomialsAt, listing}
 use Rattle.index_image.specs.Shape as at
-use Rattle.index_image.specs.Layout.{Is}
-use Rattle.index_image.specs.Head.{HeadOk}
 use Rattle.index_image.specs.Rows.{entriesFrom}
 use Rattle.index_image.specs.Walk.{power, mapMaxima, lmIn, Ready, Ordered, TreeAt}
 use Rattle.index_image.specs.declared.Shape.{Shape}
 use Rattle.index_image.proofs.Gcds.{Powers, image-powers}
 use Rattle.index_image.proofs.Trees as trees
-use Rattle.index_image.proofs.Trees.{some-node, nodes-branch, Head, Parts}
+use Rattle.index_image.proofs.Trees.{some-node, nodes-branch}
 use Rattle.index_image.proofs.Places.{row-behind}
-use Rattle.listing.specs.Listed.{lms, Here, Below, Root}
-use Rattle.listing.proofs.Monomials.{at-append, at-ext, behind}
+use Rattle.listing.specs.Listed.{lms, Here, Below}
+use Rattle.listing.proofs.Monomials.{at-append, behind}
 
 -- ---- the laws of rows, for the powers of the image itself
 module _ (W : List ℕ) (s : Shape) (R : Ready W s) where
