@@ -170,7 +170,8 @@ module _ (W bs₀ out₀ : List ℕ) (S : Sound bs₀) where
               let l : length (encode u) ≡ length (encode (after u (callAt W i ∷ []))) =
               encode-long u (now-is .valid) ∙ sym (size-same u (after u (callAt W i ∷ [])) sz) ∙ sym (encode-long (after u (callAt W i ∷ [])) (after-valid (callAt W i ∷ []) u (now-is .valid))) in
               let eb : bs′ ≡ pasteW bs 0 (encode (after u (callAt W i ∷ []))) = d .image u now-is ∙ ap (λ x. pasteW bs 0 (encode x)) (sym one) in
-              rw (after-two st (R .done) (callAt W i ∷ [])) (paste-again bs₀ bs bs′ [] (encode u) (encode (after u (callAt W i ∷ []))) l (omega (arith, I .room, encode-long u (now-is .valid), size-same st u (same-after (R .done) st))) (R .ran .image st I) eb)
+              rw (after-two st (R .done) (callAt W i ∷ [])) (paste-again bs₀ bs bs′ [] (encode u) (encode (after u (callAt W i ∷ []))) l
+              (omega (arith, I .room, encode-long u (now-is .valid), size-same st u (same-after (R .done) st))) (R .ran .image st I) eb)
 
           out-next : putMid (4 * n) k out ys ≡ pasteW out₀ 0 (answers st (R .done ++ (callAt W i ∷ [])))
           out-next =
@@ -179,7 +180,8 @@ module _ (W bs₀ out₀ : List ℕ) (S : Sound bs₀) where
               let w = step u (callAt W i) .answer in
               let l : length a ≡ n = answers-many st (R .done) ∙ sym (R .many) in
               let b : w ∷ [] ≡ answers u (callAt W i ∷ []) = sym (lists-exact u .one (callAt W i)) in
-              rw (answers-two st (R .done) (callAt W i ∷ []), ← b) (behind out₀ out a (w ∷ []) ys n k (R .ran .answered st I) (sym l) ek (omega (arith, length-append a (w ∷ []), room-for-one room, R .same-out)) (d .answered u now-is))
+              rw (answers-two st (R .done) (callAt W i ∷ []), ← b) (behind out₀ out a (w ∷ []) ys n k (R .ran .answered st I) (sym l) ek
+              (omega (arith, length-append a (w ∷ []), room-for-one room, R .same-out)) (d .answered u now-is))
 
         pub running-next : length bs′ ≡ length bs → Running W bs₀ out₀ bs′ (putMid (4 * n) k out ys) j (n + 1)
         running-next lb = record {
@@ -190,7 +192,8 @@ module _ (W bs₀ out₀ : List ℕ) (S : Sound bs₀) where
           starts = rw e (starts-next W i h (R .starts h));
           ran = record { image = image-next; answered = out-next };
           same-image = lb ∙ R .same-image;
-          same-out = ap length (out-next (S .state) (S .is)) ∙ length-pasteW out₀ 0 _ (omega (arith, answers-many (S .state) (R .done ++ (callAt W i ∷ [])), length-append (R .done) (callAt W i ∷ []), R .many, room-for-one room, R .same-out));
+          same-out = ap length (out-next (S .state) (S .is)) ∙ length-pasteW out₀ 0 _
+              (omega (arith, answers-many (S .state) (R .done ++ (callAt W i ∷ [])), length-append (R .done) (callAt W i ∷ []), R .many, room-for-one room, R .same-out));
         }
 
     -- all are served

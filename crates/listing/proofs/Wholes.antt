@@ -61,5 +61,6 @@ module _ (bs : List ℕ) (s : Shape) (st : State) (I : Is st bs) (e : s ≡ shap
   pub long-at : (r : ℕ) → r ≡ length (lms (words bs) s (entriesFrom (words bs) s 0 (s .entries))) → r ≡ length (listing st)
   long-at r er = long-as bs st I r (subst (λ (x : Shape). r ≡ length (lms (words bs) x (entriesFrom (words bs) x 0 (x .entries)))) e er)
 
-  pub written-at : (out out′ : List ℕ) (r : ℕ) → 4 * length (listing st) ≤ length out → ((h : Here (words bs) s 0 0 (length out)) → Below (words bs) s 0 0 out out′ r h) → out′ ≡ pasteW out 0 (listing st)
+  pub written-at : (out out′ : List ℕ) (r : ℕ) → 4 * length (listing st) ≤ length out → ((h : Here (words bs) s 0 0 (length out)) → Below (words bs) s 0 0 out out′ r h)
+      → out′ ≡ pasteW out 0 (listing st)
   written-at out out′ r h f = written-as bs st I out out′ r h (subst (λ (x : Shape). (h : Here (words bs) x 0 0 (length out)) → Below (words bs) x 0 0 out out′ r h) e f)
