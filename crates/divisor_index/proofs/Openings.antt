@@ -1,15 +1,15 @@
 -- The image of an opening, piece by piece. Assumes nothing.
-use mathlib.Core.Path.{_≡_, refl, sym, ap, _∙_, subst}
+use mathlib.Core.Path.{_≡_, refl, sym, ap, _∙_}
 use mathlib.Core.List.{List, [], _∷_, _++_, append-assoc}
-use Prim.Native.Nat.{ℕ, zero, suc, _+_, _-_, _*_, _≤_, _<_}
+use Prim.Native.Nat.{ℕ, zero, suc, _+_, _-_, _*_, _≤_}
 use native.Mathlib.Omega.{arith}
 use lib.ListN.{length, take, drop, length-append, length-take, length-drop}
 use borrow.Rule.Slice.PartMut.{putMid}
-use Rattle.words.specs.Words.{words, putW, pasteW}
+use Rattle.words.specs.Words.{putW, pasteW}
 use Rattle.words.specs.Tables.{zeros, table}
 use Rattle.words.proofs.Drafts.{lent-back}
-use Rattle.words.proofs.Laws.{length-pasteW, pasteW-nil}
-use Rattle.words.proofs.Tables.{length-zeros, zeros-suc, zeros-add, pasteW-append}
+use Rattle.words.proofs.Laws.{pasteW-nil}
+use Rattle.words.proofs.Tables.{length-zeros, zeros-add, pasteW-append}
 use Rattle.monomial.specs.Sizes.{Sizes}
 use Rattle.divmask.specs.Mask.{mask}
 use Rattle.divmask.specs.Tracker.{Maxima}
@@ -17,9 +17,9 @@ use Rattle.divmask.proofs.Masks.{fields-zero, fields-skip}
 use Rattle.fast_compare.specs.Layout as labels
 use Rattle.fast_compare.specs.Map as map
 use Rattle.fast_compare.proofs.Opening.{empty-words}
-use Rattle.kd_theory.specs.Tree.{leaf, inorder, nodes}
+use Rattle.kd_theory.specs.Tree.{leaf, nodes}
 use Rattle.kd_theory.specs.Bifurcate.{least}
-use Rattle.index_theory.specs.State.{Kind, monomials, ratioed, State, powerIn, opened}
+use Rattle.index_theory.specs.State.{Kind, State, powerIn, opened}
 use Rattle.index_image.specs.Layout.{code, header, slot, gcdPowers, gcdOf, nodeWords, treeWords, labelWords, encode}
 use Rattle.index_image.specs.Shape as at
 use Rattle.index_image.specs.declared.Shape.{Shape}
@@ -31,7 +31,8 @@ suc-row : (n w : ℕ) → suc n * w ≡ w + n * w
 suc-row n w = omega arith
 
 -- ---- the header
-pub head-written : (b₀ b₁ b₂ b₃ b₄ b₅ b₆ b₇ : List ℕ) (k m c : ℕ) → 96 ≤ length b₀ → b₁ ≡ putW b₀ 0 1 → b₂ ≡ putW b₁ 1 k → b₃ ≡ putW b₂ 2 m → b₄ ≡ putW b₃ 3 c → b₅ ≡ putW b₄ 4 0 → b₆ ≡ putW b₅ 5 1 → b₇ ≡ pasteW b₆ 6 (zeros 18)
+pub head-written : (b₀ b₁ b₂ b₃ b₄ b₅ b₆ b₇ : List ℕ) (k m c : ℕ) → 96 ≤ length b₀ → b₁ ≡ putW b₀ 0 1 → b₂ ≡ putW b₁ 1 k → b₃ ≡ putW b₂ 2 m → b₄ ≡ putW b₃ 3 c
+    → b₅ ≡ putW b₄ 4 0 → b₆ ≡ putW b₅ 5 1 → b₇ ≡ pasteW b₆ 6 (zeros 18)
     → b₇ ≡ pasteW b₀ 0 (1 ∷ k ∷ m ∷ c ∷ 0 ∷ 1 ∷ zeros 18)
 head-written b₀ b₁ b₂ b₃ b₄ b₅ b₆ b₇ k m c room e₁ e₂ e₃ e₄ e₅ e₆ e₇ =
     let z = six-written b₀ b₁ b₂ b₃ b₄ b₅ b₆ 0 1 k m c 0 1 (omega arith) e₁ e₂ e₃ e₄ e₅ e₆ in
@@ -137,7 +138,8 @@ module _ (m c : ℕ) (xs : List ℕ) (M : Maxima m xs) (one : 1 ≤ c) (few : c 
       let s : 2 * c - 1 ≡ suc (2 * c - 1 - 1) = omega arith in
       let b : B ≡ (m + 6) + (2 * c - 1 - 1) * (m + 6) = eB ∙ ap (λ n. n * (m + 6)) s ∙ suc-row (2 * c - 1 - 1) (m + 6) in
       let zB : zeros B ≡ zeros (m + 6) ++ zeros ((2 * c - 1 - 1) * (m + 6)) = ap zeros b ∙ zeros-add (m + 6) ((2 * c - 1 - 1) * (m + 6)) in
-      rw (e, row-blank, zA, zB) (ap (λ (r : List ℕ). (1 ∷ code k ∷ m ∷ c ∷ 0 ∷ 1 ∷ zeros 18) ++ (xs ++ (xs ++ r))) (sym (append-assoc (zeros (c * at.widthOf (code k) m)) (zeros c) (labelWords k (map.empty m c) ++ (zeros (m + 6) ++ zeros ((2 * c - 1 - 1) * (m + 6)))))))
+      rw (e, row-blank, zA, zB) (ap (λ (r : List ℕ). (1 ∷ code k ∷ m ∷ c ∷ 0 ∷ 1 ∷ zeros 18) ++ (xs ++ (xs ++ r)))
+      (sym (append-assoc (zeros (c * at.widthOf (code k) m)) (zeros c) (labelWords k (map.empty m c) ++ (zeros (m + 6) ++ zeros ((2 * c - 1 - 1) * (m + 6)))))))
 
 code-kind : (k : ℕ) → k ≤ 1 → code (indexKind k) ≡ k
 code-kind zero h = refl

@@ -1,10 +1,10 @@
 -- What the doors reply, question by question. Assumes nothing.
-use mathlib.Core.Path.{_≡_, refl, sym, ap, _∙_, subst}
-use mathlib.Core.Bool.{Bool, true, false, not, cond, _&&_}
+use mathlib.Core.Path.{_≡_, refl, sym, ap, _∙_}
+use mathlib.Core.Bool.{Bool, true, false, _&&_}
 use mathlib.Core.List.{List}
-use Prim.Native.Nat.{ℕ, zero, suc, _+_, _*_, _/_, _≤_, _<_}
+use Prim.Native.Nat.{ℕ, _*_, _/_, _≤_, _<_}
 use native.Mathlib.Omega.{arith}
-use lib.Dec.{leb, ltb}
+use lib.Dec.{leb}
 use lib.ListN.{length}
 use borrow.Author.Tests.{leb-true, lt-leb, le-leb, lt-ltb, le-ltb}
 use Rattle.words.specs.Words.{words, pasteW}
@@ -13,10 +13,10 @@ use Rattle.monomial.proofs.Canon.{both-true}
 use Rattle.monomial.proofs.Sizing.{sizes-fit}
 use Rattle.divmask.specs.Tracker.{Maxima, maximaLent}
 use Rattle.divmask.proofs.Growth.{lent-maxima}
-use Rattle.index_theory.specs.State.{Kind, monomials, ratioed, State, opened}
+use Rattle.index_theory.specs.State.{ratioed, State, opened}
 use Rattle.index_theory.specs.Calls.{calls}
 use Rattle.index_theory.specs.Listing.{listing}
-use Rattle.index_image.specs.Layout.{code, shapeOf, encode, Is, Sound}
+use Rattle.index_image.specs.Layout.{code, encode, Is, Sound}
 use Rattle.index_image.specs.Shape as at
 use Rattle.index_image.specs.Size.{emptyShape, bytes}
 use Rattle.index_image.specs.declared.Shape.{Shape}

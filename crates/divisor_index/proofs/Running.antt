@@ -1,75 +1,38 @@
 -- Calls of a list, one after the other. Assumes nothing.
-use mathlib.Core.Path.{_≡_, refl, sym, ap, _∙_, subst}
+use mathlib.Core.Path.{_≡_, refl, sym, ap, _∙_}
 use mathlib.Core.Bool.{Bool, true, false, cond}
-use mathlib.Core.Option.{Option, none, some}
+use mathlib.Core.Option.{none, some}
 use mathlib.Core.List.{List, [], _∷_, _++_, append-assoc, append-nil}
-use Prim.Native.Nat.{ℕ, zero, suc, _+_, _-_, _*_, _≤_, _<_}
+use Prim.Native.Nat.{ℕ, _+_, _-_, _*_, _≤_, _<_}
 use native.Mathlib.Omega.{arith}
 use lib.Dec.{eqb}
 use lib.ListN.{length, getD, take, drop, length-append, length-take, length-drop}
-use lib.Seq.{drop-drop, getD-drop}
-use borrow.Author.Tests.{eqb-true, eqb-false}
+use borrow.Author.Tests.{eqb-true}
 use borrow.Rule.Slice.PartMut.{putMid}
-use Rattle.words.specs.Kinds.{kind, payload}
+use Rattle.words.specs.Kinds.{kind}
 use Rattle.words.specs.Words.{words, putW, pasteW}
 use Rattle.words.specs.Tables.{zeros}
 use Rattle.words.proofs.Laws.{Bytes, length-pasteW, pasteW-nil, putW-paste}
 use Rattle.words.proofs.Tables.{length-zeros}
 use Rattle.index_theory.specs.State.{State, Valid}
 use Rattle.index_theory.specs.Calls.{Call, bodyOf, calls, listed, step, after, answers}
-use Rattle.index_theory.proofs.Lists.{calls-at, answers-many, answers-two, after-two, lists-exact}
-use Rattle.index_theory.proofs.Keeps.{step-valid, after-valid}
+use Rattle.index_theory.proofs.Lists.{answers-many, answers-two, after-two, lists-exact}
+use Rattle.index_theory.proofs.Keeps.{after-valid}
 use Rattle.index_theory.proofs.Theorems.{step-stores}
-use Rattle.index_image.specs.Layout.{code, shapeOf, encode, Is, Sound}
+use Rattle.index_image.specs.Layout.{shapeOf, encode, Is, Sound}
 use Rattle.index_image.specs.Shape as at
-use Rattle.index_image.specs.declared.Shape.{Shape}
 use Rattle.index_image.proofs.Encoding.{image-length}
 use Rattle.index_image.proofs.Lengths.{valid-fits}
 use Rattle.index_image.proofs.Pasted.{pasted}
 use Rattle.listing.proofs.Monomials.{behind}
 use Rattle.kd_insert.proofs.Settling.{paste-again}
-use Rattle.call_list.proofs.Parting.{body-most, past-end, calls-nil}
+use Rattle.call_list.proofs.Parting.{past-end, calls-nil}
 use Rattle.indices.specs.Replied.{Replied}
 use Rattle.indices.proofs.Inserts.{itself}
 use Rattle.call_list.specs.Bodies.{IsList}
-use Rattle.divisor_index.specs.Ran.{callAt, Called, Ran}
-
--- ---- the word behind a call
--- a body stands before the next call, or the end
-calls-past : (ws : List ℕ) → calls ws ≡ calls (drop (length (bodyOf ws)) ws)
-unfolding calls bodyOf
-calls-past [] = refl
-calls-past (w ∷ ws) = go (eqb (kind w) 6) refl (calls-past ws)
-  where
-    go : (t : Bool) → eqb (kind w) 6 ≡ t → calls ws ≡ calls (drop (length (bodyOf ws)) ws) → calls (w ∷ ws) ≡ calls (drop (length (cond t [] (w ∷ bodyOf ws))) (w ∷ ws))
-    go true e r = refl
-    go false e r = rw e r
-
-next-call : (ws : List ℕ) → length (bodyOf ws) < length ws → kind (getD ws (length (bodyOf ws)) 0) ≡ 6
-unfolding bodyOf
-next-call [] h = absurd (omega arith)
-next-call (w ∷ ws) h = go (eqb (kind w) 6) refl h (next-call ws)
-  where
-    go : (t : Bool) → eqb (kind w) 6 ≡ t → length (cond t [] (w ∷ bodyOf ws)) < suc (length ws) → (length (bodyOf ws) < length ws → kind (getD ws (length (bodyOf ws)) 0) ≡ 6) → kind (getD (w ∷ ws) (length (cond t [] (w ∷ bodyOf ws))) 0) ≡ 6
-    go true e l r = eqb-true _ _ e
-    go false e l r = r (omega arith)
-
--- the call at word i, and the calls from word j on, which stands behind it
-module _ (W : List ℕ) (i j : ℕ) (h : i < length W) (k : kind (getD W i 0) ≡ 6) (e : j ≡ i + 1 + length (bodyOf (drop (i + 1) W))) where
-  back : drop j W ≡ drop (length (bodyOf (drop (i + 1) W))) (drop (i + 1) W)
-  back = rw e (sym (drop-drop (length (bodyOf (drop (i + 1) W))) (i + 1) W))
-
-  pub calls-here : calls (drop i W) ≡ callAt W i ∷ calls (drop j W)
-  calls-here =
-      let s : suc i ≡ i + 1 = omega arith in
-      let z : calls (drop i W) ≡ callAt W i ∷ calls (drop (i + 1) W) = rw s at (calls-at W i h k) in
-      z ∙ ap (λ (cs : List Call). callAt W i ∷ cs) (calls-past (drop (i + 1) W) ∙ ap calls (sym back))
-
-  pub starts-next : j < length W → kind (getD W j 0) ≡ 6
-  starts-next l =
-      let b = length (bodyOf (drop (i + 1) W)) in
-      let z : kind (getD (drop (i + 1) W) b 0) ≡ 6 = next-call (drop (i + 1) W) (omega (arith, length-drop (i + 1) W)) in
-      ap (λ x. kind (getD W x 0)) e ∙ ap kind (sym (getD-drop (i + 1) W b 0)) ∙ z
+use Rattle.word_reader.specs.Places.{callAt, callEnd}
+use Rattle.word_reader.proofs.Places.{end-inside, calls-here, starts-next}
+use Rattle.divisor_index.specs.Ran.{Called, Ran}
 
 -- ---- what a state keeps over calls
 pub record SameSize (st u : State) : Type 0 where
@@ -97,10 +60,10 @@ encode-long : (st : State) → Valid st → length (encode st) ≡ at.size (shap
 encode-long st v = image-length (zeros (at.size (shapeOf st))) st (valid-fits st v) (omega (arith, length-zeros (at.size (shapeOf st))))
 
 -- ---- one call, by its number and body
-pub called : (W : List ℕ) (i n g w : ℕ) (bs bs′ out out′ : List ℕ) → g ≡ getD W i 0 → n ≡ payload g → Replied (λ st. step st (record { number = n; body = bodyOf (drop (i + 1) W) })) bs bs′ w
+pub called : (W : List ℕ) (i n w : ℕ) (bs bs′ out out′ : List ℕ) → n ≡ callAt W i .number
+    → Replied (λ st. step st (record { number = n; body = bodyOf (drop (i + 1) W) })) bs bs′ w
     → 4 ≤ length out → out′ ≡ putW out 0 w → Called (callAt W i) bs bs′ out out′
-called W i n g w bs bs′ out out′ eg en d room e =
-    let q : n ≡ payload (getD W i 0) = en ∙ ap payload eg in
+called W i n w bs bs′ out out′ q d room e =
     let r : Replied (λ st. step st (callAt W i)) bs bs′ w = rw q at d in
     record { image = r .bytes; answered = λ st I. e ∙ putW-paste out 0 w (omega arith) ∙ ap (λ x. pasteW out 0 (x ∷ [])) (r .answer st I) }
 
@@ -179,12 +142,12 @@ module _ (W bs₀ out₀ : List ℕ) (S : Sound bs₀) where
     -- one more, at word i: the next stands at word j
     pub part-room : 4 * length (calls W) ≤ length out₀ → i < length W → 4 ≤ length (take (length out - 4 * n) (drop (4 * n) out))
     part-room l h =
-        let one = ap length (calls-here W i (i + 1 + length (bodyOf (drop (i + 1) W))) h (R .starts h) refl) in
+        let one = ap length (calls-here W i h (R .starts h)) in
         omega (arith, few, one, R .same-out, length-take (length out - 4 * n) (drop (4 * n) out), length-drop (4 * n) out)
 
-    module _ (h : i < length W) (j : ℕ) (e : j ≡ i + 1 + length (bodyOf (drop (i + 1) W))) where
+    module _ (h : i < length W) (j : ℕ) (e : j ≡ callEnd W i) where
       here : calls (drop i W) ≡ callAt W i ∷ calls (drop j W)
-      here = calls-here W i j h (R .starts h) e
+      here = rw e (calls-here W i h (R .starts h))
 
       pub room-for-one : 4 * length (calls W) ≤ length out₀ → 4 * n + 4 ≤ length out
       room-for-one l = omega (arith, few, ap length here, R .same-out)
@@ -207,7 +170,8 @@ module _ (W bs₀ out₀ : List ℕ) (S : Sound bs₀) where
               let l : length (encode u) ≡ length (encode (after u (callAt W i ∷ []))) =
               encode-long u (now-is .valid) ∙ sym (size-same u (after u (callAt W i ∷ [])) sz) ∙ sym (encode-long (after u (callAt W i ∷ [])) (after-valid (callAt W i ∷ []) u (now-is .valid))) in
               let eb : bs′ ≡ pasteW bs 0 (encode (after u (callAt W i ∷ []))) = d .image u now-is ∙ ap (λ x. pasteW bs 0 (encode x)) (sym one) in
-              rw (after-two st (R .done) (callAt W i ∷ [])) (paste-again bs₀ bs bs′ [] (encode u) (encode (after u (callAt W i ∷ []))) l (omega (arith, I .room, encode-long u (now-is .valid), size-same st u (same-after (R .done) st))) (R .ran .image st I) eb)
+              rw (after-two st (R .done) (callAt W i ∷ [])) (paste-again bs₀ bs bs′ [] (encode u) (encode (after u (callAt W i ∷ []))) l
+              (omega (arith, I .room, encode-long u (now-is .valid), size-same st u (same-after (R .done) st))) (R .ran .image st I) eb)
 
           out-next : putMid (4 * n) k out ys ≡ pasteW out₀ 0 (answers st (R .done ++ (callAt W i ∷ [])))
           out-next =
@@ -216,18 +180,20 @@ module _ (W bs₀ out₀ : List ℕ) (S : Sound bs₀) where
               let w = step u (callAt W i) .answer in
               let l : length a ≡ n = answers-many st (R .done) ∙ sym (R .many) in
               let b : w ∷ [] ≡ answers u (callAt W i ∷ []) = sym (lists-exact u .one (callAt W i)) in
-              rw (answers-two st (R .done) (callAt W i ∷ []), ← b) (behind out₀ out a (w ∷ []) ys n k (R .ran .answered st I) (sym l) ek (omega (arith, length-append a (w ∷ []), room-for-one room, R .same-out)) (d .answered u now-is))
+              rw (answers-two st (R .done) (callAt W i ∷ []), ← b) (behind out₀ out a (w ∷ []) ys n k (R .ran .answered st I) (sym l) ek
+              (omega (arith, length-append a (w ∷ []), room-for-one room, R .same-out)) (d .answered u now-is))
 
         pub running-next : length bs′ ≡ length bs → Running W bs₀ out₀ bs′ (putMid (4 * n) k out ys) j (n + 1)
         running-next lb = record {
           done = R .done ++ (callAt W i ∷ []);
           split = split-next;
           many = omega (arith, R .many, length-append (R .done) (callAt W i ∷ []));
-          inside = omega (arith, body-most (drop (i + 1) W), length-drop (i + 1) W);
-          starts = starts-next W i j h (R .starts h) e;
+          inside = omega (arith, end-inside W i h .1);
+          starts = rw e (starts-next W i h (R .starts h));
           ran = record { image = image-next; answered = out-next };
           same-image = lb ∙ R .same-image;
-          same-out = ap length (out-next (S .state) (S .is)) ∙ length-pasteW out₀ 0 _ (omega (arith, answers-many (S .state) (R .done ++ (callAt W i ∷ [])), length-append (R .done) (callAt W i ∷ []), R .many, room-for-one room, R .same-out));
+          same-out = ap length (out-next (S .state) (S .is)) ∙ length-pasteW out₀ 0 _
+              (omega (arith, answers-many (S .state) (R .done ++ (callAt W i ∷ [])), length-append (R .done) (callAt W i ∷ []), R .many, room-for-one room, R .same-out));
         }
 
     -- all are served

@@ -1,16 +1,15 @@
 // The calls of a list, each on the image as the last left it.
 ghost use mathlib.Core.Path.{_≡_};
-ghost use mathlib.Core.List.{[], _∷_};
-ghost use Prim.Native.Nat.{_+_, _*_, _≤_, _<_};
-ghost use lib.ListN.{length, getD, drop};
-ghost use Rattle.words.specs.Kinds.{kind};
-ghost use Rattle.words.specs.Words.{words, pasteW};
-ghost use Rattle.index_theory.specs.Calls.{bodyOf, calls};
+ghost use Prim.Native.Nat.{_*_, _≤_, _<_};
+ghost use lib.ListN.{length};
+ghost use Rattle.words.specs.Words.{words};
+ghost use Rattle.index_theory.specs.Calls.{calls};
 ghost use Rattle.index_image.specs.Layout.{Sound};
 ghost use Rattle.call_list.specs.Bodies.{IsList};
-ghost use Rattle.divisor_index.specs.Ran.{callAt, Called, Ran};
+ghost use Rattle.word_reader.specs.Places.{callAt, callEnd};
+ghost use Rattle.divisor_index.specs.Ran.{Called, Ran};
 
-// Serves the call at word `at`, writes its answer word at the front of `out` and returns the word behind the call.
+// Serves the call at word `at`, where the reader reads it, writes its answer word at the front of `out` and returns the word behind the call.
 fn call_at(
     image: &mut [u8],
     q: &mut [u8],
@@ -22,14 +21,13 @@ fn call_at(
     requires { ⌜ Sound (now image) ⌝ }
     requires { ⌜ (368 ≤ length (now q)) × (260 ≤ length (now scratch)) ⌝ }
     requires { ⌜ (at < length (words (now list))) × (4 ≤ length (now out)) ⌝ }
-    ensures { λ r. ⌜ r ≡ at + 1 + length (bodyOf (drop (at + 1) (words (now (list .entry))))) ⌝ }
+    ensures { λ r. ⌜ r ≡ callEnd (words (now (list .entry))) at ⌝ }
     ensures { λ _. ⌜ Called (callAt (words (now (list .entry))) at) (now (image .entry)) (now (image .exit)) (now (out .entry)) (now (out .exit)) ⌝ }
 {
-    let number = words::payload(words::get(list, at));
-    let end = call_list::body_end(list, at + 1);
-    let w = indices::call(image, q, scratch, list, number, at + 1, end);
+    let c = word_reader::read_call(list, at);
+    let w = indices::call(image, q, scratch, list, c.number, at + 1, c.next);
     words::put(out, 0, w);
-    end
+    c.next
 }
 
 // Serves all calls, and writes their answer words at the front of `out`.

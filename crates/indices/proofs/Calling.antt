@@ -1,22 +1,20 @@
 -- Calls of a list, by what they ask. Assumes nothing.
-use mathlib.Core.Path.{_≡_, refl, sym, ap, _∙_, subst}
+use mathlib.Core.Path.{_≡_, refl, sym, ap, _∙_}
 use mathlib.Core.Bool.{Bool, true, false, cond}
 use mathlib.Core.List.{List}
 use mathlib.Core.Logic.{_⊎_, inl, inr}
 use Prim.Native.Nat.{ℕ, zero, suc, _≤_, _<_}
 use native.Mathlib.Decide.{decLe}
 use native.Mathlib.Omega.{arith}
-use lib.Dec.{eqb}
-use lib.ListN.{length}
 use borrow.Author.Tests.{eq-eqb, ne-eqb}
 use Rattle.words.specs.Kinds.{refusalWord}
-use Rattle.words.specs.Words.{words, pasteW}
+use Rattle.words.specs.Words.{pasteW}
 use Rattle.words.proofs.Laws.{Bytes}
-use Rattle.fast_compare.specs.Map.{Value, valueOf}
+use Rattle.fast_compare.specs.Map.{valueOf}
 use Rattle.index_theory.specs.State.{Kind, monomials, ratioed, State}
 use Rattle.index_theory.specs.Searches.{containment, reducing, high, low, singular}
 use Rattle.index_theory.specs.Calls.{Call, Request, insertion, query, plain, Asked, refused, asks, askMonomials, askRatioed, ask, reply, serve, step}
-use Rattle.index_image.specs.Layout.{code, shapeOf, encode, Is}
+use Rattle.index_image.specs.Layout.{code, encode, Is}
 use Rattle.index_image.specs.declared.Shape.{Shape}
 use Rattle.index_image.proofs.Shapes.{code-ratio, code-monomial}
 use Rattle.call_list.specs.Bodies.{Single, Paired, Tripled}

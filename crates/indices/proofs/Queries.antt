@@ -1,7 +1,6 @@
 -- Queries as the theory serves them. Assumes nothing.
 use mathlib.Core.Path.{_≡_, refl, sym, ap, _∙_, subst}
 use mathlib.Core.Bool.{Bool, true, false, cond}
-use mathlib.Core.Option.{Option, none, some}
 use mathlib.Core.List.{List}
 use Prim.Native.Nat.{ℕ, zero, suc, _+_, _-_, _≤_, _<_}
 use native.Mathlib.Omega.{arith}
@@ -9,18 +8,18 @@ use lib.Dec.{ltb}
 use lib.ListN.{length, getD}
 use borrow.Author.Tests.{lt-ltb, le-ltb}
 use Rattle.words.specs.Kinds.{answerWord}
-use Rattle.words.specs.Words.{words, pasteW}
+use Rattle.words.specs.Words.{words}
 use Rattle.fast_compare.specs.Map.{Value}
-use Rattle.index_theory.specs.Entries.{Entry, entryAt}
+use Rattle.index_theory.specs.Entries.{Entry}
 use Rattle.index_theory.specs.State.{State, Valid, ratioed}
 use Rattle.index_theory.specs.Searches.{Query, reducing, isRegular, find}
 use Rattle.index_theory.specs.Calls.{query, yes, found, foundReducer, told, serve, withTree}
-use Rattle.index_image.specs.Layout.{code, shapeOf, encode, Is, Sound}
+use Rattle.index_image.specs.Layout.{code, Is, Sound}
 use Rattle.index_image.specs.Head.{HeadOk}
 use Rattle.index_image.specs.Walk.{Ready, label}
 use Rattle.index_image.specs.declared.Shape.{Shape}
 use Rattle.index_image.proofs.Images as image
-use Rattle.kd_tree.specs.Asked.{shapeIn, floorIn, optionOf, lowered, labelAt, Laid, Range}
+use Rattle.kd_tree.specs.Asked.{shapeIn, floorIn, optionOf, lowered, labelAt, Laid}
 use Rattle.kd_query.specs.Posed.{PosedFor}
 use Rattle.kd_tree.specs.Rooted.{Rooted, RootReady, Answer, Answered}
 use Rattle.listing.specs.Listed.{Root}
@@ -127,7 +126,8 @@ module _ (s : Shape) (v : Value) (q bs ms Q : List ℕ) (R : Root bs s) (p : Pos
         let l : label (words bs′) (shapeIn Q) b ≡ labelAt st b = rw (posed .shape) (image.label-is bs′ (withTree st (find st (reducing v q) .tree)) after home b hb) in
         posed .asks .range home .floor-is refl b hb ∙ ap (λ l. ltb l (floorIn Q)) (sym l)
 
-    told-as : (g : Bool) (l w : ℕ) → (best ≡ 0 → ⊥) → l ≡ label (words bs′) (shapeIn Q) (best - 1) → ltb l (floorIn Q) ≡ g → w ≡ answerWord (best + cond g 0 134217728) → w ≡ foundReducer (st .entries) v (optionOf best)
+    told-as : (g : Bool) (l w : ℕ) → (best ≡ 0 → ⊥) → l ≡ label (words bs′) (shapeIn Q) (best - 1) → ltb l (floorIn Q) ≡ g → w ≡ answerWord (best + cond g 0 134217728)
+        → w ≡ foundReducer (st .entries) v (optionOf best)
     told-as g l w z el eg ew = go best z refl el ew
       where
         go : (n : ℕ) → (n ≡ 0 → ⊥) → n ≡ best → l ≡ label (words bs′) (shapeIn Q) (n - 1) → w ≡ answerWord (n + cond g 0 134217728) → w ≡ foundReducer (st .entries) v (optionOf n)

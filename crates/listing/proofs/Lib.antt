@@ -1,3 +1,4 @@
 pub mod Monomials
 pub mod Rows
 pub mod Wholes
+pub mod Copying

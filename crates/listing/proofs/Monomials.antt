@@ -1,22 +1,24 @@
 -- Monomials written one behind the other. Assumes nothing.
 use mathlib.Core.Path.{_≡_, refl, sym, ap, _∙_}
 use mathlib.Core.List.{List, [], _∷_, _++_, append-assoc, append-nil}
-use Prim.Native.Nat.{ℕ, zero, suc, _+_, _-_, _*_, _≤_, _<_}
+use Prim.Native.Nat.{ℕ, suc, _+_, _-_, _*_, _≤_, _<_}
 use native.Mathlib.Omega.{arith}
-use lib.ListN.{length, getD, take, drop, length-append}
+use native.Mathlib.Decide.{ℕ-discrete}
+use lib.ListN.{length, getD, take, drop, length-append, length-take, length-drop}
 use borrow.Rule.Slice.PartMut.{putMid}
 use Rattle.words.specs.Words.{words, pasteW}
 use Rattle.words.specs.Tables.{part}
-use Rattle.words.proofs.Laws.{length-words, length-pasteW, pasteW-nil, pasteW-part}
-use Rattle.words.proofs.Tables.{part-nil, part-add, part-snoc, pasteW-append}
-use Rattle.monomial.specs.Monomial.{ended}
-use Rattle.monomial.proofs.Ends.{ended-found}
+use Rattle.words.proofs.Laws.{length-words, length-pasteW, pasteW-part}
+use Rattle.words.proofs.Tables.{length-part, part-nil, part-add, part-snoc, pasteW-append}
+use Rattle.monomial.specs.Monomial.{toEnd, ended}
+use Rattle.monomial.proofs.Canon.{front-short}
+use Rattle.monomial.proofs.Ends.{end-within, ended-found}
 use Rattle.monomial.proofs.Laws.{front-canonical}
 use Rattle.monomial.proofs.Powers.{canonical-length}
 use Rattle.index_theory.specs.Listing.{monomialsAt}
 use Rattle.index_image.specs.Shape as at
 use Rattle.index_image.specs.Rows.{monomialIn, Taken, entriesFrom}
-use Rattle.index_image.specs.Walk.{lmIn, Ready}
+use Rattle.index_image.specs.Walk.{lmLength, lmIn, Ready}
 use Rattle.index_image.specs.declared.Shape.{Shape}
 use Rattle.index_image.proofs.Reading.{taken}
 use Rattle.index_image.proofs.Places.{entry-at-place, place-fits}
@@ -60,6 +62,37 @@ module _ (bs : List ℕ) (s : Shape) (R : Ready (words bs) s) where
 
   pub lm-taken : (e : ℕ) (r : List ℕ) → e < s .entries → r ≡ ended bs (at.lmAt s e) → Taken r (lmIn W s e)
   lm-taken e r h er = rw (lm-slot e) (taken bs (s .variables) (at.lmAt s e) r (er ∙ ended-found 1 (s .variables) bs (at.lmAt s e) (R .lms e h)))
+
+  -- it goes from the entry's place up to the first end word
+  ended-long : (a : ℕ) → length (ended bs a) ≡ 4 * toEnd 0 (drop a W)
+  unfolding ended
+  ended-long a =
+      let n = toEnd 0 (drop a W) in
+      let l : (n ≡ 0 → ⊥) → a + n ≤ length W = end-within a n W refl in
+      elim (ℕ-discrete n 0) [
+        | yes z ↦ simp (length-take, length-drop) (omega (arith, z))
+        | no z ↦ simp (length-take, length-drop) (omega (arith, l z, length-words bs))
+      ]
+
+  lm-long : (e : ℕ) → e < s .entries → length (lmIn W s e) ≡ lmLength W s e
+  unfolding lmIn
+  lm-long e h =
+      let some = R .lms e h in
+      let l = front-short 1 (s .variables) 0 (drop (at.lmAt s e) W) in
+      length-part W (at.lmAt s e) (lmLength W s e) (omega (arith, some, l, length-drop (at.lmAt s e) W))
+
+  module _ (e a : ℕ) (h : e < s .entries) (ea : a ≡ at.lmAt s e) where
+    pub lm-to-end : toEnd 0 (drop a W) ≡ length (lmIn W s e)
+    lm-to-end = rw ea (omega (arith, ended-long (at.lmAt s e), lm-taken e (ended bs (at.lmAt s e)) h refl .long))
+
+    pub lm-some : 0 < toEnd 0 (drop a W)
+    lm-some =
+        let some = R .lms e h in
+        omega (arith, some, lm-long e h, lm-to-end)
+
+    pub lm-part : (n : ℕ) → n ≡ toEnd 0 (drop a W) → part W a n ≡ lmIn W s e
+    unfolding lmIn
+    lm-part n en = rw ea (ap (part W (at.lmAt s e)) (en ∙ lm-to-end ∙ lm-long e h))
 
   pub lm-short : (e : ℕ) → e < s .entries → length (lmIn W s e) ≤ 65
   unfolding lmIn part

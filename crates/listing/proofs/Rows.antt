@@ -1,29 +1,24 @@
 -- The rows that the listing goes by, and the whole listing. Assumes nothing.
 use mathlib.Core.Path.{_≡_, refl, sym, ap, _∙_}
 use mathlib.Core.List.{List, _++_}
-use Prim.Native.Nat.{ℕ, zero, suc, _+_, _-_, _*_, _≤_, _<_}
+use Prim.Native.Nat.{ℕ, _+_, _-_, _*_, _≤_, _<_}
 use native.Mathlib.Omega.{arith}
 use lib.ListN.{length, getD, take, drop, length-append, length-take, length-drop}
 use borrow.Rule.Slice.PartMut.{putMid}
-use Rattle.words.specs.Words.{words, pasteW}
-use Rattle.words.specs.Tables.{part}
-use Rattle.words.proofs.Laws.{length-words, length-pasteW}
+use Rattle.words.specs.Words.{pasteW}
+use Rattle.words.proofs.Laws.{length-pasteW}
 use Rattle.kd_theory.specs.Tree.{Tree, leaf, branch, inorder, nodes, count}
-use Rattle.index_theory.specs.State.{State}
-use Rattle.index_theory.specs.Entries.{entryAt}
 use Rattle.index_theory.specs.Listing.{monomialsAt, listing}
 use Rattle.index_image.specs.Shape as at
-use Rattle.index_image.specs.Layout.{Is}
-use Rattle.index_image.specs.Head.{HeadOk}
 use Rattle.index_image.specs.Rows.{entriesFrom}
 use Rattle.index_image.specs.Walk.{power, mapMaxima, lmIn, Ready, Ordered, TreeAt}
 use Rattle.index_image.specs.declared.Shape.{Shape}
 use Rattle.index_image.proofs.Gcds.{Powers, image-powers}
 use Rattle.index_image.proofs.Trees as trees
-use Rattle.index_image.proofs.Trees.{some-node, nodes-branch, Head, Parts}
+use Rattle.index_image.proofs.Trees.{some-node, nodes-branch}
 use Rattle.index_image.proofs.Places.{row-behind}
-use Rattle.listing.specs.Listed.{lms, Here, Below, Root}
-use Rattle.listing.proofs.Monomials.{at-append, at-ext, behind}
+use Rattle.listing.specs.Listed.{lms, Here, Below}
+use Rattle.listing.proofs.Monomials.{at-append, behind}
 
 -- ---- the laws of rows, for the powers of the image itself
 module _ (W : List ℕ) (s : Shape) (R : Ready W s) where
@@ -124,7 +119,8 @@ module _ (W : List ℕ) (s : Shape) (R : Ready W s) (k lo room : ℕ) (h : Here 
 
 -- ---- what is written, leaf by leaf and side by side
 module _ (W : List ℕ) (s : Shape) (R : Ready W s) (k lo : ℕ) (out : List ℕ) (h : Here W s k lo (length out)) where
-  pub leaf-below : (out′ : List ℕ) (r c : ℕ) → c ≡ getD W (at.countAt (at.nodeAt s k)) 0 → r ≡ length (lms W s (entriesFrom W s lo c)) → out′ ≡ pasteW out 0 (lms W s (entriesFrom W s lo c)) → Below W s k lo out out′ r h
+  pub leaf-below : (out′ : List ℕ) (r c : ℕ) → c ≡ getD W (at.countAt (at.nodeAt s k)) 0 → r ≡ length (lms W s (entriesFrom W s lo c))
+      → out′ ≡ pasteW out 0 (lms W s (entriesFrom W s lo c)) → Below W s k lo out out′ r h
   leaf-below out′ r c e er eo =
       let q = entries-here W s R k lo (length out) h c e in
       record { long = er ∙ ap (λ (es : List ℕ). length (lms W s es)) q; bytes = eo ∙ ap (λ (es : List ℕ). pasteW out 0 (lms W s es)) q }
@@ -142,11 +138,13 @@ module _ (W : List ℕ) (s : Shape) (R : Ready W s) (k lo : ℕ) (out : List ℕ
     pub rest-long : length (take (length out′ - 4 * n) (drop (4 * n) out′)) ≡ length out - 4 * length (lms W s (inorder (b .less)))
     rest-long = simp (length-take, length-drop) (omega (arith, one .long, same-room, b .fits))
 
-    abbrev pub second-here : (x y : ℕ) → x ≡ getD W (at.skipAt (at.nodeAt s k)) 0 → y ≡ getD W (at.countAt (at.nodeAt s k + at.nodeWidth (s .variables))) 0 → Here W s (k + 1 + x) (lo + y) (length (take (length out′ - 4 * n) (drop (4 * n) out′)))
+    abbrev pub second-here : (x y : ℕ) → x ≡ getD W (at.skipAt (at.nodeAt s k)) 0 → y ≡ getD W (at.countAt (at.nodeAt s k + at.nodeWidth (s .variables))) 0
+        → Here W s (k + 1 + x) (lo + y) (length (take (length out′ - 4 * n) (drop (4 * n) out′)))
     second-here x y ex ey = other-here W s R k lo (length out) h b (k + 1 + x) (lo + y) _ (omega (arith, b .skip-is)) (omega (arith, b .passed)) rest-long
 
     module _ (x y : ℕ) (ex : x ≡ getD W (at.skipAt (at.nodeAt s k)) 0) (ey : y ≡ getD W (at.countAt (at.nodeAt s k + at.nodeWidth (s .variables))) 0) (ys : List ℕ) (r : ℕ)
-        (second : (g : Here W s (k + 1 + x) (lo + y) (length (take (length out′ - 4 * n) (drop (4 * n) out′)))) → Below W s (k + 1 + x) (lo + y) (take (length out′ - 4 * n) (drop (4 * n) out′)) ys r g) where
+        (second : (g : Here W s (k + 1 + x) (lo + y) (length (take (length out′ - 4 * n) (drop (4 * n) out′))))
+        → Below W s (k + 1 + x) (lo + y) (take (length out′ - 4 * n) (drop (4 * n) out′)) ys r g) where
       abbrev two : Below W s (k + 1 + x) (lo + y) (take (length out′ - 4 * n) (drop (4 * n) out′)) ys r (second-here x y ex ey)
       two = second (second-here x y ex ey)
 

@@ -1,18 +1,18 @@
 -- The listing of a whole image. Assumes nothing.
-use mathlib.Core.Path.{_≡_, refl, sym, ap, _∙_, subst}
+use mathlib.Core.Path.{_≡_, sym, ap, _∙_, subst}
 use mathlib.Core.List.{List}
-use Prim.Native.Nat.{ℕ, _+_, _*_, _≤_, _<_}
+use Prim.Native.Nat.{ℕ, _*_, _≤_}
 use native.Mathlib.Omega.{arith}
-use lib.ListN.{length, getD}
+use lib.ListN.{length}
 use Rattle.words.specs.Words.{words, pasteW}
-use Rattle.kd_theory.specs.Tree.{inorder, nodes, count}
+use Rattle.kd_theory.specs.Tree.{inorder}
 use Rattle.index_theory.specs.State.{State}
 use Rattle.index_theory.specs.Entries.{entryAt}
-use Rattle.index_theory.specs.Listing.{monomialsAt, listing}
+use Rattle.index_theory.specs.Listing.{listing}
 use Rattle.index_image.specs.Shape as at
 use Rattle.index_image.specs.Layout.{shapeOf, Is}
 use Rattle.index_image.specs.Rows.{entriesFrom}
-use Rattle.index_image.specs.Walk.{lmIn, Ready, TreeAt}
+use Rattle.index_image.specs.Walk.{lmIn, Ready}
 use Rattle.index_image.specs.declared.Shape.{Shape}
 use Rattle.index_image.proofs.Shapes.{code-ratio}
 use Rattle.index_image.proofs.Images as of
@@ -61,5 +61,6 @@ module _ (bs : List ℕ) (s : Shape) (st : State) (I : Is st bs) (e : s ≡ shap
   pub long-at : (r : ℕ) → r ≡ length (lms (words bs) s (entriesFrom (words bs) s 0 (s .entries))) → r ≡ length (listing st)
   long-at r er = long-as bs st I r (subst (λ (x : Shape). r ≡ length (lms (words bs) x (entriesFrom (words bs) x 0 (x .entries)))) e er)
 
-  pub written-at : (out out′ : List ℕ) (r : ℕ) → 4 * length (listing st) ≤ length out → ((h : Here (words bs) s 0 0 (length out)) → Below (words bs) s 0 0 out out′ r h) → out′ ≡ pasteW out 0 (listing st)
+  pub written-at : (out out′ : List ℕ) (r : ℕ) → 4 * length (listing st) ≤ length out → ((h : Here (words bs) s 0 0 (length out)) → Below (words bs) s 0 0 out out′ r h)
+      → out′ ≡ pasteW out 0 (listing st)
   written-at out out′ r h f = written-as bs st I out out′ r h (subst (λ (x : Shape). (h : Here (words bs) x 0 0 (length out)) → Below (words bs) x 0 0 out out′ r h) e f)

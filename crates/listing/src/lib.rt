@@ -10,7 +10,8 @@ ghost use Rattle.index_image.specs.Rows.{entriesFrom};
 ghost use Rattle.index_image.specs.Walk.{Ready, lmIn};
 ghost use Rattle.listing.specs.Listed.{lms, Here, Below, Root, Each};
 
-// Writes the monomial of entry e at the front of `out`, and returns its length in words.
+// Writes the monomial of entry e at the front of `out`, up to its end word, and returns its length in words. It writes each word as it reads it: to
+// find the end first and copy then takes two loops, and their places in the frame of `write_below`, into which this is compiled.
 fn write_monomial(image: &[u8], s: Shape, e: usize, out: &mut [u8]) -> usize
     requires { ⌜ Ready (words (now image)) s ⌝ }
     requires { ⌜ e < s .entries ⌝ }
@@ -18,9 +19,16 @@ fn write_monomial(image: &[u8], s: Shape, e: usize, out: &mut [u8]) -> usize
     ensures { λ r. ⌜ r ≡ length (lmIn (words (now (image .entry))) s e) ⌝ }
     ensures { λ _. ⌜ now (out .exit) ≡ pasteW (now (out .entry)) 0 (lmIn (words (now (image .entry))) s e) ⌝ }
 {
-    let lm = monomial::known_at(image, s.entry_at(e));
-    words::runs::paste(out, 0, lm);
-    lm.len() / 4
+    let at = s.entry_at(e);
+    let mut i: usize = 0;
+    loop {
+        let w = words::get(image, at + i);
+        words::put(out, i, w);
+        i += 1;
+        if words::kind(w) == 0 {
+            return i;
+        }
+    }
 }
 
 // Writes the monomials of the c entries from place lo on at the front of `out`, and returns their length in words.

@@ -1,12 +1,12 @@
 use native.Mathlib.Omega.{arith}
 use borrow.Author.Needs.{needs}
 use mathlib.Core.List.{List}
-use mathlib.Core.Path.{_≡_, refl, sym, ap, _∙_}
-use Prim.Native.Nat.{ℕ, _≤_, _+_, _*_, _-_, _/_}
+use mathlib.Core.Path.{_≡_, refl, ap}
+use Prim.Native.Nat.{ℕ, _≤_, _+_, _-_, _/_}
 use lib.ListN.{length, drop}
 use Rattle.words.specs.Words.{words}
 use Rattle.words.proofs.Laws.{length-words}
-use Rattle.index_theory.specs.Calls.{bodyOf, calls}
+use Rattle.index_theory.specs.Calls.{bodyOf}
 use Rattle.call_list.proofs.Parting.{body-stops, body-goes, body-nil, past-end}
 use Rattle.call_list.proofs.body_end.Statement.{statement}
 use Rattle.call_list.proofs.body_end.Tie as tie
@@ -35,7 +35,16 @@ kind-requires c κs = search needs
 
 -- src/lib.rt:69:13
 returns : tie.Need-returns Inv-loop μ-loop
-returns c = omega (arith, c .before .before .before .before .loop .inv .1 .1, body-stops (words (c .before .before .before .before .before .before .args .list .now)) (c .before .before .before .before .loop .i) (c .before .before .get .result) (omega (arith, length-words (c .before .before .before .before .before .before .args .list .now), c .before .before .before .loop-test .taken)) (c .before .before .get .ensures) (omega (arith, c .before .kind .ensures, c .if1 .taken)))
+returns c =
+    let b = c .before .before .before in
+    let l = b .before in
+    let a = l .before .before in
+    omega (
+      arith,
+      l .loop .inv .1 .1,
+      body-stops (words (a .args .list .now)) (l .loop .i) (c .before .before .get .result)
+          (omega (arith, length-words (a .args .list .now), b .loop-test .taken)) (c .before .before .get .ensures) (omega (arith, c .before .kind .ensures, c .if1 .taken)),
+    )
 
 -- src/lib.rt:71:9
 add-i : tie.Need-add-i Inv-loop μ-loop
@@ -47,11 +56,33 @@ loop-less c = omega (arith, c .before .before .before .loop-test .taken)
 
 -- src/lib.rt:67:5
 loop-again : tie.Need-loop-again Inv-loop μ-loop
-loop-again c = (omega (arith, c .before .before .before .before .loop .inv .0), (omega (arith, c .before .before .before .loop-test .taken), omega (arith, c .before .before .before .before .loop .inv .1 .1, body-goes (words (c .before .before .before .before .before .before .args .list .now)) (c .before .before .before .before .loop .i) (c .before .before .get .result) (omega (arith, length-words (c .before .before .before .before .before .before .args .list .now), c .before .before .before .loop-test .taken)) (c .before .before .get .ensures) (λ z. omega (arith, c .before .kind .ensures, c .if1 .left, z)))))
+loop-again c =
+    let b = c .before .before .before in
+    let l = b .before in
+    let a = l .before .before in (
+      omega (arith, l .loop .inv .0),
+      (
+        omega (arith, b .loop-test .taken),
+        omega (
+          arith,
+          l .loop .inv .1 .1,
+          body-goes (words (a .args .list .now)) (l .loop .i) (c .before .before .get .result)
+              (omega (arith, length-words (a .args .list .now), b .loop-test .taken)) (c .before .before .get .ensures) (λ z. omega (arith, c .before .kind .ensures, c .if1 .left, z)),
+        ),
+      ),
+    )
 
 -- src/lib.rt:61:1
 returns-2 : tie.Need-returns-2 Inv-loop μ-loop
-returns-2 c = omega (arith, c .before .loop .inv .1 .1, ap (λ (l : List ℕ). length (bodyOf l)) (past-end (words (c .before .before .before .args .list .now)) (c .before .loop .i) (omega (arith, length-words (c .before .before .before .args .list .now), c .loop-test .left))), ap length body-nil)
+returns-2 c =
+    let a = c .before .before .before in
+    omega (
+      arith,
+      c .before .loop .inv .1 .1,
+      ap (λ (l : List ℕ). length (bodyOf l))
+          (past-end (words (a .args .list .now)) (c .before .loop .i) (omega (arith, length-words (a .args .list .now), c .loop-test .left))),
+      ap length body-nil,
+    )
 
 pub body-end-spec : {M : Type 1} → statement M
 body-end-spec =

@@ -1,12 +1,12 @@
 use native.Mathlib.Omega.{arith}
 use borrow.Author.Needs.{needs}
 use mathlib.Core.List.{List}
-use mathlib.Core.Path.{_≡_, refl, sym, ap, _∙_}
-use Prim.Native.Nat.{ℕ, _≤_, _+_, _*_, _-_, _/_}
+use mathlib.Core.Path.{_≡_, ap}
+use Prim.Native.Nat.{ℕ, _≤_, _+_, _-_, _/_}
 use lib.ListN.{length, drop}
 use Rattle.words.specs.Words.{words}
 use Rattle.words.proofs.Laws.{length-words}
-use Rattle.index_theory.specs.Calls.{bodyOf, calls}
+use Rattle.index_theory.specs.Calls.{calls}
 use Rattle.call_list.proofs.Parting.{past-end, counted, one-call, calls-nil}
 use Rattle.call_list.proofs.count.Statement.{statement}
 use Rattle.call_list.proofs.count.Tie as tie
@@ -47,11 +47,33 @@ loop-less c = omega (arith, c .before .before .loop-test .taken)
 
 -- src/lib.rt:60:5
 loop-again : tie.Need-loop-again Inv-loop μ-loop
-loop-again c = (omega (arith, c .before .before .before .loop .inv .0, c .is-call .ensures, one-call (c .before .get .result)), (omega (arith, c .before .before .loop-test .taken), omega (arith, c .before .before .before .loop .inv .1 .1, c .is-call .ensures, counted (words (c .before .before .before .before .before .args .list .now)) (c .before .before .before .loop .i) (c .before .get .result) (omega (arith, length-words (c .before .before .before .before .before .args .list .now), c .before .before .loop-test .taken)) (c .before .get .ensures))))
+loop-again c =
+    let l = c .before .before .before in
+    let a = l .before .before in (
+      omega (arith, l .loop .inv .0, c .is-call .ensures, one-call (c .before .get .result)),
+      (
+        omega (arith, c .before .before .loop-test .taken),
+        omega (
+          arith,
+          l .loop .inv .1 .1,
+          c .is-call .ensures,
+          counted (words (a .args .list .now)) (l .loop .i) (c .before .get .result) (omega (arith, length-words (a .args .list .now), c .before .before .loop-test .taken))
+              (c .before .get .ensures),
+        ),
+      ),
+    )
 
 -- src/lib.rt:54:1
 returns : tie.Need-returns Inv-loop μ-loop
-returns c = omega (arith, c .before .loop .inv .1 .1, ap (λ (l : List ℕ). length (calls l)) (past-end (words (c .before .before .before .args .list .now)) (c .before .loop .i) (omega (arith, length-words (c .before .before .before .args .list .now), c .loop-test .left))), ap length calls-nil)
+returns c =
+    let a = c .before .before .before in
+    omega (
+      arith,
+      c .before .loop .inv .1 .1,
+      ap (λ (l : List ℕ). length (calls l))
+          (past-end (words (a .args .list .now)) (c .before .loop .i) (omega (arith, length-words (a .args .list .now), c .loop-test .left))),
+      ap length calls-nil,
+    )
 
 pub count-spec : {M : Type 1} → statement M
 count-spec =

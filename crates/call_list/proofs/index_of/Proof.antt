@@ -1,6 +1,6 @@
 use native.Mathlib.Omega.{arith}
-use mathlib.Core.Path.{_≡_, refl, sym, ap, _∙_}
-use lib.ListN.{length, drop, length-drop}
+use mathlib.Core.Path.{sym, _∙_}
+use lib.ListN.{drop, length-drop}
 use Rattle.words.specs.Words.{words}
 use Rattle.words.proofs.Laws.{length-words}
 use Rattle.call_list.proofs.Parting.{body-most, leads-none, leads-other, leads}
@@ -24,7 +24,10 @@ returns c = rw (c .no-body .ensures) (leads-none _ _ _ (c .before .before .befor
 
 -- src/lib.rt:101:9
 get-requires : tie.Need-get-requires
-get-requires c κs = omega (arith, c .if1 .left, c .before .before .pre .1, body-most (drop (c .before .before .args .at) (words (c .before .before .args .list .now))), length-drop (c .before .before .args .at) (words (c .before .before .args .list .now)), length-words (c .before .before .args .list .now))
+get-requires c κs =
+    let a = c .before .before in
+    let L = words (a .args .list .now) in
+    omega (arith, c .if1 .left, a .pre .1, body-most (drop (a .args .at) L), length-drop (a .args .at) L, length-words (a .args .list .now))
 
 -- src/lib.rt:102:8
 kind-requires : tie.Need-kind-requires
@@ -36,7 +39,11 @@ no-body-requires-2 c κs = search needs
 
 -- src/lib.rt:103:9
 returns-2 : tie.Need-returns-2
-returns-2 c = rw (c .no-body2 .ensures) (leads-other _ _ _ (c .before .before .before .before .before .before .pre .0) (c .before .before .before .before .before .before .pre .1) _ (c .before .before .before .get .ensures) (omega (arith, c .before .before .before .before .if1 .left)) (λ z. (c .before .if2 .taken) (c .before .before .kind .ensures ∙ z)))
+returns-2 c =
+    let b = c .before .before .before in
+    let d = b .before in
+    let a = d .before .before in
+    rw (c .no-body2 .ensures) (leads-other _ _ _ (a .pre .0) (a .pre .1) _ (b .get .ensures) (omega (arith, d .if1 .left)) (λ z. (c .before .if2 .taken) (c .before .before .kind .ensures ∙ z)))
 
 -- src/lib.rt:107:16
 payload-requires : tie.Need-payload-requires
@@ -44,7 +51,11 @@ payload-requires c κs = search needs
 
 -- src/lib.rt:93:1
 returns-3 : tie.Need-returns-3
-returns-3 c = leads _ _ _ (c .before .before .before .before .before .before .pre .0) (c .before .before .before .before .before .before .pre .1) _ (c .before .before .before .get .ensures) (omega (arith, c .before .before .before .before .if1 .left)) (sym (c .before .before .kind .ensures) ∙ c .before .if2 .left) _ (c .payload .ensures)
+returns-3 c =
+    let b = c .before .before .before in
+    let d = b .before in
+    let a = d .before .before in
+    leads _ _ _ (a .pre .0) (a .pre .1) _ (b .get .ensures) (omega (arith, d .if1 .left)) (sym (c .before .before .kind .ensures) ∙ c .before .if2 .left) _ (c .payload .ensures)
 
 pub index-of-spec : {M : Type 1} → statement M
 index-of-spec =

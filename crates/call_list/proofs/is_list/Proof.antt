@@ -1,13 +1,7 @@
 use native.Mathlib.Omega.{arith}
-use mathlib.Core.Path.{_≡_, refl, sym, ap, _∙_}
-use mathlib.Core.Bool.{true, false}
-use Prim.Native.Nat.{ℕ, _≤_, _+_, _*_, _-_, _/_}
-use lib.ListN.{length, drop}
-use Rattle.words.specs.Words.{words}
-use Rattle.words.proofs.Laws.{length-words}
+use Prim.Native.Nat.{_-_, _/_}
 use Rattle.words.proofs.Answers.{refuse, accept}
 use Rattle.call_list.proofs.Parting.{list-empty, list-starts}
-use borrow.Author.Tests.{eqb-true, eqb-false}
 use borrow.Author.Needs.{needs}
 use Rattle.call_list.proofs.is_list.Statement.{statement}
 use Rattle.call_list.proofs.is_list.Tie as tie
@@ -34,7 +28,10 @@ kind-requires c κs = search needs
 
 -- src/lib.rt:32:1
 returns-3 : tie.Need-returns-3
-returns-3 c = rw (c .kind .ensures) (list-starts (c .before .before .before .before .before .args .list .now) (c .before .get .result) (omega (arith, c .before .before .before .if1 .left)) (λ z. omega (arith, c .before .before .if2 .left, z)) (c .before .get .ensures))
+returns-3 c =
+    let b = c .before .before .before in
+    let a = b .before .before in
+    rw (c .kind .ensures) (list-starts (a .args .list .now) (c .before .get .result) (omega (arith, b .if1 .left)) (λ z. omega (arith, c .before .before .if2 .left, z)) (c .before .get .ensures))
 
 pub is-list-spec : {M : Type 1} → statement M
 is-list-spec = tie.close (tie.spec returns returns-2 get-requires kind-requires returns-3)

@@ -16,19 +16,30 @@ index-of-requires c κs = search needs
 
 -- src/lib.rt:119:9
 returns : tie.Need-returns
-returns c = λ m e. paired-none _ _ _ (c .before .before .before .before .before .pre .0) (c .before .before .before .before .before .pre .1) _ (c .before .before .index-of .ensures) m _ (not-true _ (c .if1 .taken))
+returns c =
+    let a = c .before .before .before .before .before in
+    λ m e. paired-none _ _ _ (a .pre .0) (a .pre .1) _ (c .before .before .index-of .ensures) m _ (not-true _ (c .if1 .taken))
 
 -- src/lib.rt:122:28
 add-single : tie.Need-add-single
-add-single c = omega (arith, c .before .before .before .before .before .good, c .before .before .before .before .before .pre .0, length-words (c .before .before .before .before .before .args .list .now))
+add-single c =
+    let a = c .before .before .before .before .before in
+    omega (arith, a .good, a .pre .0, length-words (a .args .list .now))
 
 -- src/lib.rt:122:15
 single-requires : tie.Need-single-requires
-single-requires c κs = (rest-fits _ _ _ (c .before .before .before .before .before .pre .0) (c .before .before .before .before .before .pre .1) _ (c .before .before .index-of .ensures) (not-false _ (c .if1 .left)), rest-ends _ _ _ (c .before .before .before .before .before .pre .0) (c .before .before .before .before .before .pre .1) _ (c .before .before .index-of .ensures) (not-false _ (c .if1 .left)))
+single-requires c κs =
+    let a = c .before .before .before .before .before in (
+      rest-fits _ _ _ (a .pre .0) (a .pre .1) _ (c .before .before .index-of .ensures) (not-false _ (c .if1 .left)),
+      rest-ends _ _ _ (a .pre .0) (a .pre .1) _ (c .before .before .index-of .ensures) (not-false _ (c .if1 .left)),
+    )
 
 -- src/lib.rt:112:1
 returns-2 : tie.Need-returns-2
-returns-2 c = λ m e. paired _ _ _ (c .before .before .before .before .before .before .pre .0) (c .before .before .before .before .before .before .pre .1) _ (c .before .before .before .index-of .ensures) (not-false _ (c .before .if1 .left)) m _ _ ((c .single .ensures) m e)
+returns-2 c =
+    let b = c .before .before .before in
+    let a = b .before .before .before in
+    λ m e. paired _ _ _ (a .pre .0) (a .pre .1) _ (b .index-of .ensures) (not-false _ (c .before .if1 .left)) m _ _ ((c .single .ensures) m e)
 
 pub pair-spec : {M : Type 1} → statement M
 pair-spec = tie.close (tie.spec index-of-requires returns add-single single-requires returns-2)

@@ -16,7 +16,9 @@ index-of-requires c κs = search needs
 
 -- src/lib.rt:135:9
 returns : tie.Need-returns
-returns c = λ k m pos few ex ey. tripled-none _ _ _ (c .before .before .before .before .before .before .pre .0) (c .before .before .before .before .before .before .pre .1) _ (c .before .before .index-of .ensures) k m _ _ (not-true _ (c .if1 .taken))
+returns c =
+    let a = c .before .before .before .before .before .before in
+    λ k m pos few ex ey. tripled-none _ _ _ (a .pre .0) (a .pre .1) _ (c .before .before .index-of .ensures) k m _ _ (not-true _ (c .if1 .taken))
 
 -- src/lib.rt:138:9
 no-body-requires : tie.Need-no-body-requires
@@ -24,7 +26,11 @@ no-body-requires c κs = search needs
 
 -- src/lib.rt:138:9
 returns-2 : tie.Need-returns-2
-returns-2 c = λ k m pos few ex ey. rw (c .no-body .ensures) (no-first _ _ _ (c .before .before .before .before .before .before .before .before .pre .0) (c .before .before .before .before .before .before .before .before .pre .1) _ (c .before .before .before .before .index-of .ensures) (not-false _ (c .before .before .if1 .left)) k m (c .before .before .before .before .before .before .before .before .args .x .now) (c .before .before .before .before .before .before .before .before .args .y .now) pos few ex (c .before .if2 .taken))
+returns-2 c =
+    let b = c .before .before .before .before in
+    let a = b .before .before .before .before in
+    λ k m pos few ex ey. rw (c .no-body .ensures) (no-first _ _ _ (a .pre .0) (a .pre .1) _ (b .index-of .ensures) (not-false _ (c .before .before .if1 .left)) k m
+    (a .args .x .now) (a .args .y .now) pos few ex (c .before .if2 .taken))
 
 -- src/lib.rt:141:9
 no-body-requires-2 : tie.Need-no-body-requires-2
@@ -32,23 +38,41 @@ no-body-requires-2 c κs = search needs
 
 -- src/lib.rt:141:9
 returns-3 : tie.Need-returns-3
-returns-3 c = λ k m pos few ex ey. rw (c .no-body2 .ensures) (no-second _ _ _ (c .before .before .before .before .before .before .before .before .before .pre .0) (c .before .before .before .before .before .before .before .before .before .pre .1) _ (c .before .before .before .before .before .index-of .ensures) (not-false _ (c .before .before .before .if1 .left)) k m (c .before .before .before .before .before .before .before .before .before .args .x .now) (c .before .before .before .before .before .before .before .before .before .args .y .now) pos few ex (c .before .before .if2 .left) ey (c .before .if3 .taken))
+returns-3 c =
+    let b = c .before .before .before in
+    let d = b .before .before in
+    let a = d .before .before .before .before in
+    λ k m pos few ex ey. rw (c .no-body2 .ensures) (no-second _ _ _ (a .pre .0) (a .pre .1) _ (d .index-of .ensures) (not-false _ (b .if1 .left)) k m (a .args .x .now)
+    (a .args .y .now) pos few ex (c .before .before .if2 .left) ey (c .before .if3 .taken))
 
 -- src/lib.rt:144:15
 add-t8 : tie.Need-add-t8
-add-t8 c = omega (arith, c .before .before .before .before .before .before .before .before .good, c .before .before .before .before .before .before .before .before .pre .0, length-words (c .before .before .before .before .before .before .before .before .args .list .now))
+add-t8 c =
+    let a = c .before .before .before .before .before .before .before .before in
+    omega (arith, a .good, a .pre .0, length-words (a .args .list .now))
 
 -- src/lib.rt:144:15
 add-t11 : tie.Need-add-t11
-add-t11 c = omega (arith, c .before .before .before .before .before .before .before .before .good, c .before .before .before .before .before .before .before .before .pre .0, length-words (c .before .before .before .before .before .before .before .before .args .list .now))
+add-t11 c =
+    let a = c .before .before .before .before .before .before .before .before in
+    omega (arith, a .good, a .pre .0, length-words (a .args .list .now))
 
 -- src/lib.rt:144:15
 add-t14 : tie.Need-add-t14
-add-t14 c = omega (arith, c .before .before .before .before .before .before .before .before .good, c .before .before .before .before .before .before .before .before .pre .0, length-words (c .before .before .before .before .before .before .before .before .args .list .now))
+add-t14 c =
+    let a = c .before .before .before .before .before .before .before .before in
+    omega (arith, a .good, a .pre .0, length-words (a .args .list .now))
 
 -- src/lib.rt:128:1
 returns-4 : tie.Need-returns-4
-returns-4 c = λ k m pos few ex ey. tripled _ _ _ (c .before .before .before .before .before .before .before .before .pre .0) (c .before .before .before .before .before .before .before .before .pre .1) _ (c .before .before .before .before .index-of .ensures) (not-false _ (c .before .before .if1 .left)) k m (c .before .before .before .before .before .before .before .before .args .x .now) (c .before .before .before .before .before .before .before .before .args .y .now) pos few ex (c .before .if2 .left) _ (single-good _ _ _ (second-fits _ _ _ (c .before .before .before .before .before .before .before .before .pre .0) (c .before .before .before .before .before .before .before .before .pre .1) _ (c .before .before .before .before .index-of .ensures) (not-false _ (c .before .before .if1 .left)) k m (c .before .before .before .before .before .before .before .before .args .x .now) (c .before .before .before .before .before .before .before .before .args .y .now) pos few ex (c .before .if2 .left)) (second-ends _ _ _ (c .before .before .before .before .before .before .before .before .pre .0) (c .before .before .before .before .before .before .before .before .pre .1) _ (c .before .before .before .before .index-of .ensures) (not-false _ (c .before .before .if1 .left)) k m (c .before .before .before .before .before .before .before .before .args .x .now) (c .before .before .before .before .before .before .before .before .args .y .now) pos few ex (c .before .if2 .left)) m _ ey (c .if3 .left) _ (λ t. eqb-true _ _ t) (λ t. eqb-false _ _ t))
+returns-4 c =
+    let b = c .before .before in
+    let d = b .before .before in
+    let a = d .before .before .before .before in
+    λ k m pos few ex ey. tripled _ _ _ (a .pre .0) (a .pre .1) _ (d .index-of .ensures) (not-false _ (b .if1 .left)) k m (a .args .x .now) (a .args .y .now) pos few ex
+    (c .before .if2 .left) _ (single-good _ _ _ (second-fits _ _ _ (a .pre .0) (a .pre .1) _ (d .index-of .ensures) (not-false _ (b .if1 .left)) k m (a .args .x .now)
+    (a .args .y .now) pos few ex (c .before .if2 .left)) (second-ends _ _ _ (a .pre .0) (a .pre .1) _ (d .index-of .ensures) (not-false _ (b .if1 .left)) k m
+    (a .args .x .now) (a .args .y .now) pos few ex (c .before .if2 .left)) m _ ey (c .if3 .left) _ (λ t. eqb-true _ _ t) (λ t. eqb-false _ _ t))
 
 pub triple-spec : {M : Type 1} → statement M
 triple-spec =

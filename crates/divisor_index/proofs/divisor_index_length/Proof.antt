@@ -1,6 +1,6 @@
 use Rattle.divisor_index.proofs.Replying.{length-refused, length-small, length-is, one-kind, sizes}
 use borrow.Author.Tests.{not-true, not-false}
-use mathlib.Core.Path.{_≡_, refl, sym, ap, _∙_}
+use mathlib.Core.Path.{sym, _∙_}
 use native.Mathlib.Omega.{arith}
 use borrow.Author.Needs.{needs}
 use Rattle.divisor_index.proofs.divisor_index_length.Statement.{statement}

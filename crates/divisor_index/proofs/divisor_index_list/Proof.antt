@@ -1,6 +1,5 @@
 use Rattle.divisor_index.proofs.Replying.{clash, listing-three, listing-six, listing-five, listing-room, listing-served}
 use borrow.Author.Tests.{not-true, not-false}
-use native.Mathlib.Omega.{arith}
 use borrow.Author.Needs.{needs}
 use Rattle.divisor_index.proofs.divisor_index_list.Statement.{statement}
 use Rattle.divisor_index.proofs.divisor_index_list.Tie as tie
@@ -33,11 +32,18 @@ listing-words-requires c κs = search needs
 
 -- src/lib.rt:102:9
 returns-3 : tie.Need-returns-3
-returns-3 c = listing-five (c .before .before .before .before .before .before .before .before .before .args .image .now) (c .before .before .before .before .before .before .before .before .before .args .answers .now) _ (c .before .before .before .before .shape .ensures) _ (c .before .listing-words .ensures) (c .before .before .if2 .left) (c .if3 .taken)
+returns-3 c =
+    let b = c .before .before .before .before in
+    let a = b .before .before .before .before .before in
+    listing-five (a .args .image .now) (a .args .answers .now) _ (b .shape .ensures) _ (c .before .listing-words .ensures) (c .before .before .if2 .left) (c .if3 .taken)
 
 -- src/lib.rt:104:5
 to-vec-requires : tie.Need-to-vec-requires
-to-vec-requires c κs = (c .before .before .before .before .before .shape .ensures, listing-room (c .before .before .before .before .before .before .before .before .before .before .args .image .now) (c .before .before .before .before .before .before .before .before .before .before .args .answers .now) _ (c .before .before .before .before .before .shape .ensures) _ (c .before .before .listing-words .ensures) (c .before .before .before .if2 .left) (c .before .if3 .left))
+to-vec-requires c κs =
+    let b = c .before .before .before in
+    let d = b .before .before in
+    let a = d .before .before .before .before .before in
+    (d .shape .ensures, listing-room (a .args .image .now) (a .args .answers .now) _ (d .shape .ensures) _ (c .before .before .listing-words .ensures) (b .if2 .left) (c .before .if3 .left))
 
 -- src/lib.rt:90:1
 same-length : tie.Need-same-length
@@ -45,7 +51,13 @@ same-length c = search needs
 
 -- src/lib.rt:90:1
 returns-4 : tie.Need-returns-4
-returns-4 c = listing-served (c .before .before .before .before .before .before .before .before .before .before .before .before .before .args .image .now) (c .before .before .before .before .before .before .before .before .before .before .before .before .before .args .answers .now) _ (c .before .before .before .before .before .before .before .before .shape .ensures) _ (c .before .before .before .before .before .listing-words .ensures) (c .before .before .before .before .before .before .if2 .left) _ (c .before .before .before .before .if3 .left) (c .before .before .to-vec .ensures)
+returns-4 c =
+    let b = c .before .before .before .before in
+    let d = b .before in
+    let f = d .before in
+    let g = f .before .before in
+    let a = g .before .before .before .before .before in
+    listing-served (a .args .image .now) (a .args .answers .now) _ (g .shape .ensures) _ (d .listing-words .ensures) (f .if2 .left) _ (b .if3 .left) (c .before .before .to-vec .ensures)
 
 pub divisor-index-list-spec : {M : Type 1} → statement M
 divisor-index-list-spec =

@@ -1,7 +1,7 @@
 use Rattle.divisor_index.proofs.Replying.{open-one, open-two, open-served, one-kind, sizes, maxima}
 use Rattle.index_image.proofs.Shapes.{empty-range}
 use borrow.Author.Tests.{not-true, not-false}
-use mathlib.Core.Path.{_≡_, refl, sym, ap, _∙_}
+use mathlib.Core.Path.{sym, _∙_}
 use native.Mathlib.Omega.{arith}
 use borrow.Author.Needs.{needs}
 use Rattle.divisor_index.proofs.divisor_index_open.Statement.{statement}
@@ -30,7 +30,16 @@ returns-2 c = open-two _ _ _ _ (sym (c .before .before .before .opening-good .en
 
 -- src/lib.rt:67:5
 open-tables-requires : tie.Need-open-tables-requires
-open-tables-requires c κs = (empty-range _ _ _ (one-kind _ _ _ _ (sym (c .before .before .before .before .opening-good .ensures) ∙ not-false _ (c .before .before .before .if1 .left))) (sizes _ _ _ _ (sym (c .before .before .before .before .opening-good .ensures) ∙ not-false _ (c .before .before .before .if1 .left))), (omega (arith, c .before .if2 .left, c .before .before .length .ensures .0), (maxima _ _ _ _ (sym (c .before .before .before .before .opening-good .ensures) ∙ not-false _ (c .before .before .before .if1 .left)) .1, maxima _ _ _ _ (sym (c .before .before .before .before .opening-good .ensures) ∙ not-false _ (c .before .before .before .if1 .left)) .0)))
+open-tables-requires c κs =
+    let b = c .before .before .before in
+    let d = b .before in (
+      empty-range _ _ _ (one-kind _ _ _ _ (sym (d .opening-good .ensures) ∙ not-false _ (b .if1 .left)))
+          (sizes _ _ _ _ (sym (d .opening-good .ensures) ∙ not-false _ (b .if1 .left))),
+      (
+        omega (arith, c .before .if2 .left, c .before .before .length .ensures .0),
+        (maxima _ _ _ _ (sym (d .opening-good .ensures) ∙ not-false _ (b .if1 .left)) .1, maxima _ _ _ _ (sym (d .opening-good .ensures) ∙ not-false _ (b .if1 .left)) .0),
+      ),
+    )
 
 -- src/lib.rt:43:1
 same-length : tie.Need-same-length
@@ -38,7 +47,12 @@ same-length c = search needs
 
 -- src/lib.rt:43:1
 returns-3 : tie.Need-returns-3
-returns-3 c = open-served _ _ _ _ (sym (c .before .before .before .before .before .before .before .opening-good .ensures) ∙ not-false _ (c .before .before .before .before .before .before .if1 .left)) _ _ (omega (arith, c .before .before .before .before .if2 .left, c .before .before .before .before .before .length .ensures .0)) (c .before .before .open-tables .ensures)
+returns-3 c =
+    let b = c .before .before .before .before in
+    let d = b .before in
+    let f = d .before in
+    let g = f .before in
+    open-served _ _ _ _ (sym (g .opening-good .ensures) ∙ not-false _ (f .if1 .left)) _ _ (omega (arith, b .if2 .left, d .length .ensures .0)) (c .before .before .open-tables .ensures)
 
 pub divisor-index-open-spec : {M : Type 1} → statement M
 divisor-index-open-spec =

@@ -45,11 +45,21 @@ same-length-3 c = search needs
 
 -- src/lib.rt:83:9
 returns-3 : tie.Need-returns-3
-returns-3 c = run-five _ _ _ (c .before .before .before .before .before .sound .ensures .0 (not-false _ (c .before .before .before .before .if1 .left))) (c .before .before .before .is-list .ensures .0 (not-false _ (c .before .before .if2 .left))) (omega (arith, c .if3 .taken, c .before .count .ensures))
+returns-3 c =
+    let b = c .before .before .before in
+    let d = b .before in
+    let f = d .before in
+    run-five _ _ _ (f .sound .ensures .0 (not-false _ (d .if1 .left))) (b .is-list .ensures .0 (not-false _ (c .before .before .if2 .left))) (omega (arith, c .if3 .taken, c .before .count .ensures))
 
 -- src/lib.rt:85:5
 run-requires : tie.Need-run-requires
-run-requires c κs = ((c .before .before .before .before .before .before .before .sound .ensures .0 (not-false _ (c .before .before .before .before .before .before .if1 .left))), ((c .before .before .before .before .before .is-list .ensures .0 (not-false _ (c .before .before .before .before .if2 .left))), omega (arith, c .before .before .if3 .left, c .before .before .before .count .ensures)))
+run-requires c κs =
+    let b = c .before .before .before in
+    let d = b .before in
+    let f = d .before in
+    let g = f .before in
+    let h = g .before in
+    ((h .sound .ensures .0 (not-false _ (g .if1 .left))), ((f .is-list .ensures .0 (not-false _ (d .if2 .left))), omega (arith, c .before .before .if3 .left, b .count .ensures)))
 
 -- src/lib.rt:72:1
 same-length-4 : tie.Need-same-length-4
@@ -61,7 +71,15 @@ same-length-5 c = search needs
 
 -- src/lib.rt:72:1
 returns-4 : tie.Need-returns-4
-returns-4 c = run-served _ _ _ (c .before .before .before .before .before .before .before .before .before .before .before .before .sound .ensures .0 (not-false _ (c .before .before .before .before .before .before .before .before .before .before .before .if1 .left))) (c .before .before .before .before .before .before .before .before .before .before .is-list .ensures .0 (not-false _ (c .before .before .before .before .before .before .before .before .before .if2 .left))) _ _ (omega (arith, c .before .before .before .before .before .before .before .if3 .left, c .before .before .before .before .before .before .before .before .count .ensures)) (c .before .before .before .before .run .ensures)
+returns-4 c =
+    let b = c .before .before .before .before in
+    let d = b .before .before .before in
+    let f = d .before in
+    let g = f .before in
+    let h = g .before in
+    let i = h .before in
+    let j = i .before in
+    run-served _ _ _ (j .sound .ensures .0 (not-false _ (i .if1 .left))) (h .is-list .ensures .0 (not-false _ (g .if2 .left))) _ _ (omega (arith, d .if3 .left, f .count .ensures)) (b .run .ensures)
 
 pub divisor-index-run-spec : {M : Type 1} → statement M
 divisor-index-run-spec =

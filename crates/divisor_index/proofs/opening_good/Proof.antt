@@ -1,4 +1,4 @@
-use mathlib.Core.Path.{_≡_, sym, _∙_}
+use mathlib.Core.Path.{sym, _∙_}
 use borrow.Author.Tests.{not-true, not-false}
 use Rattle.divisor_index.proofs.Replying.{bad-kind, bad-sizes, good-is}
 use borrow.Author.Needs.{needs}

@@ -1,5 +1,4 @@
 use Rattle.indices.proofs.Queries.{two-kinds}
-use native.Mathlib.Omega.{arith}
 use borrow.Author.Needs.{needs}
 use Rattle.indices.proofs.call.Statement.{statement}
 use Rattle.indices.proofs.call.Tie as tie
@@ -15,7 +14,10 @@ shape-requires c κs = search needs
 
 -- src/lib.rt:47:9
 call-requires : tie.Need-call-requires
-call-requires c κs = (c .before .before .before .before .shape .ensures, (c .before .before .if1 .taken, (c .before .before .before .before .before .before .before .before .before .before .pre .1 .0 .0, c .before .before .before .before .before .before .before .before .before .before .pre .1 .1)))
+call-requires c κs =
+    let b = c .before .before .before .before in
+    let a = b .before .before .before .before .before .before in
+    (b .shape .ensures, (c .before .before .if1 .taken, (a .pre .1 .0 .0, a .pre .1 .1)))
 
 -- src/lib.rt:47:9
 same-length : tie.Need-same-length
@@ -31,7 +33,11 @@ returns c = search needs
 
 -- src/lib.rt:49:5
 call-requires-2 : tie.Need-call-requires-2
-call-requires-2 c κs = (c .before .before .before .before .before .shape .ensures, (two-kinds _ _ (c .before .before .before .before .before .shape .ensures) (c .before .before .before .if1 .left), c .before .before .before .before .before .before .before .before .before .before .before .pre .1))
+call-requires-2 c κs =
+    let b = c .before .before .before in
+    let d = b .before .before in
+    let a = d .before .before .before .before .before .before in
+    (d .shape .ensures, (two-kinds _ _ (d .shape .ensures) (b .if1 .left), a .pre .1))
 
 -- src/lib.rt:31:1
 same-length-3 : tie.Need-same-length-3

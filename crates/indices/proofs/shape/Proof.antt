@@ -49,7 +49,11 @@ cast-t11 c = search needs
 
 -- src/lib.rt:17:1
 returns : tie.Need-returns
-returns c = root-of _ (c .before .before .before .before .before .before .pre) _ _ _ _ _ (c .before .before .before .before .get .ensures) (c .before .before .before .get2 .ensures) (c .before .before .get3 .ensures) (c .before .get4 .ensures) (c .get5 .ensures)
+returns c =
+    let b = c .before .before .before in
+    let d = b .before in
+    let a = d .before .before in
+    root-of _ (a .pre) _ _ _ _ _ (d .get .ensures) (b .get2 .ensures) (c .before .before .get3 .ensures) (c .before .get4 .ensures) (c .get5 .ensures)
 
 pub shape-spec : {M : Type 1} → statement M
 shape-spec =

@@ -1,20 +1,15 @@
 use native.Mathlib.Omega.{arith}
 use borrow.Author.Needs.{needs}
-use mathlib.Core.Path.{_≡_, refl, sym, ap, _∙_}
-use lib.ListN.{length, length-append, getD, take, drop, length-take, length-drop}
-use Rattle.words.specs.Words.{words, pasteW}
+use mathlib.Core.Path.{ap, _∙_}
+use lib.ListN.{length, getD}
+use Rattle.words.specs.Words.{words}
 use Rattle.words.proofs.Laws.{length-pasteW}
-use Rattle.kd_theory.specs.Tree.{inorder, nodes, count}
 use Rattle.index_image.specs.Shape as at
-use Rattle.index_image.specs.Rows.{entriesFrom}
-use Rattle.index_image.specs.Walk.{lmIn, Ready}
 use Rattle.index_image.proofs.Places.{node-room, row-behind}
 use Rattle.index_image.proofs.Bounds.{size-small}
 use Rattle.index_image.proofs.Trees.{some-node}
-use Rattle.listing.specs.Listed.{lms, Here, Below}
-use Rattle.listing.proofs.Monomials.{behind}
 use Rattle.listing.proofs.Rows as rows
-use Prim.Native.Nat.{ℕ, _<_, _≤_, _+_, _*_, _-_}
+use Prim.Native.Nat.{ℕ, _<_, _+_, _-_}
 use borrow.Fn.Kinds.{In}
 use borrow.Fn.PlainCycle.{Measures, is, falls, and}
 use Rattle.listing.proofs.write_below.Reads as write-below
@@ -37,385 +32,8 @@ abbrev write-below-below : ℕ → In 2 write-below-kinds.ps
 write-below-below t =
     and 2 write-below-kinds.ps (falls 2 write-below-kinds.ps _<_ μ-write-below t) write-below.Pre
 
--- src/lib.rt:52:9
-write-below-node-at-requires : (t : ℕ) → write-below-lts.Need-node-at-requires (
-  node-at-reads.Asked,
-  node-at-reads.Learnt,
-  get-reads.Asked,
-  get-reads.Learnt,
-  write-leaf-reads.Asked,
-  write-leaf-reads.Learnt,
-  write-below-below t,
-  write-below.Post,
-) (write-below-at t) write-below.Post
-write-below-node-at-requires t c κs = ((c .before .before .pre .1 .0) .range, omega (arith, rows.in-rows (words (c .before .before .args .image .now)) (c .before .before .args .s) (c .before .before .pre .1 .0) (c .before .before .args .k) (c .before .before .args .lo) (length (c .before .before .args .out .now)) (c .before .before .pre .1 .1), (c .before .before .pre .1 .0) .range .nodes-to, (c .before .before .pre .1 .0) .range .cap-to))
-
--- src/lib.rt:53:8
-write-below-get-requires : (t : ℕ) → write-below-lts.Need-get-requires (
-  node-at-reads.Asked,
-  node-at-reads.Learnt,
-  get-reads.Asked,
-  get-reads.Learnt,
-  write-leaf-reads.Asked,
-  write-leaf-reads.Learnt,
-  write-below-below t,
-  write-below.Post,
-) (write-below-at t) write-below.Post
-write-below-get-requires t c κs = omega (arith, c .node-at .ensures, node-room (c .before .before .before .args .image .now) (c .before .before .before .args .s) (c .before .before .before .pre .1 .0) (c .before .before .before .args .k) (rows.in-rows (words (c .before .before .before .args .image .now)) (c .before .before .before .args .s) (c .before .before .before .pre .1 .0) (c .before .before .before .args .k) (c .before .before .before .args .lo) (length (c .before .before .before .args .out .now)) (c .before .before .before .pre .1 .1)), size-small (c .before .before .before .args .s) ((c .before .before .before .pre .1 .0) .range), (c .before .before .before .pre .1 .0) .range .vars-to)
-
--- src/lib.rt:54:59
-write-below-add-get : (t : ℕ) → write-below-lts.Need-add-get (
-  node-at-reads.Asked,
-  node-at-reads.Learnt,
-  get-reads.Asked,
-  get-reads.Learnt,
-  write-leaf-reads.Asked,
-  write-leaf-reads.Learnt,
-  write-below-below t,
-  write-below.Post,
-) (write-below-at t) write-below.Post
-write-below-add-get t c = omega (arith, c .before .before .node-at .ensures, node-room (c .before .before .before .before .before .args .image .now) (c .before .before .before .before .before .args .s) (c .before .before .before .before .before .pre .1 .0) (c .before .before .before .before .before .args .k) (rows.in-rows (words (c .before .before .before .before .before .args .image .now)) (c .before .before .before .before .before .args .s) (c .before .before .before .before .before .pre .1 .0) (c .before .before .before .before .before .args .k) (c .before .before .before .before .before .args .lo) (length (c .before .before .before .before .before .args .out .now)) (c .before .before .before .before .before .pre .1 .1)), size-small (c .before .before .before .before .before .args .s) ((c .before .before .before .before .before .pre .1 .0) .range), (c .before .before .before .before .before .pre .1 .0) .range .vars-to)
-
--- src/lib.rt:54:41
-write-below-get-requires-2 : (t : ℕ) → write-below-lts.Need-get-requires-2 (
-  node-at-reads.Asked,
-  node-at-reads.Learnt,
-  get-reads.Asked,
-  get-reads.Learnt,
-  write-leaf-reads.Asked,
-  write-leaf-reads.Learnt,
-  write-below-below t,
-  write-below.Post,
-) (write-below-at t) write-below.Post
-write-below-get-requires-2 t c κs = omega (arith, c .before .before .node-at .ensures, node-room (c .before .before .before .before .before .args .image .now) (c .before .before .before .before .before .args .s) (c .before .before .before .before .before .pre .1 .0) (c .before .before .before .before .before .args .k) (rows.in-rows (words (c .before .before .before .before .before .args .image .now)) (c .before .before .before .before .before .args .s) (c .before .before .before .before .before .pre .1 .0) (c .before .before .before .before .before .args .k) (c .before .before .before .before .before .args .lo) (length (c .before .before .before .before .before .args .out .now)) (c .before .before .before .before .before .pre .1 .1)), size-small (c .before .before .before .before .before .args .s) ((c .before .before .before .before .before .pre .1 .0) .range), (c .before .before .before .before .before .pre .1 .0) .range .vars-to)
-
--- src/lib.rt:54:41
-write-below-cast-write-leaf : (t : ℕ) → write-below-lts.Need-cast-write-leaf (
-  node-at-reads.Asked,
-  node-at-reads.Learnt,
-  get-reads.Asked,
-  get-reads.Learnt,
-  write-leaf-reads.Asked,
-  write-leaf-reads.Learnt,
-  write-below-below t,
-  write-below.Post,
-) (write-below-at t) write-below.Post
-write-below-cast-write-leaf t c = omega arith
-
--- src/lib.rt:54:9
-write-below-write-leaf-requires : (t : ℕ) → write-below-lts.Need-write-leaf-requires (
-  node-at-reads.Asked,
-  node-at-reads.Learnt,
-  get-reads.Asked,
-  get-reads.Learnt,
-  write-leaf-reads.Asked,
-  write-leaf-reads.Learnt,
-  write-below-below t,
-  write-below.Post,
-) (write-below-at t) write-below.Post
-write-below-write-leaf-requires t c κs = ((c .before .before .before .before .before .before .before .pre .1 .0), rows.leaf-asked (words (c .before .before .before .before .before .before .before .args .image .now)) (c .before .before .before .before .before .before .before .args .s) (c .before .before .before .before .before .before .before .pre .1 .0) (c .before .before .before .before .before .before .before .args .k) (c .before .before .before .before .before .before .before .args .lo) (length (c .before .before .before .before .before .before .before .args .out .now)) (c .before .before .before .before .before .before .before .pre .1 .1) (c .before .get2 .result) (c .before .get2 .ensures ∙ ap (λ (j : ℕ). getD (words (c .before .before .before .before .before .before .before .args .image .now)) (at.countAt j) 0) (c .before .before .before .before .node-at .ensures)))
-
--- src/lib.rt:54:9
-write-below-same-length : (t : ℕ) → write-below-lts.Need-same-length (
-  node-at-reads.Asked,
-  node-at-reads.Learnt,
-  get-reads.Asked,
-  get-reads.Learnt,
-  write-leaf-reads.Asked,
-  write-leaf-reads.Learnt,
-  write-below-below t,
-  write-below.Post,
-) (write-below-at t) write-below.Post
-write-below-same-length t c = ap length (c .before .before .write-leaf .ensures .1) ∙ length-pasteW (c .before .before .before .before .before .before .before .before .before .before .args .out .now) 0 _ (omega (arith, rows.leaf-asked (words (c .before .before .before .before .before .before .before .before .before .before .args .image .now)) (c .before .before .before .before .before .before .before .before .before .before .args .s) (c .before .before .before .before .before .before .before .before .before .before .pre .1 .0) (c .before .before .before .before .before .before .before .before .before .before .args .k) (c .before .before .before .before .before .before .before .before .before .before .args .lo) (length (c .before .before .before .before .before .before .before .before .before .before .args .out .now)) (c .before .before .before .before .before .before .before .before .before .before .pre .1 .1) (c .before .before .before .before .get2 .result) (c .before .before .before .before .get2 .ensures ∙ ap (λ (j : ℕ). getD (words (c .before .before .before .before .before .before .before .before .before .before .args .image .now)) (at.countAt j) 0) (c .before .before .before .before .before .before .before .node-at .ensures)) .1))
-
--- src/lib.rt:54:9
-write-below-returns : (t : ℕ) → write-below-lts.Need-returns (
-  node-at-reads.Asked,
-  node-at-reads.Learnt,
-  get-reads.Asked,
-  get-reads.Learnt,
-  write-leaf-reads.Asked,
-  write-leaf-reads.Learnt,
-  write-below-below t,
-  write-below.Post,
-) (write-below-at t) write-below.Post
-write-below-returns t c = λ h. rows.leaf-below (words (c .before .before .before .before .before .before .before .before .before .before .args .image .now)) (c .before .before .before .before .before .before .before .before .before .before .args .s) (c .before .before .before .before .before .before .before .before .before .before .pre .1 .0) (c .before .before .before .before .before .before .before .before .before .before .args .k) (c .before .before .before .before .before .before .before .before .before .before .args .lo) (c .before .before .before .before .before .before .before .before .before .before .args .out .now) h _ _ (c .before .before .before .before .get2 .result) (c .before .before .before .before .get2 .ensures ∙ ap (λ (j : ℕ). getD (words (c .before .before .before .before .before .before .before .before .before .before .args .image .now)) (at.countAt j) 0) (c .before .before .before .before .before .before .before .node-at .ensures)) (c .before .before .write-leaf .ensures .0) (c .before .before .write-leaf .ensures .1)
-
--- src/lib.rt:56:34
-write-below-add-get-2 : (t : ℕ) → write-below-lts.Need-add-get-2 (
-  node-at-reads.Asked,
-  node-at-reads.Learnt,
-  get-reads.Asked,
-  get-reads.Learnt,
-  write-leaf-reads.Asked,
-  write-leaf-reads.Learnt,
-  write-below-below t,
-  write-below.Post,
-) (write-below-at t) write-below.Post
-write-below-add-get-2 t c = omega (arith, c .before .before .node-at .ensures, node-room (c .before .before .before .before .before .args .image .now) (c .before .before .before .before .before .args .s) (c .before .before .before .before .before .pre .1 .0) (c .before .before .before .before .before .args .k) (rows.in-rows (words (c .before .before .before .before .before .args .image .now)) (c .before .before .before .before .before .args .s) (c .before .before .before .before .before .pre .1 .0) (c .before .before .before .before .before .args .k) (c .before .before .before .before .before .args .lo) (length (c .before .before .before .before .before .args .out .now)) (c .before .before .before .before .before .pre .1 .1)), size-small (c .before .before .before .before .before .args .s) ((c .before .before .before .before .before .pre .1 .0) .range), (c .before .before .before .before .before .pre .1 .0) .range .vars-to)
-
--- src/lib.rt:56:16
-write-below-get-requires-3 : (t : ℕ) → write-below-lts.Need-get-requires-3 (
-  node-at-reads.Asked,
-  node-at-reads.Learnt,
-  get-reads.Asked,
-  get-reads.Learnt,
-  write-leaf-reads.Asked,
-  write-leaf-reads.Learnt,
-  write-below-below t,
-  write-below.Post,
-) (write-below-at t) write-below.Post
-write-below-get-requires-3 t c κs = omega (arith, c .before .before .node-at .ensures, node-room (c .before .before .before .before .before .args .image .now) (c .before .before .before .before .before .args .s) (c .before .before .before .before .before .pre .1 .0) (c .before .before .before .before .before .args .k) (rows.in-rows (words (c .before .before .before .before .before .args .image .now)) (c .before .before .before .before .before .args .s) (c .before .before .before .before .before .pre .1 .0) (c .before .before .before .before .before .args .k) (c .before .before .before .before .before .args .lo) (length (c .before .before .before .before .before .args .out .now)) (c .before .before .before .before .before .pre .1 .1)), size-small (c .before .before .before .before .before .args .s) ((c .before .before .before .before .before .pre .1 .0) .range), (c .before .before .before .before .before .pre .1 .0) .range .vars-to)
-
--- src/lib.rt:56:16
-write-below-cast-skip : (t : ℕ) → write-below-lts.Need-cast-skip (
-  node-at-reads.Asked,
-  node-at-reads.Learnt,
-  get-reads.Asked,
-  get-reads.Learnt,
-  write-leaf-reads.Asked,
-  write-leaf-reads.Learnt,
-  write-below-below t,
-  write-below.Post,
-) (write-below-at t) write-below.Post
-write-below-cast-skip t c = omega arith
-
--- src/lib.rt:57:23
-write-below-add-next : (t : ℕ) → write-below-lts.Need-add-next (
-  node-at-reads.Asked,
-  node-at-reads.Learnt,
-  get-reads.Asked,
-  get-reads.Learnt,
-  write-leaf-reads.Asked,
-  write-leaf-reads.Learnt,
-  write-below-below t,
-  write-below.Post,
-) (write-below-at t) write-below.Post
-write-below-add-next t c = omega (arith, (c .before .before .before .before .before .before .before .pre .1 .0) .range .vars-to)
-
--- src/lib.rt:57:16
-write-below-add-next-2 : (t : ℕ) → write-below-lts.Need-add-next-2 (
-  node-at-reads.Asked,
-  node-at-reads.Learnt,
-  get-reads.Asked,
-  get-reads.Learnt,
-  write-leaf-reads.Asked,
-  write-leaf-reads.Learnt,
-  write-below-below t,
-  write-below.Post,
-) (write-below-at t) write-below.Post
-write-below-add-next-2 t c = omega (arith, c .before .before .before .before .node-at .ensures, node-room (c .before .before .before .before .before .before .before .args .image .now) (c .before .before .before .before .before .before .before .args .s) (c .before .before .before .before .before .before .before .pre .1 .0) (c .before .before .before .before .before .before .before .args .k) (rows.in-rows (words (c .before .before .before .before .before .before .before .args .image .now)) (c .before .before .before .before .before .before .before .args .s) (c .before .before .before .before .before .before .before .pre .1 .0) (c .before .before .before .before .before .before .before .args .k) (c .before .before .before .before .before .before .before .args .lo) (length (c .before .before .before .before .before .before .before .args .out .now)) (c .before .before .before .before .before .before .before .pre .1 .1)), size-small (c .before .before .before .before .before .before .before .args .s) ((c .before .before .before .before .before .before .before .pre .1 .0) .range), (c .before .before .before .before .before .before .before .pre .1 .0) .range .vars-to)
-
--- src/lib.rt:58:34
-write-below-add-get-3 : (t : ℕ) → write-below-lts.Need-add-get-3 (
-  node-at-reads.Asked,
-  node-at-reads.Learnt,
-  get-reads.Asked,
-  get-reads.Learnt,
-  write-leaf-reads.Asked,
-  write-leaf-reads.Learnt,
-  write-below-below t,
-  write-below.Post,
-) (write-below-at t) write-below.Post
-write-below-add-get-3 t c = omega (arith, c .before .before .before .before .node-at .ensures, node-room (c .before .before .before .before .before .before .before .args .image .now) (c .before .before .before .before .before .before .before .args .s) (c .before .before .before .before .before .before .before .pre .1 .0) (c .before .before .before .before .before .before .before .args .k) (rows.in-rows (words (c .before .before .before .before .before .before .before .args .image .now)) (c .before .before .before .before .before .before .before .args .s) (c .before .before .before .before .before .before .before .pre .1 .0) (c .before .before .before .before .before .before .before .args .k) (c .before .before .before .before .before .before .before .args .lo) (length (c .before .before .before .before .before .before .before .args .out .now)) (c .before .before .before .before .before .before .before .pre .1 .1)), size-small (c .before .before .before .before .before .before .before .args .s) ((c .before .before .before .before .before .before .before .pre .1 .0) .range), (c .before .before .before .before .before .before .before .pre .1 .0) .range .vars-to)
-
--- src/lib.rt:58:16
-write-below-get-requires-4 : (t : ℕ) → write-below-lts.Need-get-requires-4 (
-  node-at-reads.Asked,
-  node-at-reads.Learnt,
-  get-reads.Asked,
-  get-reads.Learnt,
-  write-leaf-reads.Asked,
-  write-leaf-reads.Learnt,
-  write-below-below t,
-  write-below.Post,
-) (write-below-at t) write-below.Post
-write-below-get-requires-4 t c κs = let b = rows.at-branch (words (c .before .before .before .before .before .before .before .args .image .now)) (c .before .before .before .before .before .before .before .args .s) (c .before .before .before .before .before .before .before .pre .1 .0) (c .before .before .before .before .before .before .before .args .k) (c .before .before .before .before .before .before .before .args .lo) (length (c .before .before .before .before .before .before .before .args .out .now)) (c .before .before .before .before .before .before .before .pre .1 .1) (λ z. omega (arith, c .before .before .if1 .left, c .before .before .before .get .ensures, ap (λ (j : ℕ). getD (words (c .before .before .before .before .before .before .before .args .image .now)) j 0) (c .before .before .before .before .node-at .ensures), z)) in omega (arith, c .before .before .before .before .node-at .ensures, node-room (c .before .before .before .before .before .before .before .args .image .now) (c .before .before .before .before .before .before .before .args .s) (c .before .before .before .before .before .before .before .pre .1 .0) (c .before .before .before .before .before .before .before .args .k) (rows.in-rows (words (c .before .before .before .before .before .before .before .args .image .now)) (c .before .before .before .before .before .before .before .args .s) (c .before .before .before .before .before .before .before .pre .1 .0) (c .before .before .before .before .before .before .before .args .k) (c .before .before .before .before .before .before .before .args .lo) (length (c .before .before .before .before .before .before .before .args .out .now)) (c .before .before .before .before .before .before .before .pre .1 .1)), size-small (c .before .before .before .before .before .before .before .args .s) ((c .before .before .before .before .before .before .before .pre .1 .0) .range), (c .before .before .before .before .before .before .before .pre .1 .0) .range .vars-to, node-room (c .before .before .before .before .before .before .before .args .image .now) (c .before .before .before .before .before .before .before .args .s) (c .before .before .before .before .before .before .before .pre .1 .0) ((c .before .before .before .before .before .before .before .args .k) + 1) (omega (arith, b .less-inside, some-node (b .less))), row-behind (c .before .before .before .before .before .before .before .args .s) (c .before .before .before .before .before .before .before .args .k))
-
--- src/lib.rt:58:16
-write-below-cast-less : (t : ℕ) → write-below-lts.Need-cast-less (
-  node-at-reads.Asked,
-  node-at-reads.Learnt,
-  get-reads.Asked,
-  get-reads.Learnt,
-  write-leaf-reads.Asked,
-  write-leaf-reads.Learnt,
-  write-below-below t,
-  write-below.Post,
-) (write-below-at t) write-below.Post
-write-below-cast-less t c = omega arith
-
--- src/lib.rt:59:35
-write-below-add-write-below : (t : ℕ) → write-below-lts.Need-add-write-below (
-  node-at-reads.Asked,
-  node-at-reads.Learnt,
-  get-reads.Asked,
-  get-reads.Learnt,
-  write-leaf-reads.Asked,
-  write-leaf-reads.Learnt,
-  write-below-below t,
-  write-below.Post,
-) (write-below-at t) write-below.Post
-write-below-add-write-below t c = omega (arith, rows.in-rows (words (c .before .before .before .before .before .before .before .before .args .image .now)) (c .before .before .before .before .before .before .before .before .args .s) (c .before .before .before .before .before .before .before .before .pre .1 .0) (c .before .before .before .before .before .before .before .before .args .k) (c .before .before .before .before .before .before .before .before .args .lo) (length (c .before .before .before .before .before .before .before .before .args .out .now)) (c .before .before .before .before .before .before .before .before .pre .1 .1), (c .before .before .before .before .before .before .before .before .pre .1 .0) .range .nodes-to, (c .before .before .before .before .before .before .before .before .pre .1 .0) .range .cap-to)
-
--- src/lib.rt:59:9
-write-below-write-below-requires : (t : ℕ) → write-below-lts.Need-write-below-requires (
-  node-at-reads.Asked,
-  node-at-reads.Learnt,
-  get-reads.Asked,
-  get-reads.Learnt,
-  write-leaf-reads.Asked,
-  write-leaf-reads.Learnt,
-  write-below-below t,
-  write-below.Post,
-) (write-below-at t) write-below.Post
-write-below-write-below-requires t c κs = let b = rows.at-branch (words (c .before .before .before .before .before .before .before .before .before .args .image .now)) (c .before .before .before .before .before .before .before .before .before .args .s) (c .before .before .before .before .before .before .before .before .before .pre .1 .0) (c .before .before .before .before .before .before .before .before .before .args .k) (c .before .before .before .before .before .before .before .before .before .args .lo) (length (c .before .before .before .before .before .before .before .before .before .args .out .now)) (c .before .before .before .before .before .before .before .before .before .pre .1 .1) (λ z. omega (arith, c .before .before .before .before .if1 .left, c .before .before .before .before .before .get .ensures, ap (λ (j : ℕ). getD (words (c .before .before .before .before .before .before .before .before .before .args .image .now)) j 0) (c .before .before .before .before .before .before .node-at .ensures), z)) in (omega (arith, c .before .before .before .before .before .before .before .before .before .pre .0, b .count-is, b .less-count, b .some-other), ((c .before .before .before .before .before .before .before .before .before .pre .1 .0), rows.less-here (words (c .before .before .before .before .before .before .before .before .before .args .image .now)) (c .before .before .before .before .before .before .before .before .before .args .s) (c .before .before .before .before .before .before .before .before .before .pre .1 .0) (c .before .before .before .before .before .before .before .before .before .args .k) (c .before .before .before .before .before .before .before .before .before .args .lo) (length (c .before .before .before .before .before .before .before .before .before .args .out .now)) (c .before .before .before .before .before .before .before .before .before .pre .1 .1) b))
-
--- src/lib.rt:60:14
-write-below-mul-at : (t : ℕ) → write-below-lts.Need-mul-at (
-  node-at-reads.Asked,
-  node-at-reads.Learnt,
-  get-reads.Asked,
-  get-reads.Learnt,
-  write-leaf-reads.Asked,
-  write-leaf-reads.Learnt,
-  write-below-below t,
-  write-below.Post,
-) (write-below-at t) write-below.Post
-write-below-mul-at t c = let b = rows.at-branch (words (c .before .before .before .before .before .before .before .before .before .before .before .before .args .image .now)) (c .before .before .before .before .before .before .before .before .before .before .before .before .args .s) (c .before .before .before .before .before .before .before .before .before .before .before .before .pre .1 .0) (c .before .before .before .before .before .before .before .before .before .before .before .before .args .k) (c .before .before .before .before .before .before .before .before .before .before .before .before .args .lo) (length (c .before .before .before .before .before .before .before .before .before .before .before .before .args .out .now)) (c .before .before .before .before .before .before .before .before .before .before .before .before .pre .1 .1) (λ z. omega (arith, c .before .before .before .before .before .before .before .if1 .left, c .before .before .before .before .before .before .before .before .get .ensures, ap (λ (j : ℕ). getD (words (c .before .before .before .before .before .before .before .before .before .before .before .before .args .image .now)) j 0) (c .before .before .before .before .before .before .before .before .before .node-at .ensures), z)) in omega (arith, rows.inside (words (c .before .before .before .before .before .before .before .before .before .before .before .before .args .image .now)) (c .before .before .before .before .before .before .before .before .before .before .before .before .args .s) (c .before .before .before .before .before .before .before .before .before .before .before .before .pre .1 .0) (c .before .before .before .before .before .before .before .before .before .before .before .before .args .k) (c .before .before .before .before .before .before .before .before .before .before .before .before .args .lo) (c .before .before .before .before .before .before .before .before .before .before .before .before .args .out .now) (c .before .before .before .before .before .before .before .before .before .before .before .before .pre .1 .1) b (c .before .before .write-below .last .1 .1 .1 .1 .0) (c .before .before .write-below .result) (c .before .before .write-below .ensures), rows.same-room (words (c .before .before .before .before .before .before .before .before .before .before .before .before .args .image .now)) (c .before .before .before .before .before .before .before .before .before .before .before .before .args .s) (c .before .before .before .before .before .before .before .before .before .before .before .before .pre .1 .0) (c .before .before .before .before .before .before .before .before .before .before .before .before .args .k) (c .before .before .before .before .before .before .before .before .before .before .before .before .args .lo) (c .before .before .before .before .before .before .before .before .before .before .before .before .args .out .now) (c .before .before .before .before .before .before .before .before .before .before .before .before .pre .1 .1) b (c .before .before .write-below .last .1 .1 .1 .1 .0) (c .before .before .write-below .result) (c .before .before .write-below .ensures))
-
--- src/lib.rt:61:31
-write-below-add-write-below-2 : (t : ℕ) → write-below-lts.Need-add-write-below-2 (
-  node-at-reads.Asked,
-  node-at-reads.Learnt,
-  get-reads.Asked,
-  get-reads.Learnt,
-  write-leaf-reads.Asked,
-  write-leaf-reads.Learnt,
-  write-below-below t,
-  write-below.Post,
-) (write-below-at t) write-below.Post
-write-below-add-write-below-2 t c = omega (arith, rows.in-rows (words (c .before .before .before .before .before .before .before .before .before .before .before .before .args .image .now)) (c .before .before .before .before .before .before .before .before .before .before .before .before .args .s) (c .before .before .before .before .before .before .before .before .before .before .before .before .pre .1 .0) (c .before .before .before .before .before .before .before .before .before .before .before .before .args .k) (c .before .before .before .before .before .before .before .before .before .before .before .before .args .lo) (length (c .before .before .before .before .before .before .before .before .before .before .before .before .args .out .now)) (c .before .before .before .before .before .before .before .before .before .before .before .before .pre .1 .1), (c .before .before .before .before .before .before .before .before .before .before .before .before .pre .1 .0) .range .nodes-to, (c .before .before .before .before .before .before .before .before .before .before .before .before .pre .1 .0) .range .cap-to)
-
--- src/lib.rt:61:31
-write-below-add-write-below-3 : (t : ℕ) → write-below-lts.Need-add-write-below-3 (
-  node-at-reads.Asked,
-  node-at-reads.Learnt,
-  get-reads.Asked,
-  get-reads.Learnt,
-  write-leaf-reads.Asked,
-  write-leaf-reads.Learnt,
-  write-below-below t,
-  write-below.Post,
-) (write-below-at t) write-below.Post
-write-below-add-write-below-3 t c = let b = rows.at-branch (words (c .before .before .before .before .before .before .before .before .before .before .before .before .args .image .now)) (c .before .before .before .before .before .before .before .before .before .before .before .before .args .s) (c .before .before .before .before .before .before .before .before .before .before .before .before .pre .1 .0) (c .before .before .before .before .before .before .before .before .before .before .before .before .args .k) (c .before .before .before .before .before .before .before .before .before .before .before .before .args .lo) (length (c .before .before .before .before .before .before .before .before .before .before .before .before .args .out .now)) (c .before .before .before .before .before .before .before .before .before .before .before .before .pre .1 .1) (λ z. omega (arith, c .before .before .before .before .before .before .before .if1 .left, c .before .before .before .before .before .before .before .before .get .ensures, ap (λ (j : ℕ). getD (words (c .before .before .before .before .before .before .before .before .before .before .before .before .args .image .now)) j 0) (c .before .before .before .before .before .before .before .before .before .node-at .ensures), z)) in omega (arith, (c .before .before .before .before .before .before .get3 .ensures ∙ ap (λ (j : ℕ). getD (words (c .before .before .before .before .before .before .before .before .before .before .before .before .args .image .now)) (at.skipAt j) 0) (c .before .before .before .before .before .before .before .before .before .node-at .ensures)), b .skip-is, b .less-inside, (c .before .before .before .before .before .before .before .before .before .before .before .before .pre .1 .0) .range .nodes-to, (c .before .before .before .before .before .before .before .before .before .before .before .before .pre .1 .0) .range .cap-to)
-
--- src/lib.rt:61:45
-write-below-add-write-below-4 : (t : ℕ) → write-below-lts.Need-add-write-below-4 (
-  node-at-reads.Asked,
-  node-at-reads.Learnt,
-  get-reads.Asked,
-  get-reads.Learnt,
-  write-leaf-reads.Asked,
-  write-leaf-reads.Learnt,
-  write-below-below t,
-  write-below.Post,
-) (write-below-at t) write-below.Post
-write-below-add-write-below-4 t c = let b = rows.at-branch (words (c .before .before .before .before .before .before .before .before .before .before .before .before .args .image .now)) (c .before .before .before .before .before .before .before .before .before .before .before .before .args .s) (c .before .before .before .before .before .before .before .before .before .before .before .before .pre .1 .0) (c .before .before .before .before .before .before .before .before .before .before .before .before .args .k) (c .before .before .before .before .before .before .before .before .before .before .before .before .args .lo) (length (c .before .before .before .before .before .before .before .before .before .before .before .before .args .out .now)) (c .before .before .before .before .before .before .before .before .before .before .before .before .pre .1 .1) (λ z. omega (arith, c .before .before .before .before .before .before .before .if1 .left, c .before .before .before .before .before .before .before .before .get .ensures, ap (λ (j : ℕ). getD (words (c .before .before .before .before .before .before .before .before .before .before .before .before .args .image .now)) j 0) (c .before .before .before .before .before .before .before .before .before .node-at .ensures), z)) in omega (arith, (c .before .before .before .before .get4 .ensures ∙ ap (λ (j : ℕ). getD (words (c .before .before .before .before .before .before .before .before .before .before .before .before .args .image .now)) (at.countAt (j + at.nodeWidth (c .before .before .before .before .before .before .before .before .before .before .before .before .args .s .variables))) 0) (c .before .before .before .before .before .before .before .before .before .node-at .ensures)), b .passed, b .few, (c .before .before .before .before .before .before .before .before .before .before .before .before .pre .1 .0) .range .few, (c .before .before .before .before .before .before .before .before .before .before .before .before .pre .1 .0) .range .cap-to)
-
--- src/lib.rt:61:56
-write-below-sub-write-below : (t : ℕ) → write-below-lts.Need-sub-write-below (
-  node-at-reads.Asked,
-  node-at-reads.Learnt,
-  get-reads.Asked,
-  get-reads.Learnt,
-  write-leaf-reads.Asked,
-  write-leaf-reads.Learnt,
-  write-below-below t,
-  write-below.Post,
-) (write-below-at t) write-below.Post
-write-below-sub-write-below t c = let b = rows.at-branch (words (c .before .before .before .before .before .before .before .before .before .before .before .before .args .image .now)) (c .before .before .before .before .before .before .before .before .before .before .before .before .args .s) (c .before .before .before .before .before .before .before .before .before .before .before .before .pre .1 .0) (c .before .before .before .before .before .before .before .before .before .before .before .before .args .k) (c .before .before .before .before .before .before .before .before .before .before .before .before .args .lo) (length (c .before .before .before .before .before .before .before .before .before .before .before .before .args .out .now)) (c .before .before .before .before .before .before .before .before .before .before .before .before .pre .1 .1) (λ z. omega (arith, c .before .before .before .before .before .before .before .if1 .left, c .before .before .before .before .before .before .before .before .get .ensures, ap (λ (j : ℕ). getD (words (c .before .before .before .before .before .before .before .before .before .before .before .before .args .image .now)) j 0) (c .before .before .before .before .before .before .before .before .before .node-at .ensures), z)) in rows.inside (words (c .before .before .before .before .before .before .before .before .before .before .before .before .args .image .now)) (c .before .before .before .before .before .before .before .before .before .before .before .before .args .s) (c .before .before .before .before .before .before .before .before .before .before .before .before .pre .1 .0) (c .before .before .before .before .before .before .before .before .before .before .before .before .args .k) (c .before .before .before .before .before .before .before .before .before .before .before .before .args .lo) (c .before .before .before .before .before .before .before .before .before .before .before .before .args .out .now) (c .before .before .before .before .before .before .before .before .before .before .before .before .pre .1 .1) b (c .before .before .write-below .last .1 .1 .1 .1 .0) (c .before .before .write-below .result) (c .before .before .write-below .ensures)
-
--- src/lib.rt:61:56
-write-below-part-write-below-start : (t : ℕ) → write-below-lts.Need-part-write-below-start (
-  node-at-reads.Asked,
-  node-at-reads.Learnt,
-  get-reads.Asked,
-  get-reads.Learnt,
-  write-leaf-reads.Asked,
-  write-leaf-reads.Learnt,
-  write-below-below t,
-  write-below.Post,
-) (write-below-at t) write-below.Post
-write-below-part-write-below-start t c = let b = rows.at-branch (words (c .before .before .before .before .before .before .before .before .before .before .before .before .args .image .now)) (c .before .before .before .before .before .before .before .before .before .before .before .before .args .s) (c .before .before .before .before .before .before .before .before .before .before .before .before .pre .1 .0) (c .before .before .before .before .before .before .before .before .before .before .before .before .args .k) (c .before .before .before .before .before .before .before .before .before .before .before .before .args .lo) (length (c .before .before .before .before .before .before .before .before .before .before .before .before .args .out .now)) (c .before .before .before .before .before .before .before .before .before .before .before .before .pre .1 .1) (λ z. omega (arith, c .before .before .before .before .before .before .before .if1 .left, c .before .before .before .before .before .before .before .before .get .ensures, ap (λ (j : ℕ). getD (words (c .before .before .before .before .before .before .before .before .before .before .before .before .args .image .now)) j 0) (c .before .before .before .before .before .before .before .before .before .node-at .ensures), z)) in rows.inside (words (c .before .before .before .before .before .before .before .before .before .before .before .before .args .image .now)) (c .before .before .before .before .before .before .before .before .before .before .before .before .args .s) (c .before .before .before .before .before .before .before .before .before .before .before .before .pre .1 .0) (c .before .before .before .before .before .before .before .before .before .before .before .before .args .k) (c .before .before .before .before .before .before .before .before .before .before .before .before .args .lo) (c .before .before .before .before .before .before .before .before .before .before .before .before .args .out .now) (c .before .before .before .before .before .before .before .before .before .before .before .before .pre .1 .1) b (c .before .before .write-below .last .1 .1 .1 .1 .0) (c .before .before .write-below .result) (c .before .before .write-below .ensures)
-
--- src/lib.rt:61:56
-write-below-part-write-below-end : (t : ℕ) → write-below-lts.Need-part-write-below-end (
-  node-at-reads.Asked,
-  node-at-reads.Learnt,
-  get-reads.Asked,
-  get-reads.Learnt,
-  write-leaf-reads.Asked,
-  write-leaf-reads.Learnt,
-  write-below-below t,
-  write-below.Post,
-) (write-below-at t) write-below.Post
-write-below-part-write-below-end t c = search needs
-
--- src/lib.rt:61:9
-write-below-write-below-requires-2 : (t : ℕ) → write-below-lts.Need-write-below-requires-2 (
-  node-at-reads.Asked,
-  node-at-reads.Learnt,
-  get-reads.Asked,
-  get-reads.Learnt,
-  write-leaf-reads.Asked,
-  write-leaf-reads.Learnt,
-  write-below-below t,
-  write-below.Post,
-) (write-below-at t) write-below.Post
-write-below-write-below-requires-2 t c κs = let b = rows.at-branch (words (c .before .before .before .before .before .before .before .before .before .before .before .before .before .args .image .now)) (c .before .before .before .before .before .before .before .before .before .before .before .before .before .args .s) (c .before .before .before .before .before .before .before .before .before .before .before .before .before .pre .1 .0) (c .before .before .before .before .before .before .before .before .before .before .before .before .before .args .k) (c .before .before .before .before .before .before .before .before .before .before .before .before .before .args .lo) (length (c .before .before .before .before .before .before .before .before .before .before .before .before .before .args .out .now)) (c .before .before .before .before .before .before .before .before .before .before .before .before .before .pre .1 .1) (λ z. omega (arith, c .before .before .before .before .before .before .before .before .if1 .left, c .before .before .before .before .before .before .before .before .before .get .ensures, ap (λ (j : ℕ). getD (words (c .before .before .before .before .before .before .before .before .before .before .before .before .before .args .image .now)) j 0) (c .before .before .before .before .before .before .before .before .before .before .node-at .ensures), z)) in (omega (arith, c .before .before .before .before .before .before .before .before .before .before .before .before .before .pre .0, b .count-is, b .other-count, b .some-less, ap (λ (j : ℕ). getD (words (c .before .before .before .before .before .before .before .before .before .before .before .before .before .args .image .now)) (at.countAt (at.nodeAt (c .before .before .before .before .before .before .before .before .before .before .before .before .before .args .s) ((c .before .before .before .before .before .before .before .before .before .before .before .before .before .args .k) + 1 + j))) 0) ((c .before .before .before .before .before .before .before .get3 .ensures ∙ ap (λ (j : ℕ). getD (words (c .before .before .before .before .before .before .before .before .before .before .before .before .before .args .image .now)) (at.skipAt j) 0) (c .before .before .before .before .before .before .before .before .before .before .node-at .ensures)) ∙ b .skip-is)), ((c .before .before .before .before .before .before .before .before .before .before .before .before .before .pre .1 .0), rows.second-here (words (c .before .before .before .before .before .before .before .before .before .before .before .before .before .args .image .now)) (c .before .before .before .before .before .before .before .before .before .before .before .before .before .args .s) (c .before .before .before .before .before .before .before .before .before .before .before .before .before .pre .1 .0) (c .before .before .before .before .before .before .before .before .before .before .before .before .before .args .k) (c .before .before .before .before .before .before .before .before .before .before .before .before .before .args .lo) (c .before .before .before .before .before .before .before .before .before .before .before .before .before .args .out .now) (c .before .before .before .before .before .before .before .before .before .before .before .before .before .pre .1 .1) b (c .before .before .before .write-below .last .1 .1 .1 .1 .0) (c .before .before .before .write-below .result) (c .before .before .before .write-below .ensures) (c .before .before .before .before .before .before .before .get3 .result) (c .before .before .before .before .before .get4 .result) (c .before .before .before .before .before .before .before .get3 .ensures ∙ ap (λ (j : ℕ). getD (words (c .before .before .before .before .before .before .before .before .before .before .before .before .before .args .image .now)) (at.skipAt j) 0) (c .before .before .before .before .before .before .before .before .before .before .node-at .ensures)) (c .before .before .before .before .before .get4 .ensures ∙ ap (λ (j : ℕ). getD (words (c .before .before .before .before .before .before .before .before .before .before .before .before .before .args .image .now)) (at.countAt (j + at.nodeWidth (c .before .before .before .before .before .before .before .before .before .before .before .before .before .args .s .variables))) 0) (c .before .before .before .before .before .before .before .before .before .before .node-at .ensures))))
-
--- src/lib.rt:61:5
-write-below-add-result : (t : ℕ) → write-below-lts.Need-add-result (
-  node-at-reads.Asked,
-  node-at-reads.Learnt,
-  get-reads.Asked,
-  get-reads.Learnt,
-  write-leaf-reads.Asked,
-  write-leaf-reads.Learnt,
-  write-below-below t,
-  write-below.Post,
-) (write-below-at t) write-below.Post
-write-below-add-result t c = let b = rows.at-branch (words (c .before .before .before .before .before .before .before .before .before .before .before .before .before .before .before .before .args .image .now)) (c .before .before .before .before .before .before .before .before .before .before .before .before .before .before .before .before .args .s) (c .before .before .before .before .before .before .before .before .before .before .before .before .before .before .before .before .pre .1 .0) (c .before .before .before .before .before .before .before .before .before .before .before .before .before .before .before .before .args .k) (c .before .before .before .before .before .before .before .before .before .before .before .before .before .before .before .before .args .lo) (length (c .before .before .before .before .before .before .before .before .before .before .before .before .before .before .before .before .args .out .now)) (c .before .before .before .before .before .before .before .before .before .before .before .before .before .before .before .before .pre .1 .1) (λ z. omega (arith, c .before .before .before .before .before .before .before .before .before .before .before .if1 .left, c .before .before .before .before .before .before .before .before .before .before .before .before .get .ensures, ap (λ (j : ℕ). getD (words (c .before .before .before .before .before .before .before .before .before .before .before .before .before .before .before .before .args .image .now)) j 0) (c .before .before .before .before .before .before .before .before .before .before .before .before .before .node-at .ensures), z)) in omega (arith, rows.few-words (words (c .before .before .before .before .before .before .before .before .before .before .before .before .before .before .before .before .args .image .now)) (c .before .before .before .before .before .before .before .before .before .before .before .before .before .before .before .before .args .s) (c .before .before .before .before .before .before .before .before .before .before .before .before .before .before .before .before .pre .1 .0) (c .before .before .before .before .before .before .before .before .before .before .before .before .before .before .before .before .args .k) (c .before .before .before .before .before .before .before .before .before .before .before .before .before .before .before .before .args .lo) (c .before .before .before .before .before .before .before .before .before .before .before .before .before .before .before .before .args .out .now) (c .before .before .before .before .before .before .before .before .before .before .before .before .before .before .before .before .pre .1 .1) b (c .before .before .before .before .before .before .write-below .last .1 .1 .1 .1 .0) (c .before .before .before .before .before .before .write-below .result) (c .before .before .before .before .before .before .write-below .ensures) (c .before .before .before .before .before .before .before .before .before .before .get3 .result) (c .before .before .before .before .before .before .before .before .get4 .result) (c .before .before .before .before .before .before .before .before .before .before .get3 .ensures ∙ ap (λ (j : ℕ). getD (words (c .before .before .before .before .before .before .before .before .before .before .before .before .before .before .before .before .args .image .now)) (at.skipAt j) 0) (c .before .before .before .before .before .before .before .before .before .before .before .before .before .node-at .ensures)) (c .before .before .before .before .before .before .before .before .get4 .ensures ∙ ap (λ (j : ℕ). getD (words (c .before .before .before .before .before .before .before .before .before .before .before .before .before .before .before .before .args .image .now)) (at.countAt (j + at.nodeWidth (c .before .before .before .before .before .before .before .before .before .before .before .before .before .before .before .before .args .s .variables))) 0) (c .before .before .before .before .before .before .before .before .before .before .before .before .before .node-at .ensures)) (c .before .before .write-below2 .last .1 .1 .1 .1 .0) (c .before .before .write-below2 .result) (c .before .before .write-below2 .ensures), c .before .before .before .before .before .before .before .before .before .before .before .before .before .before .before .before .good)
-
--- src/lib.rt:47:1
-write-below-same-length-2 : (t : ℕ) → write-below-lts.Need-same-length-2 (
-  node-at-reads.Asked,
-  node-at-reads.Learnt,
-  get-reads.Asked,
-  get-reads.Learnt,
-  write-leaf-reads.Asked,
-  write-leaf-reads.Learnt,
-  write-below-below t,
-  write-below.Post,
-) (write-below-at t) write-below.Post
-write-below-same-length-2 t c = let b = rows.at-branch (words (c .before .before .before .before .before .before .before .before .before .before .before .before .before .before .before .before .args .image .now)) (c .before .before .before .before .before .before .before .before .before .before .before .before .before .before .before .before .args .s) (c .before .before .before .before .before .before .before .before .before .before .before .before .before .before .before .before .pre .1 .0) (c .before .before .before .before .before .before .before .before .before .before .before .before .before .before .before .before .args .k) (c .before .before .before .before .before .before .before .before .before .before .before .before .before .before .before .before .args .lo) (length (c .before .before .before .before .before .before .before .before .before .before .before .before .before .before .before .before .args .out .now)) (c .before .before .before .before .before .before .before .before .before .before .before .before .before .before .before .before .pre .1 .1) (λ z. omega (arith, c .before .before .before .before .before .before .before .before .before .before .before .if1 .left, c .before .before .before .before .before .before .before .before .before .before .before .before .get .ensures, ap (λ (j : ℕ). getD (words (c .before .before .before .before .before .before .before .before .before .before .before .before .before .before .before .before .args .image .now)) j 0) (c .before .before .before .before .before .before .before .before .before .before .before .before .before .node-at .ensures), z)) in rows.branch-long (words (c .before .before .before .before .before .before .before .before .before .before .before .before .before .before .before .before .args .image .now)) (c .before .before .before .before .before .before .before .before .before .before .before .before .before .before .before .before .args .s) (c .before .before .before .before .before .before .before .before .before .before .before .before .before .before .before .before .pre .1 .0) (c .before .before .before .before .before .before .before .before .before .before .before .before .before .before .before .before .args .k) (c .before .before .before .before .before .before .before .before .before .before .before .before .before .before .before .before .args .lo) (c .before .before .before .before .before .before .before .before .before .before .before .before .before .before .before .before .args .out .now) (c .before .before .before .before .before .before .before .before .before .before .before .before .before .before .before .before .pre .1 .1) b (c .before .before .before .before .before .before .write-below .last .1 .1 .1 .1 .0) (c .before .before .before .before .before .before .write-below .result) (c .before .before .before .before .before .before .write-below .ensures) (c .before .before .before .before .before .before .before .before .before .before .get3 .result) (c .before .before .before .before .before .before .before .before .get4 .result) (c .before .before .before .before .before .before .before .before .before .before .get3 .ensures ∙ ap (λ (j : ℕ). getD (words (c .before .before .before .before .before .before .before .before .before .before .before .before .before .before .before .before .args .image .now)) (at.skipAt j) 0) (c .before .before .before .before .before .before .before .before .before .before .before .before .before .node-at .ensures)) (c .before .before .before .before .before .before .before .before .get4 .ensures ∙ ap (λ (j : ℕ). getD (words (c .before .before .before .before .before .before .before .before .before .before .before .before .before .before .before .before .args .image .now)) (at.countAt (j + at.nodeWidth (c .before .before .before .before .before .before .before .before .before .before .before .before .before .before .before .before .args .s .variables))) 0) (c .before .before .before .before .before .before .before .before .before .before .before .before .before .node-at .ensures)) (c .before .before .write-below2 .last .1 .1 .1 .1 .0) (c .before .before .write-below2 .result) (c .before .before .write-below2 .ensures)
-
--- src/lib.rt:47:1
-write-below-returns-2 : (t : ℕ) → write-below-lts.Need-returns-2 (
-  node-at-reads.Asked,
-  node-at-reads.Learnt,
-  get-reads.Asked,
-  get-reads.Learnt,
-  write-leaf-reads.Asked,
-  write-leaf-reads.Learnt,
-  write-below-below t,
-  write-below.Post,
-) (write-below-at t) write-below.Post
-write-below-returns-2 t c = λ h. let b = rows.at-branch (words (c .before .before .before .before .before .before .before .before .before .before .before .before .before .before .before .before .args .image .now)) (c .before .before .before .before .before .before .before .before .before .before .before .before .before .before .before .before .args .s) (c .before .before .before .before .before .before .before .before .before .before .before .before .before .before .before .before .pre .1 .0) (c .before .before .before .before .before .before .before .before .before .before .before .before .before .before .before .before .args .k) (c .before .before .before .before .before .before .before .before .before .before .before .before .before .before .before .before .args .lo) (length (c .before .before .before .before .before .before .before .before .before .before .before .before .before .before .before .before .args .out .now)) h (λ z. omega (arith, c .before .before .before .before .before .before .before .before .before .before .before .if1 .left, c .before .before .before .before .before .before .before .before .before .before .before .before .get .ensures, ap (λ (j : ℕ). getD (words (c .before .before .before .before .before .before .before .before .before .before .before .before .before .before .before .before .args .image .now)) j 0) (c .before .before .before .before .before .before .before .before .before .before .before .before .before .node-at .ensures), z)) in rows.branch-below (words (c .before .before .before .before .before .before .before .before .before .before .before .before .before .before .before .before .args .image .now)) (c .before .before .before .before .before .before .before .before .before .before .before .before .before .before .before .before .args .s) (c .before .before .before .before .before .before .before .before .before .before .before .before .before .before .before .before .pre .1 .0) (c .before .before .before .before .before .before .before .before .before .before .before .before .before .before .before .before .args .k) (c .before .before .before .before .before .before .before .before .before .before .before .before .before .before .before .before .args .lo) (c .before .before .before .before .before .before .before .before .before .before .before .before .before .before .before .before .args .out .now) h b (c .before .before .before .before .before .before .write-below .last .1 .1 .1 .1 .0) (c .before .before .before .before .before .before .write-below .result) (c .before .before .before .before .before .before .write-below .ensures) (c .before .before .before .before .before .before .before .before .before .before .get3 .result) (c .before .before .before .before .before .before .before .before .get4 .result) (c .before .before .before .before .before .before .before .before .before .before .get3 .ensures ∙ ap (λ (j : ℕ). getD (words (c .before .before .before .before .before .before .before .before .before .before .before .before .before .before .before .before .args .image .now)) (at.skipAt j) 0) (c .before .before .before .before .before .before .before .before .before .before .before .before .before .node-at .ensures)) (c .before .before .before .before .before .before .before .before .get4 .ensures ∙ ap (λ (j : ℕ). getD (words (c .before .before .before .before .before .before .before .before .before .before .before .before .before .before .before .before .args .image .now)) (at.countAt (j + at.nodeWidth (c .before .before .before .before .before .before .before .before .before .before .before .before .before .before .before .before .args .s .variables))) 0) (c .before .before .before .before .before .before .before .before .before .before .before .before .before .node-at .ensures)) (c .before .before .write-below2 .last .1 .1 .1 .1 .0) (c .before .before .write-below2 .result) (c .before .before .write-below2 .ensures)
-
-pub +write-below-spec : {M : Type 1} → statement M
-+write-below-spec = close μ-write-below λ t. write-below-lts.spec (
+abbrev claims : ℕ → write-below-lts.Claims
+claims t = (
   node-at-reads.Asked,
   node-at-reads.Learnt,
   get-reads.Asked,
@@ -425,6 +43,400 @@ pub +write-below-spec : {M : Type 1} → statement M
   write-below-below t,
   write-below.Post,
 )
+
+-- src/lib.rt:52:9
+write-below-node-at-requires : (t : ℕ) → write-below-lts.Need-node-at-requires (claims t) (write-below-at t) write-below.Post
+write-below-node-at-requires t c κs =
+    let a = c .before .before in (
+      (a .pre .1 .0) .range,
+      omega (
+        arith,
+        rows.in-rows (words (a .args .image .now)) (a .args .s) (a .pre .1 .0) (a .args .k) (a .args .lo) (length (a .args .out .now))
+            (a .pre .1 .1),
+        (a .pre .1 .0) .range .nodes-to,
+        (a .pre .1 .0) .range .cap-to,
+      ),
+    )
+
+-- src/lib.rt:53:8
+write-below-get-requires : (t : ℕ) → write-below-lts.Need-get-requires (claims t) (write-below-at t) write-below.Post
+write-below-get-requires t c κs =
+    let a = c .before .before .before in
+    omega (
+      arith,
+      c .node-at .ensures,
+      node-room (a .args .image .now) (a .args .s) (a .pre .1 .0) (a .args .k)
+          (rows.in-rows (words (a .args .image .now)) (a .args .s) (a .pre .1 .0) (a .args .k) (a .args .lo) (length (a .args .out .now)) (a .pre .1 .1)),
+      size-small (a .args .s) ((a .pre .1 .0) .range),
+      (a .pre .1 .0) .range .vars-to,
+    )
+
+-- src/lib.rt:54:59
+write-below-add-get : (t : ℕ) → write-below-lts.Need-add-get (claims t) (write-below-at t) write-below.Post
+write-below-add-get t c =
+    let a = c .before .before .before .before .before in
+    omega (
+      arith,
+      c .before .before .node-at .ensures,
+      node-room (a .args .image .now) (a .args .s) (a .pre .1 .0) (a .args .k)
+          (rows.in-rows (words (a .args .image .now)) (a .args .s) (a .pre .1 .0) (a .args .k) (a .args .lo) (length (a .args .out .now)) (a .pre .1 .1)),
+      size-small (a .args .s) ((a .pre .1 .0) .range),
+      (a .pre .1 .0) .range .vars-to,
+    )
+
+-- src/lib.rt:54:41
+write-below-get-requires-2 : (t : ℕ) → write-below-lts.Need-get-requires-2 (claims t) (write-below-at t) write-below.Post
+write-below-get-requires-2 t c κs =
+    let a = c .before .before .before .before .before in
+    omega (
+      arith,
+      c .before .before .node-at .ensures,
+      node-room (a .args .image .now) (a .args .s) (a .pre .1 .0) (a .args .k)
+          (rows.in-rows (words (a .args .image .now)) (a .args .s) (a .pre .1 .0) (a .args .k) (a .args .lo) (length (a .args .out .now)) (a .pre .1 .1)),
+      size-small (a .args .s) ((a .pre .1 .0) .range),
+      (a .pre .1 .0) .range .vars-to,
+    )
+
+-- src/lib.rt:54:41
+write-below-cast-write-leaf : (t : ℕ) → write-below-lts.Need-cast-write-leaf (claims t) (write-below-at t) write-below.Post
+write-below-cast-write-leaf t c = omega arith
+
+-- src/lib.rt:54:9
+write-below-write-leaf-requires : (t : ℕ) → write-below-lts.Need-write-leaf-requires (claims t) (write-below-at t) write-below.Post
+write-below-write-leaf-requires t c κs =
+    let b = c .before .before .before .before in
+    let a = b .before .before .before in
+    let W = words (a .args .image .now) in (
+      (a .pre .1 .0),
+      rows.leaf-asked W (a .args .s) (a .pre .1 .0) (a .args .k) (a .args .lo) (length (a .args .out .now)) (a .pre .1 .1) (c .before .get2 .result)
+          (c .before .get2 .ensures ∙ ap (λ (j : ℕ). getD W (at.countAt j) 0) (b .node-at .ensures)),
+    )
+
+-- src/lib.rt:54:9
+write-below-same-length : (t : ℕ) → write-below-lts.Need-same-length (claims t) (write-below-at t) write-below.Post
+write-below-same-length t c =
+    let b = c .before .before .before .before in
+    let d = b .before .before .before in
+    let a = d .before .before .before in
+    let W = words (a .args .image .now) in
+    ap length (c .before .before .write-leaf .ensures .1) ∙ length-pasteW (a .args .out .now) 0 _
+    (omega (
+      arith,
+      rows.leaf-asked W (a .args .s) (a .pre .1 .0) (a .args .k) (a .args .lo) (length (a .args .out .now)) (a .pre .1 .1) (b .get2 .result)
+          (b .get2 .ensures ∙ ap (λ (j : ℕ). getD W (at.countAt j) 0) (d .node-at .ensures)) .1,
+    ))
+
+-- src/lib.rt:54:9
+write-below-returns : (t : ℕ) → write-below-lts.Need-returns (claims t) (write-below-at t) write-below.Post
+write-below-returns t c =
+    let b = c .before .before .before .before in
+    let d = b .before .before .before in
+    let a = d .before .before .before in
+    let W = words (a .args .image .now) in
+    λ h. rows.leaf-below W (a .args .s) (a .pre .1 .0) (a .args .k) (a .args .lo) (a .args .out .now) h _ _ (b .get2 .result)
+    (b .get2 .ensures ∙ ap (λ (j : ℕ). getD W (at.countAt j) 0) (d .node-at .ensures)) (c .before .before .write-leaf .ensures .0) (c .before .before .write-leaf .ensures .1)
+
+-- src/lib.rt:56:34
+write-below-add-get-2 : (t : ℕ) → write-below-lts.Need-add-get-2 (claims t) (write-below-at t) write-below.Post
+write-below-add-get-2 t c =
+    let a = c .before .before .before .before .before in
+    omega (
+      arith,
+      c .before .before .node-at .ensures,
+      node-room (a .args .image .now) (a .args .s) (a .pre .1 .0) (a .args .k)
+          (rows.in-rows (words (a .args .image .now)) (a .args .s) (a .pre .1 .0) (a .args .k) (a .args .lo) (length (a .args .out .now)) (a .pre .1 .1)),
+      size-small (a .args .s) ((a .pre .1 .0) .range),
+      (a .pre .1 .0) .range .vars-to,
+    )
+
+-- src/lib.rt:56:16
+write-below-get-requires-3 : (t : ℕ) → write-below-lts.Need-get-requires-3 (claims t) (write-below-at t) write-below.Post
+write-below-get-requires-3 t c κs =
+    let a = c .before .before .before .before .before in
+    omega (
+      arith,
+      c .before .before .node-at .ensures,
+      node-room (a .args .image .now) (a .args .s) (a .pre .1 .0) (a .args .k)
+          (rows.in-rows (words (a .args .image .now)) (a .args .s) (a .pre .1 .0) (a .args .k) (a .args .lo) (length (a .args .out .now)) (a .pre .1 .1)),
+      size-small (a .args .s) ((a .pre .1 .0) .range),
+      (a .pre .1 .0) .range .vars-to,
+    )
+
+-- src/lib.rt:56:16
+write-below-cast-skip : (t : ℕ) → write-below-lts.Need-cast-skip (claims t) (write-below-at t) write-below.Post
+write-below-cast-skip t c = omega arith
+
+-- src/lib.rt:57:23
+write-below-add-next : (t : ℕ) → write-below-lts.Need-add-next (claims t) (write-below-at t) write-below.Post
+write-below-add-next t c = omega (arith, (c .before .before .before .before .before .before .before .pre .1 .0) .range .vars-to)
+
+-- src/lib.rt:57:16
+write-below-add-next-2 : (t : ℕ) → write-below-lts.Need-add-next-2 (claims t) (write-below-at t) write-below.Post
+write-below-add-next-2 t c =
+    let b = c .before .before .before .before in
+    let a = b .before .before .before in
+    omega (
+      arith,
+      b .node-at .ensures,
+      node-room (a .args .image .now) (a .args .s) (a .pre .1 .0) (a .args .k)
+          (rows.in-rows (words (a .args .image .now)) (a .args .s) (a .pre .1 .0) (a .args .k) (a .args .lo) (length (a .args .out .now)) (a .pre .1 .1)),
+      size-small (a .args .s) ((a .pre .1 .0) .range),
+      (a .pre .1 .0) .range .vars-to,
+    )
+
+-- src/lib.rt:58:34
+write-below-add-get-3 : (t : ℕ) → write-below-lts.Need-add-get-3 (claims t) (write-below-at t) write-below.Post
+write-below-add-get-3 t c =
+    let b = c .before .before .before .before in
+    let a = b .before .before .before in
+    omega (
+      arith,
+      b .node-at .ensures,
+      node-room (a .args .image .now) (a .args .s) (a .pre .1 .0) (a .args .k)
+          (rows.in-rows (words (a .args .image .now)) (a .args .s) (a .pre .1 .0) (a .args .k) (a .args .lo) (length (a .args .out .now)) (a .pre .1 .1)),
+      size-small (a .args .s) ((a .pre .1 .0) .range),
+      (a .pre .1 .0) .range .vars-to,
+    )
+
+-- src/lib.rt:58:16
+write-below-get-requires-4 : (t : ℕ) → write-below-lts.Need-get-requires-4 (claims t) (write-below-at t) write-below.Post
+write-below-get-requires-4 t c κs =
+    let d = c .before .before .before in
+    let f = d .before in
+    let a = f .before .before .before in
+    let W = words (a .args .image .now) in
+    let b = rows.at-branch W (a .args .s) (a .pre .1 .0) (a .args .k) (a .args .lo) (length (a .args .out .now)) (a .pre .1 .1)
+    (λ z. omega (arith, c .before .before .if1 .left, d .get .ensures, ap (λ (j : ℕ). getD W j 0) (f .node-at .ensures), z)) in
+    omega (
+      arith,
+      f .node-at .ensures,
+      node-room (a .args .image .now) (a .args .s) (a .pre .1 .0) (a .args .k)
+          (rows.in-rows W (a .args .s) (a .pre .1 .0) (a .args .k) (a .args .lo) (length (a .args .out .now)) (a .pre .1 .1)),
+      size-small (a .args .s) ((a .pre .1 .0) .range),
+      (a .pre .1 .0) .range .vars-to,
+      node-room (a .args .image .now) (a .args .s) (a .pre .1 .0) ((a .args .k) + 1) (omega (arith, b .less-inside, some-node (b .less))),
+      row-behind (a .args .s) (a .args .k),
+    )
+
+-- src/lib.rt:58:16
+write-below-cast-less : (t : ℕ) → write-below-lts.Need-cast-less (claims t) (write-below-at t) write-below.Post
+write-below-cast-less t c = omega arith
+
+-- src/lib.rt:59:35
+write-below-add-write-below : (t : ℕ) → write-below-lts.Need-add-write-below (claims t) (write-below-at t) write-below.Post
+write-below-add-write-below t c =
+    let a = c .before .before .before .before .before .before .before .before in
+    omega (
+      arith,
+      rows.in-rows (words (a .args .image .now)) (a .args .s) (a .pre .1 .0) (a .args .k) (a .args .lo) (length (a .args .out .now)) (a .pre .1 .1),
+      (a .pre .1 .0) .range .nodes-to,
+      (a .pre .1 .0) .range .cap-to,
+    )
+
+-- src/lib.rt:59:9
+write-below-write-below-requires : (t : ℕ) → write-below-lts.Need-write-below-requires (claims t) (write-below-at t) write-below.Post
+write-below-write-below-requires t c κs =
+    let d = c .before .before .before .before in
+    let f = d .before in
+    let g = f .before in
+    let a = g .before .before .before in
+    let W = words (a .args .image .now) in
+    let b = rows.at-branch W (a .args .s) (a .pre .1 .0) (a .args .k) (a .args .lo) (length (a .args .out .now)) (a .pre .1 .1)
+    (λ z. omega (arith, d .if1 .left, f .get .ensures, ap (λ (j : ℕ). getD W j 0) (g .node-at .ensures), z)) in (
+      omega (arith, a .pre .0, b .count-is, b .less-count, b .some-other),
+      ((a .pre .1 .0), rows.less-here W (a .args .s) (a .pre .1 .0) (a .args .k) (a .args .lo) (length (a .args .out .now)) (a .pre .1 .1) b),
+    )
+
+-- src/lib.rt:60:14
+write-below-mul-at : (t : ℕ) → write-below-lts.Need-mul-at (claims t) (write-below-at t) write-below.Post
+write-below-mul-at t c =
+    let d = c .before .before in
+    let f = d .before .before .before .before .before in
+    let g = f .before in
+    let h = g .before in
+    let a = h .before .before .before in
+    let W = words (a .args .image .now) in
+    let b = rows.at-branch W (a .args .s) (a .pre .1 .0) (a .args .k) (a .args .lo) (length (a .args .out .now)) (a .pre .1 .1)
+    (λ z. omega (arith, f .if1 .left, g .get .ensures, ap (λ (j : ℕ). getD W j 0) (h .node-at .ensures), z)) in
+    omega (
+      arith,
+      a .good,
+      rows.inside W (a .args .s) (a .pre .1 .0) (a .args .k) (a .args .lo) (a .args .out .now) (a .pre .1 .1) b (d .write-below .last .1 .1 .1 .1 .0)
+          (d .write-below .result) (d .write-below .ensures),
+      rows.same-room W (a .args .s) (a .pre .1 .0) (a .args .k) (a .args .lo) (a .args .out .now) (a .pre .1 .1) b
+          (d .write-below .last .1 .1 .1 .1 .0) (d .write-below .result) (d .write-below .ensures),
+    )
+
+-- src/lib.rt:61:31
+write-below-add-write-below-2 : (t : ℕ) → write-below-lts.Need-add-write-below-2 (claims t) (write-below-at t) write-below.Post
+write-below-add-write-below-2 t c =
+    let a = c .before .before .before .before .before .before .before .before .before .before .before .before in
+    omega (
+      arith,
+      rows.in-rows (words (a .args .image .now)) (a .args .s) (a .pre .1 .0) (a .args .k) (a .args .lo) (length (a .args .out .now)) (a .pre .1 .1),
+      (a .pre .1 .0) .range .nodes-to,
+      (a .pre .1 .0) .range .cap-to,
+    )
+
+-- src/lib.rt:61:31
+write-below-add-write-below-3 : (t : ℕ) → write-below-lts.Need-add-write-below-3 (claims t) (write-below-at t) write-below.Post
+write-below-add-write-below-3 t c =
+    let d = c .before .before .before .before .before .before in
+    let f = d .before in
+    let g = f .before in
+    let h = g .before in
+    let a = h .before .before .before in
+    let W = words (a .args .image .now) in
+    let b = rows.at-branch W (a .args .s) (a .pre .1 .0) (a .args .k) (a .args .lo) (length (a .args .out .now)) (a .pre .1 .1)
+    (λ z. omega (arith, f .if1 .left, g .get .ensures, ap (λ (j : ℕ). getD W j 0) (h .node-at .ensures), z)) in
+    omega (arith, (d .get3 .ensures ∙ ap (λ (j : ℕ). getD W (at.skipAt j) 0) (h .node-at .ensures)), b .skip-is, b .less-inside, (a .pre .1 .0) .range .nodes-to, (a .pre .1 .0) .range .cap-to)
+
+-- src/lib.rt:61:45
+write-below-add-write-below-4 : (t : ℕ) → write-below-lts.Need-add-write-below-4 (claims t) (write-below-at t) write-below.Post
+write-below-add-write-below-4 t c =
+    let d = c .before .before .before .before in
+    let f = d .before .before .before in
+    let g = f .before in
+    let h = g .before in
+    let a = h .before .before .before in
+    let W = words (a .args .image .now) in
+    let b = rows.at-branch W (a .args .s) (a .pre .1 .0) (a .args .k) (a .args .lo) (length (a .args .out .now)) (a .pre .1 .1)
+    (λ z. omega (arith, f .if1 .left, g .get .ensures, ap (λ (j : ℕ). getD W j 0) (h .node-at .ensures), z)) in
+    omega (
+      arith,
+      (d .get4 .ensures ∙ ap (λ (j : ℕ). getD W (at.countAt (j + at.nodeWidth (a .args .s .variables))) 0) (h .node-at .ensures)),
+      b .passed,
+      b .few,
+      (a .pre .1 .0) .range .few,
+      (a .pre .1 .0) .range .cap-to,
+    )
+
+-- src/lib.rt:61:56
+write-below-sub-write-below : (t : ℕ) → write-below-lts.Need-sub-write-below (claims t) (write-below-at t) write-below.Post
+write-below-sub-write-below t c =
+    let d = c .before .before in
+    let f = d .before .before .before .before .before in
+    let g = f .before in
+    let h = g .before in
+    let a = h .before .before .before in
+    let W = words (a .args .image .now) in
+    let b = rows.at-branch W (a .args .s) (a .pre .1 .0) (a .args .k) (a .args .lo) (length (a .args .out .now)) (a .pre .1 .1)
+    (λ z. omega (arith, f .if1 .left, g .get .ensures, ap (λ (j : ℕ). getD W j 0) (h .node-at .ensures), z)) in
+    rows.inside W (a .args .s) (a .pre .1 .0) (a .args .k) (a .args .lo) (a .args .out .now) (a .pre .1 .1) b (d .write-below .last .1 .1 .1 .1 .0) (d .write-below .result) (d .write-below .ensures)
+
+-- src/lib.rt:61:56
+write-below-part-write-below-start : (t : ℕ) → write-below-lts.Need-part-write-below-start (claims t) (write-below-at t) write-below.Post
+write-below-part-write-below-start t c =
+    let d = c .before .before in
+    let f = d .before .before .before .before .before in
+    let g = f .before in
+    let h = g .before in
+    let a = h .before .before .before in
+    let W = words (a .args .image .now) in
+    let b = rows.at-branch W (a .args .s) (a .pre .1 .0) (a .args .k) (a .args .lo) (length (a .args .out .now)) (a .pre .1 .1)
+    (λ z. omega (arith, f .if1 .left, g .get .ensures, ap (λ (j : ℕ). getD W j 0) (h .node-at .ensures), z)) in
+    rows.inside W (a .args .s) (a .pre .1 .0) (a .args .k) (a .args .lo) (a .args .out .now) (a .pre .1 .1) b (d .write-below .last .1 .1 .1 .1 .0) (d .write-below .result) (d .write-below .ensures)
+
+-- src/lib.rt:61:56
+write-below-part-write-below-end : (t : ℕ) → write-below-lts.Need-part-write-below-end (claims t) (write-below-at t) write-below.Post
+write-below-part-write-below-end t c = search needs
+
+-- src/lib.rt:61:9
+write-below-write-below-requires-2 : (t : ℕ) → write-below-lts.Need-write-below-requires-2 (claims t) (write-below-at t) write-below.Post
+write-below-write-below-requires-2 t c κs =
+    let d = c .before .before .before in
+    let f = d .before .before in
+    let g = f .before .before in
+    let h = g .before in
+    let i = h .before in
+    let m = i .before in
+    let a = m .before .before .before in
+    let W = words (a .args .image .now) in
+    let b = rows.at-branch W (a .args .s) (a .pre .1 .0) (a .args .k) (a .args .lo) (length (a .args .out .now)) (a .pre .1 .1)
+    (λ z. omega (arith, h .if1 .left, i .get .ensures, ap (λ (j : ℕ). getD W j 0) (m .node-at .ensures), z)) in (
+      omega (
+        arith,
+        a .pre .0,
+        b .count-is,
+        b .other-count,
+        b .some-less,
+        ap (λ (j : ℕ). getD W (at.countAt (at.nodeAt (a .args .s) ((a .args .k) + 1 + j))) 0)
+            ((g .get3 .ensures ∙ ap (λ (j : ℕ). getD W (at.skipAt j) 0) (m .node-at .ensures)) ∙ b .skip-is),
+      ),
+      (
+        (a .pre .1 .0),
+        rows.second-here W (a .args .s) (a .pre .1 .0) (a .args .k) (a .args .lo) (a .args .out .now) (a .pre .1 .1) b
+            (d .write-below .last .1 .1 .1 .1 .0) (d .write-below .result) (d .write-below .ensures) (g .get3 .result) (f .get4 .result)
+            (g .get3 .ensures ∙ ap (λ (j : ℕ). getD W (at.skipAt j) 0) (m .node-at .ensures))
+            (f .get4 .ensures ∙ ap (λ (j : ℕ). getD W (at.countAt (j + at.nodeWidth (a .args .s .variables))) 0) (m .node-at .ensures)),
+      ),
+    )
+
+-- src/lib.rt:61:5
+write-below-add-result : (t : ℕ) → write-below-lts.Need-add-result (claims t) (write-below-at t) write-below.Post
+write-below-add-result t c =
+    let d = c .before .before in
+    let f = d .before .before .before .before in
+    let g = f .before .before in
+    let h = g .before .before in
+    let i = h .before in
+    let m = i .before in
+    let n = m .before in
+    let a = n .before .before .before in
+    let W = words (a .args .image .now) in
+    let b = rows.at-branch W (a .args .s) (a .pre .1 .0) (a .args .k) (a .args .lo) (length (a .args .out .now)) (a .pre .1 .1)
+    (λ z. omega (arith, i .if1 .left, m .get .ensures, ap (λ (j : ℕ). getD W j 0) (n .node-at .ensures), z)) in
+    omega (
+      arith,
+      rows.few-words W (a .args .s) (a .pre .1 .0) (a .args .k) (a .args .lo) (a .args .out .now) (a .pre .1 .1) b (f .write-below .last .1 .1 .1 .1 .0)
+          (f .write-below .result) (f .write-below .ensures) (h .get3 .result) (g .get4 .result)
+          (h .get3 .ensures ∙ ap (λ (j : ℕ). getD W (at.skipAt j) 0) (n .node-at .ensures))
+          (g .get4 .ensures ∙ ap (λ (j : ℕ). getD W (at.countAt (j + at.nodeWidth (a .args .s .variables))) 0) (n .node-at .ensures)) (d .write-below2 .last .1 .1 .1 .1 .0)
+          (d .write-below2 .result) (d .write-below2 .ensures),
+      a .good,
+    )
+
+-- src/lib.rt:47:1
+write-below-same-length-2 : (t : ℕ) → write-below-lts.Need-same-length-2 (claims t) (write-below-at t) write-below.Post
+write-below-same-length-2 t c =
+    let d = c .before .before in
+    let f = d .before .before .before .before in
+    let g = f .before .before in
+    let h = g .before .before in
+    let i = h .before in
+    let m = i .before in
+    let n = m .before in
+    let a = n .before .before .before in
+    let W = words (a .args .image .now) in
+    let b = rows.at-branch W (a .args .s) (a .pre .1 .0) (a .args .k) (a .args .lo) (length (a .args .out .now)) (a .pre .1 .1)
+    (λ z. omega (arith, i .if1 .left, m .get .ensures, ap (λ (j : ℕ). getD W j 0) (n .node-at .ensures), z)) in
+    rows.branch-long W (a .args .s) (a .pre .1 .0) (a .args .k) (a .args .lo) (a .args .out .now) (a .pre .1 .1) b (f .write-below .last .1 .1 .1 .1 .0)
+    (f .write-below .result) (f .write-below .ensures) (h .get3 .result) (g .get4 .result)
+    (h .get3 .ensures ∙ ap (λ (j : ℕ). getD W (at.skipAt j) 0) (n .node-at .ensures))
+    (g .get4 .ensures ∙ ap (λ (j : ℕ). getD W (at.countAt (j + at.nodeWidth (a .args .s .variables))) 0) (n .node-at .ensures)) (d .write-below2 .last .1 .1 .1 .1 .0)
+    (d .write-below2 .result) (d .write-below2 .ensures)
+
+-- src/lib.rt:47:1
+write-below-returns-2 : (t : ℕ) → write-below-lts.Need-returns-2 (claims t) (write-below-at t) write-below.Post
+write-below-returns-2 t c =
+    let d = c .before .before in
+    let f = d .before .before .before .before in
+    let g = f .before .before in
+    let i = g .before .before in
+    let m = i .before in
+    let n = m .before in
+    let p = n .before in
+    let a = p .before .before .before in
+    let W = words (a .args .image .now) in
+    λ h. let b = rows.at-branch W (a .args .s) (a .pre .1 .0) (a .args .k) (a .args .lo) (length (a .args .out .now)) h
+    (λ z. omega (arith, m .if1 .left, n .get .ensures, ap (λ (j : ℕ). getD W j 0) (p .node-at .ensures), z)) in rows.branch-below W (a .args .s) (a .pre .1 .0)
+    (a .args .k) (a .args .lo) (a .args .out .now) h b (f .write-below .last .1 .1 .1 .1 .0) (f .write-below .result) (f .write-below .ensures) (i .get3 .result)
+    (g .get4 .result) (i .get3 .ensures ∙ ap (λ (j : ℕ). getD W (at.skipAt j) 0) (p .node-at .ensures))
+    (g .get4 .ensures ∙ ap (λ (j : ℕ). getD W (at.countAt (j + at.nodeWidth (a .args .s .variables))) 0) (p .node-at .ensures)) (d .write-below2 .last .1 .1 .1 .1 .0)
+    (d .write-below2 .result) (d .write-below2 .ensures)
+
+pub +write-below-spec : {M : Type 1} → statement M
++write-below-spec = close μ-write-below λ t. write-below-lts.spec (claims t)
     (write-below-at t)
     write-below.Post
     (write-below-node-at-requires t)

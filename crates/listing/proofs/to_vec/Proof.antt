@@ -8,7 +8,10 @@ use Rattle.listing.proofs.write_below.Reads as write-below-reads
 
 -- src/lib.rt:95:5
 write-below-requires : tie.Need-write-below-requires
-write-below-requires c κs = let p = (c .before .before .before .pre .0) in (ready-at (c .before .before .before .args .image .now) (c .before .before .before .args .s) (p .state) (p .is) (p .shape), here-at (c .before .before .before .args .image .now) (c .before .before .before .args .s) (p .state) (p .is) (p .shape) _ ((c .before .before .before .pre .1) (p .state) (p .is) (p .shape)))
+write-below-requires c κs =
+    let a = c .before .before .before in
+    let p = (a .pre .0) in
+    (ready-at (a .args .image .now) (a .args .s) (p .state) (p .is) (p .shape), here-at (a .args .image .now) (a .args .s) (p .state) (p .is) (p .shape) _ ((a .pre .1) (p .state) (p .is) (p .shape)))
 
 -- src/lib.rt:90:1
 same-length : tie.Need-same-length
@@ -16,7 +19,9 @@ same-length c = search needs
 
 -- src/lib.rt:90:1
 returns : tie.Need-returns
-returns c = λ st i e. written-at (c .before .before .before .before .before .before .args .image .now) (c .before .before .before .before .before .before .args .s) st i e (c .before .before .before .before .before .before .args .out .now) _ (c .before .before .write-below .result) ((c .before .before .before .before .before .before .pre .1) st i e) (c .before .before .write-below .ensures)
+returns c =
+    let a = c .before .before .before .before .before .before in
+    λ st i e. written-at (a .args .image .now) (a .args .s) st i e (a .args .out .now) _ (c .before .before .write-below .result) ((a .pre .1) st i e) (c .before .before .write-below .ensures)
 
 pub to-vec-spec : {M : Type 1} → statement M
 to-vec-spec = tie.close (tie.spec write-below-requires same-length returns)

@@ -1,12 +1,11 @@
 use native.Mathlib.Omega.{arith}
 use borrow.Author.Needs.{needs}
-use mathlib.Core.Path.{_≡_, refl, sym, ap, _∙_}
+use mathlib.Core.Path.{_≡_, sym, ap, _∙_}
 use Prim.Native.Nat.{_≤_, _*_, _-_, ℕ, _+_}
-use lib.ListN.{length, length-append}
-use Rattle.words.specs.Words.{words, pasteW}
+use lib.ListN.{length}
+use Rattle.words.specs.Words.{words}
 use Rattle.monomial.specs.Monomial.{ended}
 use Rattle.index_image.specs.Rows.{entriesFrom}
-use Rattle.index_image.specs.Walk.{lmIn, Ready}
 use Rattle.index_image.proofs.Places.{place-room}
 use Rattle.index_image.proofs.Bounds.{size-small}
 use Rattle.listing.specs.Listed.{lms}
@@ -36,11 +35,20 @@ loop-holds c = (sym (ap length (none-yet (c .before .before .args .image .now) (
 
 -- src/lib.rt:74:35
 add-get : tie.Need-add-get Inv-loop μ-loop
-add-get c = omega (arith, c .before .before .permutation-at .ensures, c .loop-test .taken, c .before .before .before .before .pre .range .few, c .before .before .before .before .pre .range .cap-to, size-small (c .before .before .before .before .args .s) ((c .before .before .before .before .pre) .range))
+add-get c =
+    let a = c .before .before .before .before in
+    omega (arith, c .before .before .permutation-at .ensures, c .loop-test .taken, a .pre .range .few, a .pre .range .cap-to, size-small (a .args .s) ((a .pre) .range))
 
 -- src/lib.rt:74:17
 get-requires : tie.Need-get-requires Inv-loop μ-loop
-get-requires c κs = omega (arith, c .before .before .permutation-at .ensures, c .loop-test .taken, place-room (c .before .before .before .before .args .image .now) (c .before .before .before .before .args .s) (c .before .before .before .before .pre) ((c .before .loop .i) + 1) (omega (arith, c .loop-test .taken)))
+get-requires c κs =
+    let a = c .before .before .before .before in
+    omega (
+      arith,
+      c .before .before .permutation-at .ensures,
+      c .loop-test .taken,
+      place-room (a .args .image .now) (a .args .s) (a .pre) ((c .before .loop .i) + 1) (omega (arith, c .loop-test .taken)),
+    )
 
 -- src/lib.rt:74:17
 cast-e : tie.Need-cast-e Inv-loop μ-loop
@@ -48,7 +56,12 @@ cast-e c = omega arith
 
 -- src/lib.rt:75:40
 entry-at-requires : tie.Need-entry-at-requires Inv-loop μ-loop
-entry-at-requires c κs = let x = next (c .before .before .before .before .before .args .image .now) (c .before .before .before .before .before .args .s) (c .before .before .before .before .before .pre) 0 (c .before .before .loop .i) _ (c .get .result) (omega (arith, c .before .before .before .permutation-at .ensures)) (omega (arith, c .before .loop-test .taken)) (c .get .ensures) in ((c .before .before .before .before .before .pre) .range, omega (arith, x .small, (c .before .before .before .before .before .pre) .range .few))
+entry-at-requires c κs =
+    let b = c .before .before .before in
+    let a = b .before .before in
+    let x = next (a .args .image .now) (a .args .s) (a .pre) 0 (c .before .before .loop .i) _ (c .get .result) (omega (arith, b .permutation-at .ensures))
+    (omega (arith, c .before .loop-test .taken)) (c .get .ensures) in
+    ((a .pre) .range, omega (arith, x .small, (a .pre) .range .few))
 
 -- src/lib.rt:75:14
 known-at-requires : tie.Need-known-at-requires Inv-loop μ-loop
@@ -56,7 +69,16 @@ known-at-requires c κs = search needs
 
 -- src/lib.rt:75:9
 add-n : tie.Need-add-n Inv-loop μ-loop
-add-n c = let x = next (c .before .before .before .before .before .before .before .args .image .now) (c .before .before .before .before .before .before .before .args .s) (c .before .before .before .before .before .before .before .pre) 0 (c .before .before .before .before .loop .i) _ (c .before .before .get .result) (omega (arith, c .before .before .before .before .before .permutation-at .ensures)) (omega (arith, c .before .before .before .loop-test .taken)) (c .before .before .get .ensures) in let t = lm-taken (c .before .before .before .before .before .before .before .args .image .now) (c .before .before .before .before .before .before .before .args .s) (c .before .before .before .before .before .before .before .pre) (c .before .before .get .result) (c .known-at .result .now) (x .small) (c .known-at .ensures ∙ ap (ended (c .before .before .before .before .before .before .before .args .image .now)) (c .before .entry-at .ensures)) in omega (arith, t .long, lm-short (c .before .before .before .before .before .before .before .args .image .now) (c .before .before .before .before .before .before .before .args .s) (c .before .before .before .before .before .before .before .pre) (c .before .before .get .result) (x .small), c .before .before .before .before .loop .inv .1 .1, c .before .before .before .before .loop .inv .1 .0, (c .before .before .before .before .before .before .before .pre) .range .few, (c .before .before .before .before .before .before .before .pre) .range .cap-to)
+add-n c =
+    let b = c .before .before in
+    let d = b .before in
+    let l = d .before in
+    let f = l .before in
+    let a = f .before .before in
+    let x = next (a .args .image .now) (a .args .s) (a .pre) 0 (l .loop .i) _ (b .get .result) (omega (arith, f .permutation-at .ensures)) (omega (arith, d .loop-test .taken)) (b .get .ensures) in
+    let t = lm-taken (a .args .image .now) (a .args .s) (a .pre) (b .get .result) (c .known-at .result .now) (x .small)
+    (c .known-at .ensures ∙ ap (ended (a .args .image .now)) (c .before .entry-at .ensures)) in
+    omega (arith, t .long, lm-short (a .args .image .now) (a .args .s) (a .pre) (b .get .result) (x .small), l .loop .inv .1 .1, l .loop .inv .1 .0, (a .pre) .range .few, (a .pre) .range .cap-to)
 
 -- src/lib.rt:76:9
 add-i : tie.Need-add-i Inv-loop μ-loop
@@ -68,11 +90,29 @@ loop-less c = omega (arith, c .before .before .before .loop-test .taken)
 
 -- src/lib.rt:73:5
 loop-again : tie.Need-loop-again Inv-loop μ-loop
-loop-again c = let x = next (c .before .before .before .before .before .before .before .args .image .now) (c .before .before .before .before .before .before .before .args .s) (c .before .before .before .before .before .before .before .pre) 0 (c .before .before .before .before .loop .i) _ (c .before .before .get .result) (omega (arith, c .before .before .before .before .before .permutation-at .ensures)) (omega (arith, c .before .before .before .loop-test .taken)) (c .before .before .get .ensures) in let t = lm-taken (c .before .before .before .before .before .before .before .args .image .now) (c .before .before .before .before .before .before .before .args .s) (c .before .before .before .before .before .before .before .pre) (c .before .before .get .result) (c .known-at .result .now) (x .small) (c .known-at .ensures ∙ ap (ended (c .before .before .before .before .before .before .before .args .image .now)) (c .before .entry-at .ensures)) in (omega (arith, x .long, t .long, c .before .before .before .before .loop .inv .0), (omega (arith, c .before .before .before .loop-test .taken), omega (arith, t .long, lm-short (c .before .before .before .before .before .before .before .args .image .now) (c .before .before .before .before .before .before .before .args .s) (c .before .before .before .before .before .before .before .pre) (c .before .before .get .result) (x .small), c .before .before .before .before .loop .inv .1 .1)))
+loop-again c =
+    let b = c .before .before in
+    let d = b .before in
+    let l = d .before in
+    let f = l .before in
+    let a = f .before .before in
+    let x = next (a .args .image .now) (a .args .s) (a .pre) 0 (l .loop .i) _ (b .get .result) (omega (arith, f .permutation-at .ensures)) (omega (arith, d .loop-test .taken)) (b .get .ensures) in
+    let t = lm-taken (a .args .image .now) (a .args .s) (a .pre) (b .get .result) (c .known-at .result .now) (x .small)
+    (c .known-at .ensures ∙ ap (ended (a .args .image .now)) (c .before .entry-at .ensures)) in (
+      omega (arith, x .long, t .long, l .loop .inv .0),
+      (
+        omega (arith, d .loop-test .taken),
+        omega (arith, t .long, lm-short (a .args .image .now) (a .args .s) (a .pre) (b .get .result) (x .small), l .loop .inv .1 .1),
+      ),
+    )
 
 -- src/lib.rt:65:1
 returns : tie.Need-returns Inv-loop μ-loop
-returns c = let e : (c .before .loop .i) ≡ (c .before .before .before .before .args .s .entries) = omega (arith, c .loop-test .left, c .before .loop .inv .1 .0) in (c .before .loop .inv .0) ∙ ap (λ (j : ℕ). length (lms (words (c .before .before .before .before .args .image .now)) (c .before .before .before .before .args .s) (entriesFrom (words (c .before .before .before .before .args .image .now)) (c .before .before .before .before .args .s) 0 j))) e
+returns c =
+    let a = c .before .before .before .before in
+    let W = words (a .args .image .now) in
+    let e : (c .before .loop .i) ≡ (a .args .s .entries) = omega (arith, c .loop-test .left, c .before .loop .inv .1 .0) in
+    (c .before .loop .inv .0) ∙ ap (λ (j : ℕ). length (lms W (a .args .s) (entriesFrom W (a .args .s) 0 j))) e
 
 pub words-of-spec : {M : Type 1} → statement M
 words-of-spec =

@@ -1,12 +1,12 @@
 use native.Mathlib.Omega.{arith}
 use borrow.Author.Needs.{needs}
 use mathlib.Core.Path.{_≡_, refl, sym, ap, _∙_}
-use Prim.Native.Nat.{ℕ, _≤_, _+_, _*_, _-_}
-use lib.ListN.{length, length-append, take, drop, length-take, length-drop}
+use Prim.Native.Nat.{ℕ, _≤_, _+_, _-_}
+use lib.ListN.{length, length-append, length-take, length-drop}
 use Rattle.words.specs.Words.{words, pasteW}
 use Rattle.words.proofs.Laws.{pasteW-nil, length-pasteW}
 use Rattle.index_image.specs.Rows.{entriesFrom}
-use Rattle.index_image.specs.Walk.{lmIn, Ready}
+use Rattle.index_image.specs.Walk.{lmIn}
 use Rattle.index_image.proofs.Places.{place-room}
 use Rattle.index_image.proofs.Bounds.{size-small}
 use Rattle.listing.specs.Listed.{lms}
@@ -20,7 +20,8 @@ use Rattle.listing.proofs.write_monomial.Reads as write-monomial-reads
 use Rattle.words.proofs.get.Reads as get-reads
 
 abbrev Inv-loop : tie.InvT-loop
-Inv-loop image s lo c out₀ p n₀ i₀ out n i = (n ≡ length (lms (words image) s (entriesFrom (words image) s lo i))) × ((i ≤ c) × ((out ≡ pasteW out₀ 0 (lms (words image) s (entriesFrom (words image) s lo i))) × (length out ≡ length out₀)))
+Inv-loop image s lo c out₀ p n₀ i₀ out n i = (n ≡ length (lms (words image) s (entriesFrom (words image) s lo i))) ×
+    ((i ≤ c) × ((out ≡ pasteW out₀ 0 (lms (words image) s (entriesFrom (words image) s lo i))) × (length out ≡ length out₀)))
 
 abbrev μ-loop : tie.MeasureT-loop
 μ-loop image s lo c out₀ p n₀ i₀ out n i = c - i
@@ -31,19 +32,35 @@ permutation-at-requires c κs = (c .before .before .pre .0) .range
 
 -- src/lib.rt:35:13
 add-p : tie.Need-add-p Inv-loop μ-loop
-add-p c = omega (arith, c .permutation-at .ensures, c .before .before .before .pre .1 .0, (c .before .before .before .pre .0) .range .few, (c .before .before .before .pre .0) .range .cap-to, size-small (c .before .before .before .args .s) ((c .before .before .before .pre .0) .range))
+add-p c =
+    let a = c .before .before .before in
+    omega (arith, c .permutation-at .ensures, a .pre .1 .0, (a .pre .0) .range .few, (a .pre .0) .range .cap-to, size-small (a .args .s) ((a .pre .0) .range))
 
 -- src/lib.rt:38:5
 loop-holds : tie.Need-loop-holds Inv-loop μ-loop
-loop-holds c = (sym (ap length (none-yet (c .before .before .before .args .image .now) (c .before .before .before .args .s) (c .before .before .before .pre .0) (c .before .before .before .args .lo))), (omega arith, (sym (ap (pasteW (c .before .before .before .args .out .now) 0) (none-yet (c .before .before .before .args .image .now) (c .before .before .before .args .s) (c .before .before .before .pre .0) (c .before .before .before .args .lo)) ∙ pasteW-nil (c .before .before .before .args .out .now) 0), refl)))
+loop-holds c =
+    let a = c .before .before .before in (
+      sym (ap length (none-yet (a .args .image .now) (a .args .s) (a .pre .0) (a .args .lo))),
+      (omega arith, (sym (ap (pasteW (a .args .out .now) 0) (none-yet (a .args .image .now) (a .args .s) (a .pre .0) (a .args .lo)) ∙ pasteW-nil (a .args .out .now) 0), refl)),
+    )
 
 -- src/lib.rt:39:35
 add-get : tie.Need-add-get Inv-loop μ-loop
-add-get c = omega (arith, c .before .before .permutation-at .ensures, c .loop-test .taken, c .before .before .before .before .before .pre .1 .0, (c .before .before .before .before .before .pre .0) .range .few, (c .before .before .before .before .before .pre .0) .range .cap-to, size-small (c .before .before .before .before .before .args .s) ((c .before .before .before .before .before .pre .0) .range))
+add-get c =
+    let a = c .before .before .before .before .before in
+    omega (arith, c .before .before .permutation-at .ensures, c .loop-test .taken, a .pre .1 .0, (a .pre .0) .range .few, (a .pre .0) .range .cap-to, size-small (a .args .s) ((a .pre .0) .range))
 
 -- src/lib.rt:39:17
 get-requires : tie.Need-get-requires Inv-loop μ-loop
-get-requires c κs = omega (arith, c .before .before .permutation-at .ensures, c .loop-test .taken, c .before .before .before .before .before .pre .1 .0, place-room (c .before .before .before .before .before .args .image .now) (c .before .before .before .before .before .args .s) (c .before .before .before .before .before .pre .0) ((c .before .before .before .before .before .args .lo) + (c .before .loop .i) + 1) (omega (arith, c .loop-test .taken, c .before .before .before .before .before .pre .1 .0)))
+get-requires c κs =
+    let a = c .before .before .before .before .before in
+    omega (
+      arith,
+      c .before .before .permutation-at .ensures,
+      c .loop-test .taken,
+      a .pre .1 .0,
+      place-room (a .args .image .now) (a .args .s) (a .pre .0) ((a .args .lo) + (c .before .loop .i) + 1) (omega (arith, c .loop-test .taken, a .pre .1 .0)),
+    )
 
 -- src/lib.rt:39:17
 cast-e : tie.Need-cast-e Inv-loop μ-loop
@@ -51,15 +68,24 @@ cast-e c = omega arith
 
 -- src/lib.rt:40:18
 mul-at : tie.Need-mul-at Inv-loop μ-loop
-mul-at c = omega (arith, c .before .before .loop .inv .0, front-shorter (c .before .before .before .before .before .before .args .image .now) (c .before .before .before .before .before .before .args .s) (c .before .before .before .before .before .before .pre .0) (c .before .before .before .before .before .before .args .lo) (c .before .before .loop .i) (c .before .before .before .before .before .before .args .c) (c .before .before .loop .inv .1 .0), c .before .before .before .before .before .before .pre .1 .1)
+mul-at c =
+    let l = c .before .before in
+    let a = l .before .before .before .before in
+    omega (arith, l .loop .inv .0, front-shorter (a .args .image .now) (a .args .s) (a .pre .0) (a .args .lo) (l .loop .i) (a .args .c) (l .loop .inv .1 .0), a .pre .1 .1)
 
 -- src/lib.rt:41:42
 sub-write-monomial : tie.Need-sub-write-monomial Inv-loop μ-loop
-sub-write-monomial c = omega (arith, c .before .before .loop .inv .0, c .before .before .loop .inv .1 .1 .1, front-shorter (c .before .before .before .before .before .before .args .image .now) (c .before .before .before .before .before .before .args .s) (c .before .before .before .before .before .before .pre .0) (c .before .before .before .before .before .before .args .lo) (c .before .before .loop .i) (c .before .before .before .before .before .before .args .c) (c .before .before .loop .inv .1 .0), c .before .before .before .before .before .before .pre .1 .1)
+sub-write-monomial c =
+    let l = c .before .before in
+    let a = l .before .before .before .before in
+    omega (arith, l .loop .inv .0, l .loop .inv .1 .1 .1, front-shorter (a .args .image .now) (a .args .s) (a .pre .0) (a .args .lo) (l .loop .i) (a .args .c) (l .loop .inv .1 .0), a .pre .1 .1)
 
 -- src/lib.rt:41:42
 part-write-monomial-start : tie.Need-part-write-monomial-start Inv-loop μ-loop
-part-write-monomial-start c = omega (arith, c .before .before .loop .inv .0, c .before .before .loop .inv .1 .1 .1, front-shorter (c .before .before .before .before .before .before .args .image .now) (c .before .before .before .before .before .before .args .s) (c .before .before .before .before .before .before .pre .0) (c .before .before .before .before .before .before .args .lo) (c .before .before .loop .i) (c .before .before .before .before .before .before .args .c) (c .before .before .loop .inv .1 .0), c .before .before .before .before .before .before .pre .1 .1)
+part-write-monomial-start c =
+    let l = c .before .before in
+    let a = l .before .before .before .before in
+    omega (arith, l .loop .inv .0, l .loop .inv .1 .1 .1, front-shorter (a .args .image .now) (a .args .s) (a .pre .0) (a .args .lo) (l .loop .i) (a .args .c) (l .loop .inv .1 .0), a .pre .1 .1)
 
 -- src/lib.rt:41:42
 part-write-monomial-end : tie.Need-part-write-monomial-end Inv-loop μ-loop
@@ -67,11 +93,45 @@ part-write-monomial-end c = search needs
 
 -- src/lib.rt:41:14
 write-monomial-requires : tie.Need-write-monomial-requires Inv-loop μ-loop
-write-monomial-requires c κs = let x = next (c .before .before .before .before .before .before .before .args .image .now) (c .before .before .before .before .before .before .before .args .s) (c .before .before .before .before .before .before .before .pre .0) (c .before .before .before .before .before .before .before .args .lo) (c .before .before .before .loop .i) _ (c .before .get .result) (omega (arith, c .before .before .before .before .permutation-at .ensures)) (omega (arith, c .before .before .loop-test .taken, c .before .before .before .before .before .before .before .pre .1 .0)) (c .before .get .ensures) in ((c .before .before .before .before .before .before .before .pre .0), (x .small, simp (length-take, length-drop) (omega (arith, x .long, c .before .before .before .loop .inv .0, c .before .before .before .loop .inv .1 .1 .1, front-shorter (c .before .before .before .before .before .before .before .args .image .now) (c .before .before .before .before .before .before .before .args .s) (c .before .before .before .before .before .before .before .pre .0) (c .before .before .before .before .before .before .before .args .lo) ((c .before .before .before .loop .i) + 1) (c .before .before .before .before .before .before .before .args .c) (omega (arith, c .before .before .loop-test .taken)), c .before .before .before .before .before .before .before .pre .1 .1))))
+write-monomial-requires c κs =
+    let l = c .before .before .before in
+    let b = l .before in
+    let a = b .before .before .before in
+    let x = next (a .args .image .now) (a .args .s) (a .pre .0) (a .args .lo) (l .loop .i) _ (c .before .get .result) (omega (arith, b .permutation-at .ensures))
+    (omega (arith, c .before .before .loop-test .taken, a .pre .1 .0)) (c .before .get .ensures) in (
+      (a .pre .0),
+      (
+        x .small,
+        simp (length-take, length-drop) (omega (
+          arith,
+          x .long,
+          l .loop .inv .0,
+          l .loop .inv .1 .1 .1,
+          front-shorter (a .args .image .now) (a .args .s) (a .pre .0) (a .args .lo) ((l .loop .i) + 1) (a .args .c) (omega (arith, c .before .before .loop-test .taken)),
+          a .pre .1 .1,
+        )),
+      ),
+    )
 
 -- src/lib.rt:41:9
 add-n : tie.Need-add-n Inv-loop μ-loop
-add-n c = let x = next (c .before .before .before .before .before .before .before .before .before .before .args .image .now) (c .before .before .before .before .before .before .before .before .before .before .args .s) (c .before .before .before .before .before .before .before .before .before .before .pre .0) (c .before .before .before .before .before .before .before .before .before .before .args .lo) (c .before .before .before .before .before .before .loop .i) _ (c .before .before .before .before .get .result) (omega (arith, c .before .before .before .before .before .before .before .permutation-at .ensures)) (omega (arith, c .before .before .before .before .before .loop-test .taken, c .before .before .before .before .before .before .before .before .before .before .pre .1 .0)) (c .before .before .before .before .get .ensures) in omega (arith, x .long, c .before .before .write-monomial .ensures .0, c .before .before .before .before .before .before .loop .inv .0, front-shorter (c .before .before .before .before .before .before .before .before .before .before .args .image .now) (c .before .before .before .before .before .before .before .before .before .before .args .s) (c .before .before .before .before .before .before .before .before .before .before .pre .0) (c .before .before .before .before .before .before .before .before .before .before .args .lo) ((c .before .before .before .before .before .before .loop .i) + 1) (c .before .before .before .before .before .before .before .before .before .before .args .c) (omega (arith, c .before .before .before .before .before .loop-test .taken)), c .before .before .before .before .before .before .before .before .before .before .pre .1 .1)
+add-n c =
+    let b = c .before .before .before .before in
+    let d = b .before in
+    let l = d .before in
+    let f = l .before in
+    let a = f .before .before .before in
+    let x = next (a .args .image .now) (a .args .s) (a .pre .0) (a .args .lo) (l .loop .i) _ (b .get .result) (omega (arith, f .permutation-at .ensures))
+    (omega (arith, d .loop-test .taken, a .pre .1 .0)) (b .get .ensures) in
+    omega (
+      arith,
+      a .good,
+      x .long,
+      c .before .before .write-monomial .ensures .0,
+      l .loop .inv .0,
+      front-shorter (a .args .image .now) (a .args .s) (a .pre .0) (a .args .lo) ((l .loop .i) + 1) (a .args .c) (omega (arith, d .loop-test .taken)),
+      a .pre .1 .1,
+    )
 
 -- src/lib.rt:42:9
 add-i : tie.Need-add-i Inv-loop μ-loop
@@ -83,7 +143,36 @@ loop-less c = omega (arith, c .before .before .before .before .before .loop-test
 
 -- src/lib.rt:38:5
 loop-again : tie.Need-loop-again Inv-loop μ-loop
-loop-again c = let x = next (c .before .before .before .before .before .before .before .before .before .before .args .image .now) (c .before .before .before .before .before .before .before .before .before .before .args .s) (c .before .before .before .before .before .before .before .before .before .before .pre .0) (c .before .before .before .before .before .before .before .before .before .before .args .lo) (c .before .before .before .before .before .before .loop .i) _ (c .before .before .before .before .get .result) (omega (arith, c .before .before .before .before .before .before .before .permutation-at .ensures)) (omega (arith, c .before .before .before .before .before .loop-test .taken, c .before .before .before .before .before .before .before .before .before .before .pre .1 .0)) (c .before .before .before .before .get .ensures) in let y = behind (c .before .before .before .before .before .before .before .before .before .before .args .out .now) (c .before .before .before .before .before .before .loop .out) (lms (words (c .before .before .before .before .before .before .before .before .before .before .args .image .now)) (c .before .before .before .before .before .before .before .before .before .before .args .s) (entriesFrom (words (c .before .before .before .before .before .before .before .before .before .before .args .image .now)) (c .before .before .before .before .before .before .before .before .before .before .args .s) (c .before .before .before .before .before .before .before .before .before .before .args .lo) (c .before .before .before .before .before .before .loop .i))) (lmIn (words (c .before .before .before .before .before .before .before .before .before .before .args .image .now)) (c .before .before .before .before .before .before .before .before .before .before .args .s) (c .before .before .before .before .get .result)) _ (c .before .before .before .before .before .before .loop .n) _ (c .before .before .before .before .before .before .loop .inv .1 .1 .0) (c .before .before .before .before .before .before .loop .inv .0) refl (omega (arith, length-append (lms (words (c .before .before .before .before .before .before .before .before .before .before .args .image .now)) (c .before .before .before .before .before .before .before .before .before .before .args .s) (entriesFrom (words (c .before .before .before .before .before .before .before .before .before .before .args .image .now)) (c .before .before .before .before .before .before .before .before .before .before .args .s) (c .before .before .before .before .before .before .before .before .before .before .args .lo) (c .before .before .before .before .before .before .loop .i))) (lmIn (words (c .before .before .before .before .before .before .before .before .before .before .args .image .now)) (c .before .before .before .before .before .before .before .before .before .before .args .s) (c .before .before .before .before .get .result)), x .long, front-shorter (c .before .before .before .before .before .before .before .before .before .before .args .image .now) (c .before .before .before .before .before .before .before .before .before .before .args .s) (c .before .before .before .before .before .before .before .before .before .before .pre .0) (c .before .before .before .before .before .before .before .before .before .before .args .lo) ((c .before .before .before .before .before .before .loop .i) + 1) (c .before .before .before .before .before .before .before .before .before .before .args .c) (omega (arith, c .before .before .before .before .before .loop-test .taken)), c .before .before .before .before .before .before .before .before .before .before .pre .1 .1)) (c .before .before .write-monomial .ensures .1) ∙ ap (pasteW (c .before .before .before .before .before .before .before .before .before .before .args .out .now) 0) (sym (x .more)) in (omega (arith, x .long, c .before .before .write-monomial .ensures .0, c .before .before .before .before .before .before .loop .inv .0), (omega (arith, c .before .before .before .before .before .loop-test .taken), (y, ap length y ∙ length-pasteW (c .before .before .before .before .before .before .before .before .before .before .args .out .now) 0 (lms (words (c .before .before .before .before .before .before .before .before .before .before .args .image .now)) (c .before .before .before .before .before .before .before .before .before .before .args .s) (entriesFrom (words (c .before .before .before .before .before .before .before .before .before .before .args .image .now)) (c .before .before .before .before .before .before .before .before .before .before .args .s) (c .before .before .before .before .before .before .before .before .before .before .args .lo) ((c .before .before .before .before .before .before .loop .i) + 1))) (omega (arith, front-shorter (c .before .before .before .before .before .before .before .before .before .before .args .image .now) (c .before .before .before .before .before .before .before .before .before .before .args .s) (c .before .before .before .before .before .before .before .before .before .before .pre .0) (c .before .before .before .before .before .before .before .before .before .before .args .lo) ((c .before .before .before .before .before .before .loop .i) + 1) (c .before .before .before .before .before .before .before .before .before .before .args .c) (omega (arith, c .before .before .before .before .before .loop-test .taken)), c .before .before .before .before .before .before .before .before .before .before .pre .1 .1)))))
+loop-again c =
+    let b = c .before .before .before .before in
+    let d = b .before in
+    let l = d .before in
+    let f = l .before in
+    let a = f .before .before .before in
+    let W = words (a .args .image .now) in
+    let x = next (a .args .image .now) (a .args .s) (a .pre .0) (a .args .lo) (l .loop .i) _ (b .get .result) (omega (arith, f .permutation-at .ensures))
+    (omega (arith, d .loop-test .taken, a .pre .1 .0)) (b .get .ensures) in
+    let y = behind (a .args .out .now) (l .loop .out) (lms W (a .args .s) (entriesFrom W (a .args .s) (a .args .lo) (l .loop .i))) (lmIn W (a .args .s) (b .get .result))
+    _ (l .loop .n) _ (l .loop .inv .1 .1 .0) (l .loop .inv .0) refl
+    (omega (
+      arith,
+      length-append (lms W (a .args .s) (entriesFrom W (a .args .s) (a .args .lo) (l .loop .i))) (lmIn W (a .args .s) (b .get .result)),
+      x .long,
+      front-shorter (a .args .image .now) (a .args .s) (a .pre .0) (a .args .lo) ((l .loop .i) + 1) (a .args .c) (omega (arith, d .loop-test .taken)),
+      a .pre .1 .1,
+    ))
+    (c .before .before .write-monomial .ensures .1) ∙ ap (pasteW (a .args .out .now) 0) (sym (x .more)) in (
+      omega (arith, x .long, c .before .before .write-monomial .ensures .0, l .loop .inv .0),
+      (
+        omega (arith, d .loop-test .taken),
+        (
+          y,
+          ap length y ∙ length-pasteW (a .args .out .now) 0
+              (lms W (a .args .s) (entriesFrom W (a .args .s) (a .args .lo) ((l .loop .i) + 1)))
+              (omega (arith, front-shorter (a .args .image .now) (a .args .s) (a .pre .0) (a .args .lo) ((l .loop .i) + 1) (a .args .c) (omega (arith, d .loop-test .taken)), a .pre .1 .1)),
+        ),
+      ),
+    )
 
 -- src/lib.rt:28:1
 same-length : tie.Need-same-length Inv-loop μ-loop
@@ -91,7 +180,14 @@ same-length c = c .before .loop .inv .1 .1 .1
 
 -- src/lib.rt:28:1
 returns : tie.Need-returns Inv-loop μ-loop
-returns c = let e : (c .before .loop .i) ≡ (c .before .before .before .before .before .args .c) = omega (arith, c .loop-test .left, c .before .loop .inv .1 .0) in (c .before .loop .inv .0 ∙ ap (λ (j : ℕ). length (lms (words (c .before .before .before .before .before .args .image .now)) (c .before .before .before .before .before .args .s) (entriesFrom (words (c .before .before .before .before .before .args .image .now)) (c .before .before .before .before .before .args .s) (c .before .before .before .before .before .args .lo) j))) e, c .before .loop .inv .1 .1 .0 ∙ ap (λ (j : ℕ). pasteW (c .before .before .before .before .before .args .out .now) 0 (lms (words (c .before .before .before .before .before .args .image .now)) (c .before .before .before .before .before .args .s) (entriesFrom (words (c .before .before .before .before .before .args .image .now)) (c .before .before .before .before .before .args .s) (c .before .before .before .before .before .args .lo) j))) e)
+returns c =
+    let a = c .before .before .before .before .before in
+    let W = words (a .args .image .now) in
+    let e : (c .before .loop .i) ≡ (a .args .c) = omega (arith, c .loop-test .left, c .before .loop .inv .1 .0) in (
+      c .before .loop .inv .0 ∙ ap (λ (j : ℕ). length (lms W (a .args .s) (entriesFrom W (a .args .s) (a .args .lo) j))) e,
+      c .before .loop .inv .1 .1 .0
+          ∙ ap (λ (j : ℕ). pasteW (a .args .out .now) 0 (lms W (a .args .s) (entriesFrom W (a .args .s) (a .args .lo) j))) e,
+    )
 
 pub write-leaf-spec : {M : Type 1} → statement M
 write-leaf-spec =

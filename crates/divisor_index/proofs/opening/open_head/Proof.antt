@@ -50,7 +50,15 @@ sub-clear c = search needs
 
 -- src/opening.rt:29:5
 clear-requires : tie.Need-clear-requires
-clear-requires c κs = omega (arith, c .before .before .before .before .before .before .before .before .before .before .before .before .before .before .before .before .before .before .before .before .before .before .before .before .before .before .before .before .before .pre .1, c .before .before .before .before .before .before .before .before .before .before .before .before .before .before .before .before .before .before .before .before .before .before .before .before .before .before .put .kept .0, c .before .before .before .before .before .before .before .before .before .before .before .before .before .before .before .before .before .before .before .before .before .put2 .kept .0, c .before .before .before .before .before .before .before .before .before .before .before .before .before .before .before .before .put3 .kept .0, c .before .before .before .before .before .before .before .before .before .before .before .put4 .kept .0, c .before .before .before .before .before .before .before .put5 .kept .0, c .before .before .before .put6 .kept .0)
+clear-requires c κs =
+    let b = c .before .before .before in
+    let d = b .before .before .before .before in
+    let f = d .before .before .before .before in
+    let g = f .before .before .before .before .before in
+    let h = g .before .before .before .before .before in
+    let i = h .before .before .before .before .before in
+    let a = i .before .before .before in
+    omega (arith, a .pre .1, i .put .kept .0, h .put2 .kept .0, g .put3 .kept .0, f .put4 .kept .0, d .put5 .kept .0, b .put6 .kept .0)
 
 -- src/opening.rt:18:1
 same-length : tie.Need-same-length
@@ -58,7 +66,15 @@ same-length c = search needs
 
 -- src/opening.rt:18:1
 returns : tie.Need-returns
-returns c = head-written _ _ _ _ _ _ _ _ _ _ _ (c .before .before .before .before .before .before .before .before .before .before .before .before .before .before .before .before .before .before .before .before .before .before .before .before .before .before .before .before .before .before .before .before .pre .1) (c .before .before .before .before .before .before .before .before .before .before .before .before .before .before .before .before .before .before .before .before .before .before .before .before .before .before .before .before .before .put .ensures) (c .before .before .before .before .before .before .before .before .before .before .before .before .before .before .before .before .before .before .before .before .before .before .before .before .put2 .ensures) (c .before .before .before .before .before .before .before .before .before .before .before .before .before .before .before .before .before .before .before .put3 .ensures) (c .before .before .before .before .before .before .before .before .before .before .before .before .before .before .put4 .ensures) (c .before .before .before .before .before .before .before .before .before .before .put5 .ensures) (c .before .before .before .before .before .before .put6 .ensures) (c .before .before .clear .ensures)
+returns c =
+    let b = c .before .before .before .before .before .before in
+    let d = b .before .before .before .before in
+    let f = d .before .before .before .before in
+    let g = f .before .before .before .before .before in
+    let h = g .before .before .before .before .before in
+    let i = h .before .before .before .before .before in
+    let a = i .before .before .before in
+    head-written _ _ _ _ _ _ _ _ _ _ _ (a .pre .1) (i .put .ensures) (h .put2 .ensures) (g .put3 .ensures) (f .put4 .ensures) (d .put5 .ensures) (b .put6 .ensures) (c .before .before .clear .ensures)
 
 pub open-head-spec : {M : Type 1} → statement M
 open-head-spec =

@@ -1,6 +1,6 @@
-use Rattle.divisor_index.proofs.Openings.{labels-none, labels-written, asked-labels, part-long, part-room}
+use Rattle.divisor_index.proofs.Openings.{labels-none, labels-written, asked-labels, part-room}
 use Prim.Native.Nat.{_*_, _+_, _-_}
-use mathlib.Core.Path.{_≡_, refl, sym, ap, _∙_}
+use mathlib.Core.Path.{ap}
 use native.Mathlib.Omega.{arith}
 use borrow.Author.Needs.{needs}
 use Rattle.divisor_index.proofs.opening.open_labels.Statement.{statement}
@@ -49,7 +49,10 @@ part-open-end c = search needs
 
 -- src/opening.rt:43:5
 open-requires : tie.Need-open-requires
-open-requires c κs = (asked-labels _ (c .before .before .before .before .before .before .pre .0), part-room _ _ (c .before .before .before .before .before .before .pre .0) (c .before .before .before .before .before .before .pre .1) (c .before .before .before .if1 .left) _ _ (c .before .before .labels-at .ensures) (c .before .labels-size .ensures))
+open-requires c κs =
+    let b = c .before .before .before in
+    let a = b .before .before .before in
+    (asked-labels _ (a .pre .0), part-room _ _ (a .pre .0) (a .pre .1) (b .if1 .left) _ _ (c .before .before .labels-at .ensures) (c .before .labels-size .ensures))
 
 -- src/opening.rt:33:1
 same-length : tie.Need-same-length
@@ -57,7 +60,13 @@ same-length c = search needs
 
 -- src/opening.rt:33:1
 returns-2 : tie.Need-returns-2
-returns-2 c = labels-written _ _ (c .before .before .before .before .before .before .before .before .before .pre .0) (c .before .before .before .before .before .before .before .before .before .pre .1) (c .before .before .before .before .before .before .if1 .left) _ (4 * c .before .before .before .before .before .labels-at .result + 4 * c .before .before .before .before .labels-size .result - 4 * c .before .before .before .before .before .labels-at .result) _ (ap (λ n. 4 * n) (c .before .before .before .before .before .labels-at .ensures)) (omega (arith, c .before .before .before .before .labels-size .ensures)) (c .before .before .«open» .ensures)
+returns-2 c =
+    let b = c .before .before .before .before in
+    let d = b .before in
+    let f = d .before in
+    let a = f .before .before .before in
+    labels-written _ _ (a .pre .0) (a .pre .1) (f .if1 .left) _ (4 * d .labels-at .result + 4 * b .labels-size .result - 4 * d .labels-at .result) _
+    (ap (λ n. 4 * n) (d .labels-at .ensures)) (omega (arith, b .labels-size .ensures)) (c .before .before .«open» .ensures)
 
 pub open-labels-spec : {M : Type 1} → statement M
 open-labels-spec =

@@ -1,5 +1,4 @@
 use Rattle.divisor_index.proofs.Openings.{opened-tables}
-use native.Mathlib.Omega.{arith}
 use borrow.Author.Needs.{needs}
 use Rattle.divisor_index.proofs.opening.open_tables.Statement.{statement}
 use Rattle.divisor_index.proofs.opening.open_tables.Tie as tie
@@ -72,7 +71,19 @@ same-length c = search needs
 
 -- src/opening.rt:47:1
 returns : tie.Need-returns
-returns c = opened-tables _ (c .before .before .before .before .before .before .before .before .before .before .before .before .before .before .before .before .before .before .before .before .before .before .before .before .before .before .before .before .before .before .pre .0) _ (c .before .before .before .before .before .before .before .before .before .before .before .before .before .before .before .before .before .before .before .before .before .before .before .before .before .before .before .before .before .before .pre .1 .1 .0) _ _ _ _ _ _ _ _ _ _ _ (c .before .before .before .before .before .before .before .before .before .before .before .before .before .before .before .before .before .before .before .before .before .before .before .before .before .before .before .before .before .before .pre .1 .0) (c .before .before .before .before .before .before .before .before .before .before .before .before .before .before .before .entry-at .ensures) (c .before .before .before .before .before .before .before .before .before .before .before .before .before .labels-at .ensures) (c .before .before .before .before .before .node-at .ensures) (c .before .before .before .size .ensures) (c .before .before .before .before .before .before .before .before .before .before .before .before .before .before .before .before .before .before .before .before .before .before .before .before .before .before .open-head .ensures) (c .before .before .before .before .before .before .before .before .before .before .before .before .before .before .before .before .before .before .before .before .before .before .paste .ensures) (c .before .before .before .before .before .before .before .before .before .before .before .before .before .before .before .before .before .before .paste2 .ensures) (c .before .before .before .before .before .before .before .before .before .before .before .before .clear .ensures) (c .before .before .before .before .before .before .before .before .open-labels .ensures) (c .before .before .clear2 .ensures)
+returns c =
+    let b = c .before .before .before in
+    let d = b .before .before in
+    let f = d .before .before .before in
+    let g = f .before .before .before .before in
+    let h = g .before in
+    let i = h .before .before in
+    let j = i .before .before .before in
+    let k = j .before .before .before .before in
+    let m = k .before .before .before .before in
+    let a = m .before .before .before .before in
+    opened-tables _ (a .pre .0) _ (a .pre .1 .1 .0) _ _ _ _ _ _ _ _ _ _ _ (a .pre .1 .0) (i .entry-at .ensures) (h .labels-at .ensures) (d .node-at .ensures)
+    (b .size .ensures) (m .open-head .ensures) (k .paste .ensures) (j .paste2 .ensures) (g .clear .ensures) (f .open-labels .ensures) (c .before .before .clear2 .ensures)
 
 pub open-tables-spec : {M : Type 1} → statement M
 open-tables-spec =

@@ -1,11 +1,12 @@
 use borrow.Author.Needs.{needs}
 use native.Mathlib.Omega.{arith}
-use mathlib.Core.Path.{_≡_, refl, sym, ap, _∙_}
-use Prim.Native.Nat.{ℕ, _-_, _*_}
+use mathlib.Core.Path.{_≡_, refl, _∙_}
+use Prim.Native.Nat.{_-_, _<_}
 use lib.ListN.{length}
 use Rattle.words.specs.Words.{words}
 use Rattle.words.proofs.Laws.{length-words}
-use Rattle.divisor_index.proofs.Running.{Running, running-none, running-sound, place-small, room-for-one, running-next, running-all, list-first, part-room}
+use Rattle.word_reader.proofs.Places.{end-inside}
+use Rattle.divisor_index.proofs.Running.{Running, running-none, running-sound, place-small, running-next, running-all, list-first, part-room}
 use Rattle.divisor_index.proofs.run.run.Statement.{statement}
 use Rattle.divisor_index.proofs.run.run.Tie as tie
 use Rattle.divisor_index.proofs.run.run.Reads as reads
@@ -13,18 +14,24 @@ use Rattle.divisor_index.proofs.run.run.Lts as lts
 use Rattle.divisor_index.proofs.run.call_at.Reads as call-at-reads
 
 abbrev Inv-loop : tie.InvT-loop
-Inv-loop image₀ list out₀ q₀ scratch₀ end n₀ at₀ image out q scratch n at = Running (words list) image₀ out₀ image out at n × ((length q ≡ 368) × (length scratch ≡ 260))
+Inv-loop image₀ list out₀ q₀ scratch₀ end n₀ at₀ image out q scratch n at =
+    Running (words list) image₀ out₀ image out at n × ((length q ≡ 368) × (length scratch ≡ 260))
 
 abbrev μ-loop : tie.MeasureT-loop
 μ-loop image₀ list out₀ q₀ scratch₀ end n₀ at₀ image out q scratch n at = end - at
 
 -- src/run.rt:47:5
 loop-holds : tie.Need-loop-holds Inv-loop μ-loop
-loop-holds c = (running-none _ _ _ (c .before .before .before .pre .0) (λ j. (c .before .before .slice-known .given) j .fits) (list-first _ (c .before .before .before .pre .1 .0)), (refl, refl))
+loop-holds c =
+    let a = c .before .before .before in
+    (running-none _ _ _ (a .pre .0) (λ j. (c .before .before .slice-known .given) j .fits) (list-first _ (a .pre .1 .0)), (refl, refl))
 
 -- src/run.rt:48:17
 mul-o : tie.Need-mul-o Inv-loop μ-loop
-mul-o c = omega (arith, c .before .before .before .before .before .good, place-small _ _ _ (c .before .before .before .before .before .pre .0) _ _ _ _ (c .before .loop .inv .0) (c .before .before .before .before .before .pre .1 .1), c .before .loop .inv .0 .same-out)
+mul-o c =
+    let l = c .before in
+    let a = l .before .before .before .before in
+    omega (arith, a .good, place-small _ _ _ (a .pre .0) _ _ _ _ (l .loop .inv .0) (a .pre .1 .1), l .loop .inv .0 .same-out)
 
 -- src/run.rt:49:29
 slice-aggregate-call-at : tie.Need-slice-aggregate-call-at Inv-loop μ-loop
@@ -36,11 +43,17 @@ slice-aggregate-call-at-2 c = search needs
 
 -- src/run.rt:49:61
 sub-call-at : tie.Need-sub-call-at Inv-loop μ-loop
-sub-call-at c = place-small _ _ _ (c .before .before .before .before .before .before .before .before .pre .0) _ _ _ _ (c .before .before .before .before .loop .inv .0) (c .before .before .before .before .before .before .before .before .pre .1 .1)
+sub-call-at c =
+    let l = c .before .before .before .before in
+    let a = l .before .before .before .before in
+    place-small _ _ _ (a .pre .0) _ _ _ _ (l .loop .inv .0) (a .pre .1 .1)
 
 -- src/run.rt:49:61
 part-call-at-start : tie.Need-part-call-at-start Inv-loop μ-loop
-part-call-at-start c = place-small _ _ _ (c .before .before .before .before .before .before .before .before .pre .0) _ _ _ _ (c .before .before .before .before .loop .inv .0) (c .before .before .before .before .before .before .before .before .pre .1 .1)
+part-call-at-start c =
+    let l = c .before .before .before .before in
+    let a = l .before .before .before .before in
+    place-small _ _ _ (a .pre .0) _ _ _ _ (l .loop .inv .0) (a .pre .1 .1)
 
 -- src/run.rt:49:61
 part-call-at-end : tie.Need-part-call-at-end Inv-loop μ-loop
@@ -48,19 +61,46 @@ part-call-at-end c = search needs
 
 -- src/run.rt:49:9
 call-at-requires : tie.Need-call-at-requires Inv-loop μ-loop
-call-at-requires c κs = (running-sound _ _ _ (c .before .before .before .before .before .before .before .before .before .pre .0) _ _ _ _ (c .before .before .before .before .before .loop .inv .0), ((omega (arith, c .before .before .before .before .before .loop .inv .1 .0), omega (arith, c .before .before .before .before .before .loop .inv .1 .1)), (omega (arith, c .before .before .before .before .loop-test .taken, length-words (c .before .before .before .before .before .before .before .before .before .args .list .now)), part-room _ _ _ (c .before .before .before .before .before .before .before .before .before .pre .0) _ _ _ _ (c .before .before .before .before .before .loop .inv .0) (c .before .before .before .before .before .before .before .before .before .pre .1 .1) (omega (arith, c .before .before .before .before .loop-test .taken, length-words (c .before .before .before .before .before .before .before .before .before .args .list .now))))))
+call-at-requires c κs =
+    let l = c .before .before .before .before .before in
+    let a = l .before .before .before .before in
+    let inside : l .loop .at < length (words (a .args .list .now)) = omega (arith, c .before .before .before .before .loop-test .taken, length-words (a .args .list .now)) in (
+      running-sound _ _ _ (a .pre .0) _ _ _ _ (l .loop .inv .0),
+      (
+        (omega (arith, l .loop .inv .1 .0), omega (arith, l .loop .inv .1 .1)),
+        (inside, part-room _ _ _ (a .pre .0) _ _ _ _ (l .loop .inv .0) (a .pre .1 .1) inside),
+      ),
+    )
 
 -- src/run.rt:50:9
 add-n : tie.Need-add-n Inv-loop μ-loop
-add-n c = omega (arith, c .before .before .before .before .before .before .before .before .before .before .before .before .before .before .before .before .good, place-small _ _ _ (c .before .before .before .before .before .before .before .before .before .before .before .before .before .before .before .before .pre .0) _ _ _ _ (c .before .before .before .before .before .before .before .before .before .before .before .before .loop .inv .0) (c .before .before .before .before .before .before .before .before .before .before .before .before .before .before .before .before .pre .1 .1), c .before .before .before .before .before .before .before .before .before .before .before .before .loop .inv .0 .same-out)
+add-n c =
+    let l = c .before .before .before .before .before .before .before .before .before .before .before .before in
+    let a = l .before .before .before .before in
+    omega (arith, a .good, place-small _ _ _ (a .pre .0) _ _ _ _ (l .loop .inv .0) (a .pre .1 .1), l .loop .inv .0 .same-out)
 
 -- src/run.rt:47:5
 loop-less : tie.Need-loop-less Inv-loop μ-loop
-loop-less c = omega (arith, c .before .before .before .before .before .before .call-at .ensures .0, c .before .before .before .before .before .before .before .before .before .before .before .loop-test .taken)
+loop-less c =
+    let d = c .before .before .before .before .before .before in
+    let t = d .before .before .before .before .before in
+    let a = t .before .before .before .before .before in
+    let L = a .args .list .now in
+    let inside : t .before .loop .at < length (words L) = omega (arith, t .loop-test .taken, length-words L) in
+    let far = end-inside (words L) (t .before .loop .at) inside .0 in
+    omega (arith, d .call-at .ensures .0, t .loop-test .taken, far)
 
 -- src/run.rt:47:5
 loop-again : tie.Need-loop-again Inv-loop μ-loop
-loop-again c = (running-next _ _ _ (c .before .before .before .before .before .before .before .before .before .before .before .before .before .before .before .before .pre .0) _ _ _ _ (c .before .before .before .before .before .before .before .before .before .before .before .before .loop .inv .0) (omega (arith, c .before .before .before .before .before .before .before .before .before .before .before .loop-test .taken, length-words (c .before .before .before .before .before .before .before .before .before .before .before .before .before .before .before .before .args .list .now))) _ (c .before .before .before .before .before .before .call-at .ensures .0) _ _ _ (c .before .before .before .before .before .before .before .before .before .before .before .before .before .before .before .before .pre .1 .1) refl (c .before .before .before .before .before .before .call-at .ensures .1) (c .before .before .before .before .before .before .call-at .kept .0), (c .before .before .before .before .before .before .call-at .kept .1 .0 ∙ c .before .before .before .before .before .before .before .before .before .before .before .before .loop .inv .1 .0, c .before .before .before .before .before .before .call-at .kept .1 .1 .0 ∙ c .before .before .before .before .before .before .before .before .before .before .before .before .loop .inv .1 .1))
+loop-again c =
+    let d = c .before .before .before .before .before .before in
+    let t = d .before .before .before .before .before in
+    let a = t .before .before .before .before .before in
+    let L = a .args .list .now in
+    let inside : t .before .loop .at < length (words L) = omega (arith, t .loop-test .taken, length-words L) in
+    let ran = running-next _ _ _ (a .pre .0) _ _ _ _ (t .before .loop .inv .0) inside _ (d .call-at .ensures .0) _ _ _ (a .pre .1 .1) refl
+    (d .call-at .ensures .1) (d .call-at .kept .0) in
+    (ran, (d .call-at .kept .1 .0 ∙ t .before .loop .inv .1 .0, d .call-at .kept .1 .1 .0 ∙ t .before .loop .inv .1 .1))
 
 -- src/run.rt:36:1
 same-length : tie.Need-same-length Inv-loop μ-loop
@@ -72,7 +112,9 @@ same-length-2 c = c .before .loop .inv .0 .same-out
 
 -- src/run.rt:36:1
 returns : tie.Need-returns Inv-loop μ-loop
-returns c = running-all _ _ _ (c .before .before .before .before .before .pre .0) _ _ _ _ (c .before .loop .inv .0) (omega (arith, c .loop-test .left, length-words (c .before .before .before .before .before .args .list .now)))
+returns c =
+    let a = c .before .before .before .before .before in
+    running-all _ _ _ (a .pre .0) _ _ _ _ (c .before .loop .inv .0) (omega (arith, c .loop-test .left, length-words (a .args .list .now)))
 
 pub run-spec : {M : Type 1} → statement M
 run-spec =

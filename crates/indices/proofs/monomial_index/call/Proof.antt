@@ -20,7 +20,10 @@ refusal-word-requires c κs = search needs
 
 -- src/monomial_index.rt:60:9
 returns : tie.Need-returns
-returns c = refuses _ _ 6 _ (of-monomials _ _ _ (c .before .before .before .before .before .pre .0) _ (c .before .before .before .before .before .pre .1 .0) (six-monomials _ _ _ (c .before .if1 .taken))) (λ j. (c .before .before .before .before .slice-known .given) j .fits) (c .refusal-word .ensures)
+returns c =
+    let b = c .before .before .before .before in
+    let a = b .before in
+    refuses _ _ 6 _ (of-monomials _ _ _ (a .pre .0) _ (a .pre .1 .0) (six-monomials _ _ _ (c .before .if1 .taken))) (λ j. (b .slice-known .given) j .fits) (c .refusal-word .ensures)
 
 -- src/monomial_index.rt:62:45
 cast-monomial-at : tie.Need-cast-monomial-at
@@ -40,11 +43,22 @@ refusal-word-requires-2 c κs = search needs
 
 -- src/monomial_index.rt:64:9
 returns-2 : tie.Need-returns-2
-returns-2 c = refuses _ _ 7 _ (of-monomials _ _ _ (c .before .before .before .before .before .before .before .before .before .pre .0) _ (c .before .before .before .before .before .before .before .before .before .pre .1 .0) (bad-monomial _ _ _ _ _ (c .before .before .single .ensures _ (c .before .before .before .monomial-at .ensures)) (omega (arith, c .before .before .before .before .before .if1 .left)) (not-true _ (c .before .if2 .taken)))) (λ j. (c .before .before .before .before .before .before .before .before .slice-known .given) j .fits) (c .refusal-word2 .ensures)
+returns-2 c =
+    let b = c .before .before .before in
+    let d = b .before .before in
+    let f = d .before .before .before in
+    let a = f .before in
+    refuses _ _ 7 _ (of-monomials _ _ _ (a .pre .0) _ (a .pre .1 .0)
+    (bad-monomial _ _ _ _ _ (c .before .before .single .ensures _ (b .monomial-at .ensures)) (omega (arith, d .if1 .left)) (not-true _ (c .before .if2 .taken))))
+    (λ j. (f .slice-known .given) j .fits) (c .refusal-word2 .ensures)
 
 -- src/monomial_index.rt:67:9
 insert-requires : tie.Need-insert-requires
-insert-requires c κs = (c .before .before .before .before .before .before .before .before .before .before .pre .0, (c .before .before .before .before .before .before .before .before .before .before .pre .1 .0, (((c .before .before .before .single .ensures _ (c .before .before .before .before .monomial-at .ensures)) .canonical (not-false _ (c .before .before .if2 .left))), found-whole _ _ _ _ _ (c .before .before .before .before .monomial-at .ensures))))
+insert-requires c κs =
+    let b = c .before .before .before in
+    let d = b .before in
+    let a = d .before .before .before .before .before .before in
+    (a .pre .0, (a .pre .1 .0, (((b .single .ensures _ (d .monomial-at .ensures)) .canonical (not-false _ (c .before .before .if2 .left))), found-whole _ _ _ _ _ (d .monomial-at .ensures))))
 
 -- src/monomial_index.rt:67:9
 same-length : tie.Need-same-length
@@ -52,11 +66,23 @@ same-length c = search needs
 
 -- src/monomial_index.rt:67:9
 returns-3 : tie.Need-returns-3
-returns-3 c = serves _ _ _ _ _ (of-monomials _ _ _ (c .before .before .before .before .before .before .before .before .before .before .before .before .before .pre .0) _ (c .before .before .before .before .before .before .before .before .before .before .before .before .before .pre .1 .0) (inserts-monomial _ _ _ _ _ (c .before .before .before .before .before .before .single .ensures _ (c .before .before .before .before .before .before .before .monomial-at .ensures)) (c .before .before .before .before .if3 .taken) (not-false _ (c .before .before .before .before .before .if2 .left)))) (c .before .before .insert .ensures)
+returns-3 c =
+    let b = c .before .before .before .before in
+    let d = b .before in
+    let f = d .before in
+    let g = f .before in
+    let a = g .before .before .before .before .before .before in
+    serves _ _ _ _ _ (of-monomials _ _ _ (a .pre .0) _ (a .pre .1 .0)
+    (inserts-monomial _ _ _ _ _ (f .single .ensures _ (g .monomial-at .ensures)) (b .if3 .taken) (not-false _ (d .if2 .left)))) (c .before .before .insert .ensures)
 
 -- src/monomial_index.rt:69:5
 contains-divisor-requires : tie.Need-contains-divisor-requires
-contains-divisor-requires c κs = (c .before .before .before .before .before .before .before .before .before .before .before .pre .0, (c .before .before .before .before .before .before .before .before .before .before .before .pre .1 .0, (c .before .before .before .before .before .before .before .before .before .before .before .pre .1 .1 .0, ((c .before .before .before .before .single .ensures _ (c .before .before .before .before .before .monomial-at .ensures)) .canonical (not-false _ (c .before .before .before .if2 .left))))))
+contains-divisor-requires c κs =
+    let b = c .before .before .before in
+    let d = b .before in
+    let f = d .before in
+    let a = f .before .before .before .before .before .before in
+    (a .pre .0, (a .pre .1 .0, (a .pre .1 .1 .0, ((d .single .ensures _ (f .monomial-at .ensures)) .canonical (not-false _ (b .if2 .left))))))
 
 -- src/monomial_index.rt:44:1
 same-length-2 : tie.Need-same-length-2
@@ -68,7 +94,17 @@ same-length-3 c = search needs
 
 -- src/monomial_index.rt:44:1
 returns-4 : tie.Need-returns-4
-returns-4 c = serves _ _ _ _ _ (of-monomials _ _ _ (c .before .before .before .before .before .before .before .before .before .before .before .before .before .before .before .before .pre .0) _ (c .before .before .before .before .before .before .before .before .before .before .before .before .before .before .before .before .pre .1 .0) (asks-contained _ _ _ _ _ (c .before .before .before .before .before .before .before .before .before .single .ensures _ (c .before .before .before .before .before .before .before .before .before .before .monomial-at .ensures)) (omega (arith, c .before .before .before .before .before .before .before .before .before .before .before .before .if1 .left)) (c .before .before .before .before .before .before .before .if3 .left) (not-false _ (c .before .before .before .before .before .before .before .before .if2 .left)))) (c .before .before .before .before .contains-divisor .ensures)
+returns-4 c =
+    let b = c .before .before .before .before in
+    let d = b .before .before .before in
+    let f = d .before in
+    let g = f .before in
+    let h = g .before in
+    let i = h .before .before in
+    let a = i .before .before .before .before in
+    serves _ _ _ _ _ (of-monomials _ _ _ (a .pre .0) _ (a .pre .1 .0)
+    (asks-contained _ _ _ _ _ (g .single .ensures _ (h .monomial-at .ensures)) (omega (arith, i .if1 .left)) (d .if3 .left) (not-false _ (f .if2 .left))))
+    (b .contains-divisor .ensures)
 
 pub call-spec : {M : Type 1} → statement M
 call-spec =

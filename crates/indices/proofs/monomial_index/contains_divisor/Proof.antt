@@ -1,5 +1,5 @@
 use Rattle.indices.proofs.Queries.{head-of, sound-of, ready, replied, yes-none, yes-some}
-use mathlib.Core.Path.{_≡_, refl, sym, ap, _∙_}
+use mathlib.Core.Path.{sym, _∙_}
 use borrow.Author.Needs.{needs}
 use Rattle.indices.proofs.monomial_index.contains_divisor.Statement.{statement}
 use Rattle.indices.proofs.monomial_index.contains_divisor.Tie as tie
@@ -11,7 +11,9 @@ use Rattle.words.proofs.answer_word.Reads as answer-word-reads
 
 -- src/monomial_index.rt:36:5
 contained-requires : tie.Need-contained-requires
-contained-requires c κs = (sound-of _ _ (c .before .before .before .before .before .pre .0), (head-of _ _ (c .before .before .before .before .before .pre .0), c .before .before .before .before .before .pre .1))
+contained-requires c κs =
+    let a = c .before .before .before .before .before in
+    (sound-of _ _ (a .pre .0), (head-of _ _ (a .pre .0), a .pre .1))
 
 -- src/monomial_index.rt:37:8
 find-requires : tie.Need-find-requires
@@ -31,7 +33,11 @@ same-length-2 c = search needs
 
 -- src/monomial_index.rt:38:9
 returns : tie.Need-returns
-returns c = replied _ _ _ _ _ (c .before .before .before .before .before .before .before .before .before .before .before .before .before .before .before .pre .0) (c .before .before .before .before .before .before .before .before .before .contained .ensures) _ _ (c .before .before .before .before .find .ensures) _ (λ st I. c .answer-word .ensures ∙ sym (yes-none _ (c .before .if1 .taken)))
+returns c =
+    let b = c .before .before .before .before in
+    let d = b .before .before .before .before .before in
+    let a = d .before .before .before .before .before .before in
+    replied _ _ _ _ _ (a .pre .0) (d .contained .ensures) _ _ (b .find .ensures) _ (λ st I. c .answer-word .ensures ∙ sym (yes-none _ (c .before .if1 .taken)))
 
 -- src/monomial_index.rt:40:5
 answer-word-requires-2 : tie.Need-answer-word-requires-2
@@ -47,7 +53,11 @@ same-length-4 c = search needs
 
 -- src/monomial_index.rt:29:1
 returns-2 : tie.Need-returns-2
-returns-2 c = replied _ _ _ _ _ (c .before .before .before .before .before .before .before .before .before .before .before .before .before .before .before .pre .0) (c .before .before .before .before .before .before .before .before .before .contained .ensures) _ _ (c .before .before .before .before .find .ensures) _ (λ st I. c .answer-word2 .ensures ∙ sym (yes-some _ (c .before .if1 .left)))
+returns-2 c =
+    let b = c .before .before .before .before in
+    let d = b .before .before .before .before .before in
+    let a = d .before .before .before .before .before .before in
+    replied _ _ _ _ _ (a .pre .0) (d .contained .ensures) _ _ (b .find .ensures) _ (λ st I. c .answer-word2 .ensures ∙ sym (yes-some _ (c .before .if1 .left)))
 
 pub contains-divisor-spec : {M : Type 1} → statement M
 contains-divisor-spec =

@@ -1,7 +1,5 @@
 use Rattle.indices.proofs.Calling.{refuses, of-ratioed, six-below, six-above, two-or-six}
-use mathlib.Core.Path.{_≡_, refl, sym, ap, _∙_}
 use mathlib.Core.Logic.{inl, inr}
-use native.Mathlib.Omega.{arith}
 use borrow.Author.Needs.{needs}
 use Rattle.indices.proofs.ratio_monomial_index.call.Statement.{statement}
 use Rattle.indices.proofs.ratio_monomial_index.call.Tie as tie
@@ -18,7 +16,10 @@ refusal-word-requires c κs = search needs
 
 -- src/ratio_monomial_index.rt:221:9
 returns : tie.Need-returns
-returns c = refuses _ _ 6 _ (of-ratioed _ _ _ (c .before .before .before .before .before .before .pre .0) _ (c .before .before .before .before .before .before .pre .1 .0) (six-below _ _ _ (c .before .if1 .taken))) (λ j. (c .before .before .before .before .before .slice-known .given) j .fits) (c .refusal-word .ensures)
+returns c =
+    let b = c .before .before .before .before .before in
+    let a = b .before in
+    refuses _ _ 6 _ (of-ratioed _ _ _ (a .pre .0) _ (a .pre .1 .0) (six-below _ _ _ (c .before .if1 .taken))) (λ j. (b .slice-known .given) j .fits) (c .refusal-word .ensures)
 
 -- src/ratio_monomial_index.rt:224:9
 refusal-word-requires-2 : tie.Need-refusal-word-requires-2
@@ -26,7 +27,10 @@ refusal-word-requires-2 c κs = search needs
 
 -- src/ratio_monomial_index.rt:224:9
 returns-2 : tie.Need-returns-2
-returns-2 c = refuses _ _ 6 _ (of-ratioed _ _ _ (c .before .before .before .before .before .before .before .pre .0) _ (c .before .before .before .before .before .before .before .pre .1 .0) (six-above _ _ _ (c .before .if2 .taken))) (λ j. (c .before .before .before .before .before .before .slice-known .given) j .fits) (c .refusal-word2 .ensures)
+returns-2 c =
+    let b = c .before .before .before .before .before .before in
+    let a = b .before in
+    refuses _ _ 6 _ (of-ratioed _ _ _ (a .pre .0) _ (a .pre .1 .0) (six-above _ _ _ (c .before .if2 .taken))) (λ j. (b .slice-known .given) j .fits) (c .refusal-word2 .ensures)
 
 -- src/ratio_monomial_index.rt:227:9
 pair-call-requires : tie.Need-pair-call-requires
@@ -46,7 +50,9 @@ returns-3 c = rw (c .before .before .before .before .before .before .before .if3
 
 -- src/ratio_monomial_index.rt:230:9
 ratio-call-requires : tie.Need-ratio-call-requires
-ratio-call-requires c κs = (c .before .before .before .before .before .before .before .before .before .before .pre .0, (c .before .before .before .before .before .before .before .before .before .before .pre .1 .0, (c .before .before .before .before .before .before .before .before .before .before .pre .1 .1 .0 .0, (inl (c .before .before .if4 .taken), c .before .before .before .before .before .before .before .before .before .before .pre .1 .1 .1))))
+ratio-call-requires c κs =
+    let a = c .before .before .before .before .before .before .before .before .before .before in
+    (a .pre .0, (a .pre .1 .0, (a .pre .1 .1 .0 .0, (inl (c .before .before .if4 .taken), a .pre .1 .1 .1))))
 
 -- src/ratio_monomial_index.rt:230:9
 same-length-3 : tie.Need-same-length-3
@@ -62,7 +68,9 @@ returns-4 c = search needs
 
 -- src/ratio_monomial_index.rt:233:9
 ratio-call-requires-2 : tie.Need-ratio-call-requires-2
-ratio-call-requires-2 c κs = (c .before .before .before .before .before .before .before .before .before .before .before .pre .0, (c .before .before .before .before .before .before .before .before .before .before .before .pre .1 .0, (c .before .before .before .before .before .before .before .before .before .before .before .pre .1 .1 .0 .0, (inr (c .before .before .if5 .taken), c .before .before .before .before .before .before .before .before .before .before .before .pre .1 .1 .1))))
+ratio-call-requires-2 c κs =
+    let a = c .before .before .before .before .before .before .before .before .before .before .before in
+    (a .pre .0, (a .pre .1 .0, (a .pre .1 .1 .0 .0, (inr (c .before .before .if5 .taken), a .pre .1 .1 .1))))
 
 -- src/ratio_monomial_index.rt:233:9
 same-length-5 : tie.Need-same-length-5
@@ -78,7 +86,14 @@ returns-5 c = search needs
 
 -- src/ratio_monomial_index.rt:235:5
 signed-call-requires : tie.Need-signed-call-requires
-signed-call-requires c κs = (c .before .before .before .before .before .before .before .before .before .before .before .before .pre .0, (c .before .before .before .before .before .before .before .before .before .before .before .before .pre .1 .0, (c .before .before .before .before .before .before .before .before .before .before .before .before .pre .1 .1 .0, (two-or-six _ (c .before .before .before .before .before .before .before .if1 .left) (c .before .before .before .before .before .before .if2 .left) (c .before .before .before .before .before .if3 .left) (c .before .before .before .before .if4 .left) (c .before .before .before .if5 .left), c .before .before .before .before .before .before .before .before .before .before .before .before .pre .1 .1 .1))))
+signed-call-requires c κs =
+    let b = c .before .before .before in
+    let d = b .before in
+    let f = d .before in
+    let g = f .before in
+    let h = g .before in
+    let a = h .before .before .before .before .before in
+    (a .pre .0, (a .pre .1 .0, (a .pre .1 .1 .0, (two-or-six _ (h .if1 .left) (g .if2 .left) (f .if3 .left) (d .if4 .left) (b .if5 .left), a .pre .1 .1 .1))))
 
 -- src/ratio_monomial_index.rt:204:1
 same-length-7 : tie.Need-same-length-7

@@ -1,6 +1,6 @@
 use Rattle.indices.proofs.Queries.{head-of, sound-of, ready, replied, small, reducer-none, query-laid, label-ready, query-kind, inside, told-regular, told-singular}
 use Rattle.monomial.proofs.Firsts.{canonical-wide}
-use mathlib.Core.Path.{_≡_, refl, sym, ap, _∙_}
+use mathlib.Core.Path.{sym, _∙_}
 use native.Mathlib.Omega.{arith}
 use borrow.Author.Needs.{needs}
 use Rattle.indices.proofs.ratio_monomial_index.find_a_reducer.Statement.{statement}
@@ -15,7 +15,9 @@ use Rattle.words.proofs.pairs.get.Reads as get-reads
 
 -- src/ratio_monomial_index.rt:49:5
 reducer-requires : tie.Need-reducer-requires
-reducer-requires c κs = (sound-of _ _ (c .before .before .before .before .before .before .pre .0), (head-of _ _ (c .before .before .before .before .before .before .pre .0), (c .before .before .before .before .before .before .pre .1 .0, (c .before .before .before .before .before .before .pre .1 .1 .0, (canonical-wide (c .before .before .before .before .before .before .pre .1 .1 .1 .0), c .before .before .before .before .before .before .pre .1 .1 .1 .1)))))
+reducer-requires c κs =
+    let a = c .before .before .before .before .before .before in
+    (sound-of _ _ (a .pre .0), (head-of _ _ (a .pre .0), (a .pre .1 .0, (a .pre .1 .1 .0, (canonical-wide (a .pre .1 .1 .1 .0), a .pre .1 .1 .1 .1)))))
 
 -- src/ratio_monomial_index.rt:50:9
 find-requires : tie.Need-find-requires
@@ -35,7 +37,11 @@ same-length-2 c = search needs
 
 -- src/ratio_monomial_index.rt:52:9
 returns : tie.Need-returns
-returns c = replied _ _ _ _ _ (c .before .before .before .before .before .before .before .before .before .before .before .before .before .before .before .before .pre .0) (c .before .before .before .before .before .before .before .before .before .reducer .ensures) _ _ (c .before .before .before .before .find .ensures) _ (λ st I. c .answer-word .ensures ∙ sym (reducer-none _ _ _ (c .before .if1 .taken)))
+returns c =
+    let b = c .before .before .before .before in
+    let d = b .before .before .before .before .before in
+    let a = d .before .before .before .before .before .before .before in
+    replied _ _ _ _ _ (a .pre .0) (d .reducer .ensures) _ _ (b .find .ensures) _ (λ st I. c .answer-word .ensures ∙ sym (reducer-none _ _ _ (c .before .if1 .taken)))
 
 -- src/ratio_monomial_index.rt:54:31
 sub-label : tie.Need-sub-label
@@ -43,7 +49,19 @@ sub-label c = search needs
 
 -- src/ratio_monomial_index.rt:54:8
 label-requires : tie.Need-label-requires
-label-requires c κs = (query-laid _ _ _ _ _ _ (c .before .before .before .before .before .before .before .before .before .before .before .before .before .before .before .before .before .pre .0) (c .before .before .before .before .before .before .before .before .before .before .reducer .ensures) _ _ (c .before .before .before .before .before .find .ensures), (label-ready _ _ _ _ _ _ (c .before .before .before .before .before .before .before .before .before .before .before .before .before .before .before .before .before .pre .0) (c .before .before .before .before .before .before .before .before .before .before .reducer .ensures) _ _ (c .before .before .before .before .before .find .ensures), (query-kind _ _ _ _ _ _ (c .before .before .before .before .before .before .before .before .before .before .before .before .before .before .before .before .before .pre .0) (c .before .before .before .before .before .before .before .before .before .before .reducer .ensures) _ _ (c .before .before .before .before .before .find .ensures), inside _ _ _ _ _ _ (c .before .before .before .before .before .before .before .before .before .before .before .before .before .before .before .before .before .pre .0) (c .before .before .before .before .before .before .before .before .before .before .reducer .ensures) _ _ (c .before .before .before .before .before .find .ensures) (c .before .before .if1 .left))))
+label-requires c κs =
+    let b = c .before .before .before .before .before in
+    let d = b .before .before .before .before .before in
+    let a = d .before .before .before .before .before .before .before in (
+      query-laid _ _ _ _ _ _ (a .pre .0) (d .reducer .ensures) _ _ (b .find .ensures),
+      (
+        label-ready _ _ _ _ _ _ (a .pre .0) (d .reducer .ensures) _ _ (b .find .ensures),
+        (
+          query-kind _ _ _ _ _ _ (a .pre .0) (d .reducer .ensures) _ _ (b .find .ensures),
+          inside _ _ _ _ _ _ (a .pre .0) (d .reducer .ensures) _ _ (b .find .ensures) (c .before .before .if1 .left),
+        ),
+      ),
+    )
 
 -- src/ratio_monomial_index.rt:54:40
 get-requires : tie.Need-get-requires
@@ -51,11 +69,19 @@ get-requires c κs = search needs
 
 -- src/ratio_monomial_index.rt:55:35
 cast-answer-word : tie.Need-cast-answer-word
-cast-answer-word c = omega (arith, small _ _ _ _ _ (c .before .before .before .before .before .before .before .before .before .before .before .before .before .before .before .before .before .before .before .before .before .pre .0) (c .before .before .before .before .before .before .before .before .before .before .before .before .before .before .reducer .ensures) _ _ (c .before .before .before .before .before .before .before .before .before .find .ensures))
+cast-answer-word c =
+    let b = c .before .before .before .before .before .before .before .before .before in
+    let d = b .before .before .before .before .before in
+    let a = d .before .before .before .before .before .before .before in
+    omega (arith, small _ _ _ _ _ (a .pre .0) (d .reducer .ensures) _ _ (b .find .ensures))
 
 -- src/ratio_monomial_index.rt:55:9
 answer-word-requires-2 : tie.Need-answer-word-requires-2
-answer-word-requires-2 c κs = omega (arith, small _ _ _ _ _ (c .before .before .before .before .before .before .before .before .before .before .before .before .before .before .before .before .before .before .before .before .before .pre .0) (c .before .before .before .before .before .before .before .before .before .before .before .before .before .before .reducer .ensures) _ _ (c .before .before .before .before .before .before .before .before .before .find .ensures))
+answer-word-requires-2 c κs =
+    let b = c .before .before .before .before .before .before .before .before .before in
+    let d = b .before .before .before .before .before in
+    let a = d .before .before .before .before .before .before .before in
+    omega (arith, small _ _ _ _ _ (a .pre .0) (d .reducer .ensures) _ _ (b .find .ensures))
 
 -- src/ratio_monomial_index.rt:55:9
 same-length-3 : tie.Need-same-length-3
@@ -67,19 +93,39 @@ same-length-4 c = search needs
 
 -- src/ratio_monomial_index.rt:55:9
 returns-2 : tie.Need-returns-2
-returns-2 c = replied _ _ _ _ _ (c .before .before .before .before .before .before .before .before .before .before .before .before .before .before .before .before .before .before .before .before .before .before .pre .0) (c .before .before .before .before .before .before .before .before .before .before .before .before .before .before .before .reducer .ensures) _ _ (c .before .before .before .before .before .before .before .before .before .before .find .ensures) _ (told-regular _ _ _ _ _ _ (c .before .before .before .before .before .before .before .before .before .before .before .before .before .before .before .before .before .before .before .before .before .before .pre .0) (c .before .before .before .before .before .before .before .before .before .before .before .before .before .before .before .reducer .ensures) _ _ (c .before .before .before .before .before .before .before .before .before .before .find .ensures) _ (c .before .before .before .before .before .before .before .if1 .left) (c .before .before .before .before .label .ensures .0) _ (rw (c .before .before .get .ensures) at (c .before .if2 .taken)) (c .answer-word2 .ensures))
+returns-2 c =
+    let b = c .before .before .before .before in
+    let d = b .before .before .before in
+    let f = d .before .before .before in
+    let g = f .before .before .before .before .before in
+    let a = g .before .before .before .before .before .before .before in
+    replied _ _ _ _ _ (a .pre .0) (g .reducer .ensures) _ _ (f .find .ensures) _
+    (told-regular _ _ _ _ _ _ (a .pre .0) (g .reducer .ensures) _ _ (f .find .ensures) _ (d .if1 .left) (b .label .ensures .0) _
+    (rw (c .before .before .get .ensures) at (c .before .if2 .taken)) (c .answer-word2 .ensures))
 
 -- src/ratio_monomial_index.rt:57:24
 cast-answer-word-2 : tie.Need-cast-answer-word-2
-cast-answer-word-2 c = omega (arith, small _ _ _ _ _ (c .before .before .before .before .before .before .before .before .before .before .before .before .before .before .before .before .before .before .before .before .before .pre .0) (c .before .before .before .before .before .before .before .before .before .before .before .before .before .before .reducer .ensures) _ _ (c .before .before .before .before .before .before .before .before .before .find .ensures))
+cast-answer-word-2 c =
+    let b = c .before .before .before .before .before .before .before .before .before in
+    let d = b .before .before .before .before .before in
+    let a = d .before .before .before .before .before .before .before in
+    omega (arith, small _ _ _ _ _ (a .pre .0) (d .reducer .ensures) _ _ (b .find .ensures))
 
 -- src/ratio_monomial_index.rt:57:24
 add-answer-word : tie.Need-add-answer-word
-add-answer-word c = omega (arith, small _ _ _ _ _ (c .before .before .before .before .before .before .before .before .before .before .before .before .before .before .before .before .before .before .before .before .before .pre .0) (c .before .before .before .before .before .before .before .before .before .before .before .before .before .before .reducer .ensures) _ _ (c .before .before .before .before .before .before .before .before .before .find .ensures))
+add-answer-word c =
+    let b = c .before .before .before .before .before .before .before .before .before in
+    let d = b .before .before .before .before .before in
+    let a = d .before .before .before .before .before .before .before in
+    omega (arith, small _ _ _ _ _ (a .pre .0) (d .reducer .ensures) _ _ (b .find .ensures))
 
 -- src/ratio_monomial_index.rt:57:5
 answer-word-requires-3 : tie.Need-answer-word-requires-3
-answer-word-requires-3 c κs = omega (arith, small _ _ _ _ _ (c .before .before .before .before .before .before .before .before .before .before .before .before .before .before .before .before .before .before .before .before .before .pre .0) (c .before .before .before .before .before .before .before .before .before .before .before .before .before .before .reducer .ensures) _ _ (c .before .before .before .before .before .before .before .before .before .find .ensures))
+answer-word-requires-3 c κs =
+    let b = c .before .before .before .before .before .before .before .before .before in
+    let d = b .before .before .before .before .before in
+    let a = d .before .before .before .before .before .before .before in
+    omega (arith, small _ _ _ _ _ (a .pre .0) (d .reducer .ensures) _ _ (b .find .ensures))
 
 -- src/ratio_monomial_index.rt:34:1
 same-length-5 : tie.Need-same-length-5
@@ -91,7 +137,15 @@ same-length-6 c = search needs
 
 -- src/ratio_monomial_index.rt:34:1
 returns-3 : tie.Need-returns-3
-returns-3 c = replied _ _ _ _ _ (c .before .before .before .before .before .before .before .before .before .before .before .before .before .before .before .before .before .before .before .before .before .before .pre .0) (c .before .before .before .before .before .before .before .before .before .before .before .before .before .before .before .reducer .ensures) _ _ (c .before .before .before .before .before .before .before .before .before .before .find .ensures) _ (told-singular _ _ _ _ _ _ (c .before .before .before .before .before .before .before .before .before .before .before .before .before .before .before .before .before .before .before .before .before .before .pre .0) (c .before .before .before .before .before .before .before .before .before .before .before .before .before .before .before .reducer .ensures) _ _ (c .before .before .before .before .before .before .before .before .before .before .find .ensures) _ (c .before .before .before .before .before .before .before .if1 .left) (c .before .before .before .before .label .ensures .0) _ (rw (c .before .before .get .ensures) at (c .before .if2 .left)) (c .answer-word3 .ensures))
+returns-3 c =
+    let b = c .before .before .before .before in
+    let d = b .before .before .before in
+    let f = d .before .before .before in
+    let g = f .before .before .before .before .before in
+    let a = g .before .before .before .before .before .before .before in
+    replied _ _ _ _ _ (a .pre .0) (g .reducer .ensures) _ _ (f .find .ensures) _
+    (told-singular _ _ _ _ _ _ (a .pre .0) (g .reducer .ensures) _ _ (f .find .ensures) _ (d .if1 .left) (b .label .ensures .0) _
+    (rw (c .before .before .get .ensures) at (c .before .if2 .left)) (c .answer-word3 .ensures))
 
 pub find-a-reducer-spec : {M : Type 1} → statement M
 find-a-reducer-spec =

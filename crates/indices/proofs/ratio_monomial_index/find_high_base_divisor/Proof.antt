@@ -12,7 +12,9 @@ use Rattle.words.proofs.answer_word.Reads as answer-word-reads
 
 -- src/ratio_monomial_index.rt:76:5
 high-requires : tie.Need-high-requires
-high-requires c κs = (sound-of _ _ (c .before .before .before .before .before .before .pre .0), (head-of _ _ (c .before .before .before .before .before .before .pre .0), (c .before .before .before .before .before .before .pre .1 .0, (c .before .before .before .before .before .before .pre .1 .1 .0, (canonical-wide (c .before .before .before .before .before .before .pre .1 .1 .1 .0), c .before .before .before .before .before .before .pre .1 .1 .1 .1)))))
+high-requires c κs =
+    let a = c .before .before .before .before .before .before in
+    (sound-of _ _ (a .pre .0), (head-of _ _ (a .pre .0), (a .pre .1 .0, (a .pre .1 .1 .0, (canonical-wide (a .pre .1 .1 .1 .0), a .pre .1 .1 .1 .1)))))
 
 -- src/ratio_monomial_index.rt:77:9
 find-requires : tie.Need-find-requires
@@ -20,11 +22,17 @@ find-requires c κs = ready _ _ _ _ _ (c .before .before .before .before .before
 
 -- src/ratio_monomial_index.rt:78:24
 cast-answer-word : tie.Need-cast-answer-word
-cast-answer-word c = omega (arith, small _ _ _ _ _ (c .before .before .before .before .before .before .before .before .before .before .before .before .before .before .pre .0) (c .before .before .before .before .before .before .before .high .ensures) _ _ (c .before .before .find .ensures))
+cast-answer-word c =
+    let b = c .before .before .before .before .before .before .before in
+    let a = b .before .before .before .before .before .before .before in
+    omega (arith, small _ _ _ _ _ (a .pre .0) (b .high .ensures) _ _ (c .before .before .find .ensures))
 
 -- src/ratio_monomial_index.rt:78:5
 answer-word-requires : tie.Need-answer-word-requires
-answer-word-requires c κs = omega (arith, small _ _ _ _ _ (c .before .before .before .before .before .before .before .before .before .before .before .before .before .before .pre .0) (c .before .before .before .before .before .before .before .high .ensures) _ _ (c .before .before .find .ensures))
+answer-word-requires c κs =
+    let b = c .before .before .before .before .before .before .before in
+    let a = b .before .before .before .before .before .before .before in
+    omega (arith, small _ _ _ _ _ (a .pre .0) (b .high .ensures) _ _ (c .before .before .find .ensures))
 
 -- src/ratio_monomial_index.rt:61:1
 same-length : tie.Need-same-length
@@ -36,7 +44,11 @@ same-length-2 c = search needs
 
 -- src/ratio_monomial_index.rt:61:1
 returns : tie.Need-returns
-returns c = replied _ _ _ _ _ (c .before .before .before .before .before .before .before .before .before .before .before .before .before .before .before .pre .0) (c .before .before .before .before .before .before .before .before .high .ensures) _ _ (c .before .before .before .find .ensures) _ (found-as _ _ _ _ _ (c .before .before .before .before .before .before .before .before .before .before .before .before .before .before .before .pre .0) (c .before .before .before .before .before .before .before .before .high .ensures) _ _ (c .before .before .before .find .ensures) _ (c .answer-word .ensures))
+returns c =
+    let b = c .before .before .before in
+    let d = b .before .before .before .before .before in
+    let a = d .before .before .before .before .before .before .before in
+    replied _ _ _ _ _ (a .pre .0) (d .high .ensures) _ _ (b .find .ensures) _ (found-as _ _ _ _ _ (a .pre .0) (d .high .ensures) _ _ (b .find .ensures) _ (c .answer-word .ensures))
 
 pub find-high-base-divisor-spec : {M : Type 1} → statement M
 find-high-base-divisor-spec =

@@ -11,7 +11,9 @@ use Rattle.words.proofs.answer_word.Reads as answer-word-reads
 
 -- src/ratio_monomial_index.rt:96:5
 low-requires : tie.Need-low-requires
-low-requires c κs = (sound-of _ _ (c .before .before .before .before .before .pre .0), (head-of _ _ (c .before .before .before .before .before .pre .0), c .before .before .before .before .before .pre .1))
+low-requires c κs =
+    let a = c .before .before .before .before .before in
+    (sound-of _ _ (a .pre .0), (head-of _ _ (a .pre .0), a .pre .1))
 
 -- src/ratio_monomial_index.rt:97:9
 find-requires : tie.Need-find-requires
@@ -19,11 +21,17 @@ find-requires c κs = ready _ _ _ _ _ (c .before .before .before .before .before
 
 -- src/ratio_monomial_index.rt:98:24
 cast-answer-word : tie.Need-cast-answer-word
-cast-answer-word c = omega (arith, small _ _ _ _ _ (c .before .before .before .before .before .before .before .before .before .before .before .before .before .pre .0) (c .before .before .before .before .before .before .before .low .ensures) _ _ (c .before .before .find .ensures))
+cast-answer-word c =
+    let b = c .before .before .before .before .before .before .before in
+    let a = b .before .before .before .before .before .before in
+    omega (arith, small _ _ _ _ _ (a .pre .0) (b .low .ensures) _ _ (c .before .before .find .ensures))
 
 -- src/ratio_monomial_index.rt:98:5
 answer-word-requires : tie.Need-answer-word-requires
-answer-word-requires c κs = omega (arith, small _ _ _ _ _ (c .before .before .before .before .before .before .before .before .before .before .before .before .before .pre .0) (c .before .before .before .before .before .before .before .low .ensures) _ _ (c .before .before .find .ensures))
+answer-word-requires c κs =
+    let b = c .before .before .before .before .before .before .before in
+    let a = b .before .before .before .before .before .before in
+    omega (arith, small _ _ _ _ _ (a .pre .0) (b .low .ensures) _ _ (c .before .before .find .ensures))
 
 -- src/ratio_monomial_index.rt:82:1
 same-length : tie.Need-same-length
@@ -35,7 +43,11 @@ same-length-2 c = search needs
 
 -- src/ratio_monomial_index.rt:82:1
 returns : tie.Need-returns
-returns c = replied _ _ _ _ _ (c .before .before .before .before .before .before .before .before .before .before .before .before .before .before .pre .0) (c .before .before .before .before .before .before .before .before .low .ensures) _ _ (c .before .before .before .find .ensures) _ (found-as _ _ _ _ _ (c .before .before .before .before .before .before .before .before .before .before .before .before .before .before .pre .0) (c .before .before .before .before .before .before .before .before .low .ensures) _ _ (c .before .before .before .find .ensures) _ (c .answer-word .ensures))
+returns c =
+    let b = c .before .before .before in
+    let d = b .before .before .before .before .before in
+    let a = d .before .before .before .before .before .before in
+    replied _ _ _ _ _ (a .pre .0) (d .low .ensures) _ _ (b .find .ensures) _ (found-as _ _ _ _ _ (a .pre .0) (d .low .ensures) _ _ (b .find .ensures) _ (c .answer-word .ensures))
 
 pub find-low-base-divisor-spec : {M : Type 1} → statement M
 find-low-base-divisor-spec =

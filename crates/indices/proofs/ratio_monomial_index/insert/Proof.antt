@@ -15,19 +15,30 @@ refusal-word-requires c κs = search needs
 
 -- src/ratio_monomial_index.rt:22:9
 returns : tie.Need-returns
-returns c = refused (c .before .before .before .before .before .before .args .image .now) (c .before .before .before .before .before .before .args .s) _ (c .refusal-word .result) (c .before .before .before .before .before .before .pre .0) (λ j. (c .before .before .before .before .before .slice-known .given) j .fits) (omega (arith, c .before .if1 .taken)) (c .refusal-word .ensures)
+returns c =
+    let b = c .before .before .before .before .before in
+    let a = b .before in
+    refused (a .args .image .now) (a .args .s) _ (c .refusal-word .result) (a .pre .0) (λ j. (b .slice-known .given) j .fits) (omega (arith, c .before .if1 .taken)) (c .refusal-word .ensures)
 
 -- src/ratio_monomial_index.rt:24:9
 insert-ratio-requires : tie.Need-insert-ratio-requires
-insert-ratio-requires c κs = (with-room (c .before .before .before .before .before .before .args .image .now) (c .before .before .before .before .before .before .args .s) (c .before .before .before .before .before .before .pre .0) (omega (arith, c .before .if1 .left)), c .before .before .before .before .before .before .pre .1)
+insert-ratio-requires c κs =
+    let a = c .before .before .before .before .before .before in
+    (with-room (a .args .image .now) (a .args .s) (a .pre .0) (omega (arith, c .before .if1 .left)), a .pre .1)
 
 -- src/ratio_monomial_index.rt:25:24
 cast-answer-word : tie.Need-cast-answer-word
-cast-answer-word c = omega (arith, number-small (c .before .before .before .before .before .before .before .before .before .args .image .now) (c .before .before .before .before .before .before .before .before .before .args .s) _ (c .before .before .insert-ratio .result) _ (c .before .before .before .before .before .before .before .before .before .pre .0) (omega (arith, c .before .before .before .before .if1 .left)) (c .before .before .insert-ratio .ensures))
+cast-answer-word c =
+    let b = c .before .before .before .before in
+    let a = b .before .before .before .before .before in
+    omega (arith, number-small (a .args .image .now) (a .args .s) _ (c .before .before .insert-ratio .result) _ (a .pre .0) (omega (arith, b .if1 .left)) (c .before .before .insert-ratio .ensures))
 
 -- src/ratio_monomial_index.rt:25:5
 answer-word-requires : tie.Need-answer-word-requires
-answer-word-requires c κs = number-small (c .before .before .before .before .before .before .before .before .before .args .image .now) (c .before .before .before .before .before .before .before .before .before .args .s) _ (c .before .before .insert-ratio .result) _ (c .before .before .before .before .before .before .before .before .before .pre .0) (omega (arith, c .before .before .before .before .if1 .left)) (c .before .before .insert-ratio .ensures)
+answer-word-requires c κs =
+    let b = c .before .before .before .before in
+    let a = b .before .before .before .before .before in
+    number-small (a .args .image .now) (a .args .s) _ (c .before .before .insert-ratio .result) _ (a .pre .0) (omega (arith, b .if1 .left)) (c .before .before .insert-ratio .ensures)
 
 -- src/ratio_monomial_index.rt:13:1
 same-length : tie.Need-same-length
@@ -35,7 +46,11 @@ same-length c = search needs
 
 -- src/ratio_monomial_index.rt:13:1
 returns-2 : tie.Need-returns-2
-returns-2 c = accepted (c .before .before .before .before .before .before .before .before .before .before .args .image .now) _ (c .before .before .before .before .before .before .before .before .before .before .args .s) _ (c .before .before .before .insert-ratio .result) (c .answer-word .result) (c .before .before .before .before .before .before .before .before .before .before .pre .0) (omega (arith, c .before .before .before .before .before .if1 .left)) (c .before .before .before .insert-ratio .ensures) (c .answer-word .ensures)
+returns-2 c =
+    let b = c .before .before .before in
+    let d = b .before .before in
+    let a = d .before .before .before .before .before in
+    accepted (a .args .image .now) _ (a .args .s) _ (b .insert-ratio .result) (c .answer-word .result) (a .pre .0) (omega (arith, d .if1 .left)) (b .insert-ratio .ensures) (c .answer-word .ensures)
 
 pub insert-spec : {M : Type 1} → statement M
 insert-spec =

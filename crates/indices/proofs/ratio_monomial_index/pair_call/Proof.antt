@@ -36,11 +36,32 @@ refusal-word-requires c κs = search needs
 
 -- src/ratio_monomial_index.rt:137:9
 returns : tie.Need-returns
-returns c = refuses _ _ 7 _ (of-ratioed _ _ _ (c .before .before .before .before .before .before .before .before .before .pre .0) _ (c .before .before .before .before .before .before .before .before .before .pre .1 .0) (bad-pair _ _ _ _ _ (c .before .before .before .pair .ensures _ (c .before .before .before .before .monomial-at .ensures)) refl (not-true _ (c .before .if1 .taken)))) (λ j. (c .before .before .before .before .before .before .before .before .slice-known .given) j .fits) (c .refusal-word .ensures)
+returns c =
+    let b = c .before .before .before in
+    let d = b .before in
+    let f = d .before .before .before .before in
+    let a = f .before in
+    refuses _ _ 7 _ (of-ratioed _ _ _ (a .pre .0) _ (a .pre .1 .0)
+    (bad-pair _ _ _ _ _ (b .pair .ensures _ (d .monomial-at .ensures)) refl (not-true _ (c .before .if1 .taken)))) (λ j. (f .slice-known .given) j .fits) (c .refusal-word .ensures)
 
 -- src/ratio_monomial_index.rt:139:5
 find-low-base-divisor-requires : tie.Need-find-low-base-divisor-requires
-find-low-base-divisor-requires c κs = (c .before .before .before .before .before .before .before .before .before .before .pre .0, (c .before .before .before .before .before .before .before .before .before .before .pre .1 .0, (c .before .before .before .before .before .before .before .before .before .before .pre .1 .1 .0, ((c .before .before .before .before .pair .ensures _ (c .before .before .before .before .before .monomial-at .ensures)) .index-small, (c .before .before .before .before .pair .ensures _ (c .before .before .before .before .before .monomial-at .ensures)) .canonical (not-false _ (c .before .before .if1 .left))))))
+find-low-base-divisor-requires c κs =
+    let b = c .before .before .before .before in
+    let d = b .before in
+    let a = d .before .before .before .before .before in (
+      a .pre .0,
+      (
+        a .pre .1 .0,
+        (
+          a .pre .1 .1 .0,
+          (
+            (b .pair .ensures _ (d .monomial-at .ensures)) .index-small,
+            (b .pair .ensures _ (d .monomial-at .ensures)) .canonical (not-false _ (c .before .before .if1 .left)),
+          ),
+        ),
+      ),
+    )
 
 -- src/ratio_monomial_index.rt:127:1
 same-length : tie.Need-same-length
@@ -52,7 +73,14 @@ same-length-2 c = search needs
 
 -- src/ratio_monomial_index.rt:127:1
 returns-2 : tie.Need-returns-2
-returns-2 c = serves _ _ _ _ _ (of-ratioed _ _ _ (c .before .before .before .before .before .before .before .before .before .before .before .before .before .before .before .pre .0) _ (c .before .before .before .before .before .before .before .before .before .before .before .before .before .before .before .pre .1 .0) (asks-low _ _ _ _ _ (c .before .before .before .before .before .before .before .before .before .pair .ensures _ (c .before .before .before .before .before .before .before .before .before .before .monomial-at .ensures)) refl (not-false _ (c .before .before .before .before .before .before .before .if1 .left)))) (c .before .before .before .before .find-low-base-divisor .ensures)
+returns-2 c =
+    let b = c .before .before .before .before in
+    let d = b .before .before .before in
+    let f = d .before .before in
+    let g = f .before in
+    let a = g .before .before .before .before .before in
+    serves _ _ _ _ _ (of-ratioed _ _ _ (a .pre .0) _ (a .pre .1 .0) (asks-low _ _ _ _ _ (f .pair .ensures _ (g .monomial-at .ensures)) refl (not-false _ (d .if1 .left))))
+    (b .find-low-base-divisor .ensures)
 
 pub pair-call-spec : {M : Type 1} → statement M
 pair-call-spec =

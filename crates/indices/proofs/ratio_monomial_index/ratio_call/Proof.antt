@@ -29,11 +29,15 @@ ratio-at-requires c κs = search needs
 
 -- src/ratio_monomial_index.rt:161:41
 add-monomial-at : tie.Need-add-monomial-at
-add-monomial-at c = omega (arith, c .before .before .before .before .before .good, c .before .before .before .before .before .pre .1 .1 .1 .1 .0, length-words (c .before .before .before .before .before .args .list .now))
+add-monomial-at c =
+    let a = c .before .before .before .before .before in
+    omega (arith, a .good, a .pre .1 .1 .1 .1 .0, length-words (a .args .list .now))
 
 -- src/ratio_monomial_index.rt:161:41
 add-monomial-at-2 : tie.Need-add-monomial-at-2
-add-monomial-at-2 c = omega (arith, c .before .before .before .before .before .good, c .before .before .before .before .before .pre .1 .1 .1 .1 .0, length-words (c .before .before .before .before .before .args .list .now), c .ratio-at .ok)
+add-monomial-at-2 c =
+    let a = c .before .before .before .before .before in
+    omega (arith, a .good, a .pre .1 .1 .1 .1 .0, length-words (a .args .list .now), c .ratio-at .ok)
 
 -- src/ratio_monomial_index.rt:161:9
 monomial-at-requires : tie.Need-monomial-at-requires
@@ -49,11 +53,38 @@ refusal-word-requires c κs = search needs
 
 -- src/ratio_monomial_index.rt:164:9
 returns : tie.Need-returns
-returns c = refuses _ _ 7 _ (of-ratioed _ _ _ (c .before .before .before .before .before .before .before .before .before .before .pre .0) _ (c .before .before .before .before .before .before .before .before .before .before .pre .1 .0) (bad-valued _ _ _ _ _ _ (c .before .before .before .triple .ensures 2 _ (omega arith) (omega arith) (c .before .before .before .before .before .ratio-at .ensures) (c .before .before .before .before .monomial-at .ensures)) (c .before .before .before .before .before .before .before .before .before .before .pre .1 .1 .1 .0) (not-true _ (c .before .if1 .taken)))) (λ j. (c .before .before .before .before .before .before .before .before .before .slice-known .given) j .fits) (c .refusal-word .ensures)
+returns c =
+    let b = c .before .before .before in
+    let d = b .before in
+    let f = d .before in
+    let g = f .before .before .before .before in
+    let a = g .before in
+    refuses _ _ 7 _ (of-ratioed _ _ _ (a .pre .0) _ (a .pre .1 .0)
+    (bad-valued _ _ _ _ _ _ (b .triple .ensures 2 _ (omega arith) (omega arith) (f .ratio-at .ensures) (d .monomial-at .ensures)) (a .pre .1 .1 .1 .0)
+    (not-true _ (c .before .if1 .taken)))) (λ j. (g .slice-known .given) j .fits) (c .refusal-word .ensures)
 
 -- src/ratio_monomial_index.rt:167:9
 find-a-reducer-requires : tie.Need-find-a-reducer-requires
-find-a-reducer-requires c κs = (c .before .before .before .before .before .before .before .before .before .before .before .before .pre .0, (c .before .before .before .before .before .before .before .before .before .before .before .before .pre .1 .0, (c .before .before .before .before .before .before .before .before .before .before .before .before .pre .1 .1 .0, ((c .before .before .before .before .before .triple .ensures 2 _ (omega arith) (omega arith) (c .before .before .before .before .before .before .before .ratio-at .ensures) (c .before .before .before .before .before .before .monomial-at .ensures)) .first-canonical (not-false _ (c .before .before .before .if1 .left)), (c .before .before .before .before .before .triple .ensures 2 _ (omega arith) (omega arith) (c .before .before .before .before .before .before .before .ratio-at .ensures) (c .before .before .before .before .before .before .monomial-at .ensures)) .second-canonical (not-false _ (c .before .before .before .if1 .left))))))
+find-a-reducer-requires c κs =
+    let b = c .before .before .before in
+    let d = b .before .before in
+    let f = d .before in
+    let g = f .before in
+    let a = g .before .before .before .before .before in (
+      a .pre .0,
+      (
+        a .pre .1 .0,
+        (
+          a .pre .1 .1 .0,
+          (
+            (d .triple .ensures 2 _ (omega arith) (omega arith) (g .ratio-at .ensures) (f .monomial-at .ensures)) .first-canonical
+                (not-false _ (b .if1 .left)),
+            (d .triple .ensures 2 _ (omega arith) (omega arith) (g .ratio-at .ensures) (f .monomial-at .ensures)) .second-canonical
+                (not-false _ (b .if1 .left)),
+          ),
+        ),
+      ),
+    )
 
 -- src/ratio_monomial_index.rt:167:9
 same-length : tie.Need-same-length
@@ -65,11 +96,40 @@ same-length-2 c = search needs
 
 -- src/ratio_monomial_index.rt:167:9
 returns-2 : tie.Need-returns-2
-returns-2 c = serves _ _ _ _ _ (of-ratioed _ _ _ (c .before .before .before .before .before .before .before .before .before .before .before .before .before .before .before .before .before .pre .0) _ (c .before .before .before .before .before .before .before .before .before .before .before .before .before .before .before .before .before .pre .1 .0) (asks-reducing _ _ _ _ _ _ (c .before .before .before .before .before .before .before .before .before .before .triple .ensures 2 _ (omega arith) (omega arith) (c .before .before .before .before .before .before .before .before .before .before .before .before .ratio-at .ensures) (c .before .before .before .before .before .before .before .before .before .before .before .monomial-at .ensures)) (c .before .before .before .before .before .before .before .if2 .taken) (not-false _ (c .before .before .before .before .before .before .before .before .if1 .left)))) (c .before .before .before .before .find-a-reducer .ensures)
+returns-2 c =
+    let b = c .before .before .before .before in
+    let d = b .before .before .before in
+    let f = d .before in
+    let g = f .before .before in
+    let h = g .before in
+    let i = h .before in
+    let a = i .before .before .before .before .before in
+    serves _ _ _ _ _ (of-ratioed _ _ _ (a .pre .0) _ (a .pre .1 .0)
+    (asks-reducing _ _ _ _ _ _ (g .triple .ensures 2 _ (omega arith) (omega arith) (i .ratio-at .ensures) (h .monomial-at .ensures)) (d .if2 .taken)
+    (not-false _ (f .if1 .left)))) (b .find-a-reducer .ensures)
 
 -- src/ratio_monomial_index.rt:169:5
 find-high-base-divisor-requires : tie.Need-find-high-base-divisor-requires
-find-high-base-divisor-requires c κs = (c .before .before .before .before .before .before .before .before .before .before .before .before .pre .0, (c .before .before .before .before .before .before .before .before .before .before .before .before .pre .1 .0, (c .before .before .before .before .before .before .before .before .before .before .before .before .pre .1 .1 .0, ((c .before .before .before .before .before .triple .ensures 2 _ (omega arith) (omega arith) (c .before .before .before .before .before .before .before .ratio-at .ensures) (c .before .before .before .before .before .before .monomial-at .ensures)) .first-canonical (not-false _ (c .before .before .before .if1 .left)), (c .before .before .before .before .before .triple .ensures 2 _ (omega arith) (omega arith) (c .before .before .before .before .before .before .before .ratio-at .ensures) (c .before .before .before .before .before .before .monomial-at .ensures)) .second-canonical (not-false _ (c .before .before .before .if1 .left))))))
+find-high-base-divisor-requires c κs =
+    let b = c .before .before .before in
+    let d = b .before .before in
+    let f = d .before in
+    let g = f .before in
+    let a = g .before .before .before .before .before in (
+      a .pre .0,
+      (
+        a .pre .1 .0,
+        (
+          a .pre .1 .1 .0,
+          (
+            (d .triple .ensures 2 _ (omega arith) (omega arith) (g .ratio-at .ensures) (f .monomial-at .ensures)) .first-canonical
+                (not-false _ (b .if1 .left)),
+            (d .triple .ensures 2 _ (omega arith) (omega arith) (g .ratio-at .ensures) (f .monomial-at .ensures)) .second-canonical
+                (not-false _ (b .if1 .left)),
+          ),
+        ),
+      ),
+    )
 
 -- src/ratio_monomial_index.rt:143:1
 same-length-3 : tie.Need-same-length-3
@@ -81,7 +141,17 @@ same-length-4 c = search needs
 
 -- src/ratio_monomial_index.rt:143:1
 returns-3 : tie.Need-returns-3
-returns-3 c = serves _ _ _ _ _ (of-ratioed _ _ _ (c .before .before .before .before .before .before .before .before .before .before .before .before .before .before .before .before .before .pre .0) _ (c .before .before .before .before .before .before .before .before .before .before .before .before .before .before .before .before .before .pre .1 .0) (asks-high _ _ _ _ _ _ (c .before .before .before .before .before .before .before .before .before .before .triple .ensures 2 _ (omega arith) (omega arith) (c .before .before .before .before .before .before .before .before .before .before .before .before .ratio-at .ensures) (c .before .before .before .before .before .before .before .before .before .before .before .monomial-at .ensures)) (c .before .before .before .before .before .before .before .before .before .before .before .before .before .before .before .before .before .pre .1 .1 .1 .0) (c .before .before .before .before .before .before .before .if2 .left) (not-false _ (c .before .before .before .before .before .before .before .before .if1 .left)))) (c .before .before .before .before .find-high-base-divisor .ensures)
+returns-3 c =
+    let b = c .before .before .before .before in
+    let d = b .before .before .before in
+    let f = d .before in
+    let g = f .before .before in
+    let h = g .before in
+    let i = h .before in
+    let a = i .before .before .before .before .before in
+    serves _ _ _ _ _ (of-ratioed _ _ _ (a .pre .0) _ (a .pre .1 .0)
+    (asks-high _ _ _ _ _ _ (g .triple .ensures 2 _ (omega arith) (omega arith) (i .ratio-at .ensures) (h .monomial-at .ensures)) (a .pre .1 .1 .1 .0) (d .if2 .left)
+    (not-false _ (f .if1 .left)))) (b .find-high-base-divisor .ensures)
 
 pub ratio-call-spec : {M : Type 1} → statement M
 ratio-call-spec =

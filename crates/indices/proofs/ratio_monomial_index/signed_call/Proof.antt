@@ -21,7 +21,9 @@ cast-v c = omega (arith, few-variables _ _ (c .before .before .before .before .b
 
 -- src/ratio_monomial_index.rt:191:41
 add-monomial-at : tie.Need-add-monomial-at
-add-monomial-at c = omega (arith, c .before .before .before .before .before .good, c .before .before .before .before .before .pre .1 .1 .1 .1 .0, length-words (c .before .before .before .before .before .args .list .now))
+add-monomial-at c =
+    let a = c .before .before .before .before .before in
+    omega (arith, a .good, a .pre .1 .1 .1 .1 .0, length-words (a .args .list .now))
 
 -- src/ratio_monomial_index.rt:191:9
 monomial-at-requires : tie.Need-monomial-at-requires
@@ -29,11 +31,15 @@ monomial-at-requires c κs = search needs
 
 -- src/ratio_monomial_index.rt:192:41
 add-monomial-at-2 : tie.Need-add-monomial-at-2
-add-monomial-at-2 c = omega (arith, c .before .before .before .before .before .before .good, c .before .before .before .before .before .before .pre .1 .1 .1 .1 .0, length-words (c .before .before .before .before .before .before .args .list .now))
+add-monomial-at-2 c =
+    let a = c .before .before .before .before .before .before in
+    omega (arith, a .good, a .pre .1 .1 .1 .1 .0, length-words (a .args .list .now))
 
 -- src/ratio_monomial_index.rt:192:41
 add-monomial-at-3 : tie.Need-add-monomial-at-3
-add-monomial-at-3 c = omega (arith, c .before .before .before .before .before .before .good, c .before .before .before .before .before .before .pre .1 .1 .1 .1 .0, length-words (c .before .before .before .before .before .before .args .list .now), c .monomial-at .ok)
+add-monomial-at-3 c =
+    let a = c .before .before .before .before .before .before in
+    omega (arith, a .good, a .pre .1 .1 .1 .1 .0, length-words (a .args .list .now), c .monomial-at .ok)
 
 -- src/ratio_monomial_index.rt:192:9
 monomial-at-requires-2 : tie.Need-monomial-at-requires-2
@@ -49,11 +55,43 @@ refusal-word-requires c κs = search needs
 
 -- src/ratio_monomial_index.rt:195:9
 returns : tie.Need-returns
-returns c = refuses _ _ 7 _ (of-ratioed _ _ _ (c .before .before .before .before .before .before .before .before .before .before .before .pre .0) _ (c .before .before .before .before .before .before .before .before .before .before .before .pre .1 .0) (bad-signed _ _ _ _ _ _ (c .before .before .before .triple .ensures 1 _ (omega arith) (omega arith) (c .before .before .before .before .before .monomial-at .ensures) (c .before .before .before .before .monomial-at2 .ensures)) (c .before .before .before .before .before .before .before .before .before .before .before .pre .1 .1 .1 .0) (not-true _ (c .before .if1 .taken)))) (λ j. (c .before .before .before .before .before .before .before .before .before .before .slice-known .given) j .fits) (c .refusal-word .ensures)
+returns c =
+    let b = c .before .before .before in
+    let d = b .before in
+    let f = d .before in
+    let g = f .before .before .before .before .before in
+    let a = g .before in
+    refuses _ _ 7 _ (of-ratioed _ _ _ (a .pre .0) _ (a .pre .1 .0)
+    (bad-signed _ _ _ _ _ _ (b .triple .ensures 1 _ (omega arith) (omega arith) (f .monomial-at .ensures) (d .monomial-at2 .ensures)) (a .pre .1 .1 .1 .0)
+    (not-true _ (c .before .if1 .taken)))) (λ j. (g .slice-known .given) j .fits) (c .refusal-word .ensures)
 
 -- src/ratio_monomial_index.rt:198:9
 insert-requires : tie.Need-insert-requires
-insert-requires c κs = (c .before .before .before .before .before .before .before .before .before .before .before .before .pre .0, (c .before .before .before .before .before .before .before .before .before .before .before .before .pre .1 .0, ((c .before .before .before .before .triple .ensures 1 _ (omega arith) (omega arith) (c .before .before .before .before .before .before .monomial-at .ensures) (c .before .before .before .before .before .monomial-at2 .ensures)) .index-small, (((c .before .before .before .before .triple .ensures 1 _ (omega arith) (omega arith) (c .before .before .before .before .before .before .monomial-at .ensures) (c .before .before .before .before .before .monomial-at2 .ensures)) .first-canonical (not-false _ (c .before .before .if1 .left)), found-whole _ _ _ _ _ (c .before .before .before .before .before .before .monomial-at .ensures)), ((c .before .before .before .before .triple .ensures 1 _ (omega arith) (omega arith) (c .before .before .before .before .before .before .monomial-at .ensures) (c .before .before .before .before .before .monomial-at2 .ensures)) .second-canonical (not-false _ (c .before .before .if1 .left)), found-whole _ _ _ _ _ (c .before .before .before .before .before .monomial-at2 .ensures))))))
+insert-requires c κs =
+    let b = c .before .before .before .before in
+    let d = b .before in
+    let f = d .before in
+    let a = f .before .before .before .before .before .before in (
+      a .pre .0,
+      (
+        a .pre .1 .0,
+        (
+          (b .triple .ensures 1 _ (omega arith) (omega arith) (f .monomial-at .ensures) (d .monomial-at2 .ensures)) .index-small,
+          (
+            (
+              (b .triple .ensures 1 _ (omega arith) (omega arith) (f .monomial-at .ensures) (d .monomial-at2 .ensures)) .first-canonical
+                  (not-false _ (c .before .before .if1 .left)),
+              found-whole _ _ _ _ _ (f .monomial-at .ensures),
+            ),
+            (
+              (b .triple .ensures 1 _ (omega arith) (omega arith) (f .monomial-at .ensures) (d .monomial-at2 .ensures)) .second-canonical
+                  (not-false _ (c .before .before .if1 .left)),
+              found-whole _ _ _ _ _ (d .monomial-at2 .ensures),
+            ),
+          ),
+        ),
+      ),
+    )
 
 -- src/ratio_monomial_index.rt:198:9
 same-length : tie.Need-same-length
@@ -61,11 +99,40 @@ same-length c = search needs
 
 -- src/ratio_monomial_index.rt:198:9
 returns-2 : tie.Need-returns-2
-returns-2 c = serves _ _ _ _ _ (of-ratioed _ _ _ (c .before .before .before .before .before .before .before .before .before .before .before .before .before .before .before .pre .0) _ (c .before .before .before .before .before .before .before .before .before .before .before .before .before .before .before .pre .1 .0) (inserts-signed _ _ _ _ _ _ (c .before .before .before .before .before .before .before .triple .ensures 1 _ (omega arith) (omega arith) (c .before .before .before .before .before .before .before .before .before .monomial-at .ensures) (c .before .before .before .before .before .before .before .before .monomial-at2 .ensures)) (c .before .before .before .before .if2 .taken) (not-false _ (c .before .before .before .before .before .if1 .left)))) (c .before .before .insert .ensures)
+returns-2 c =
+    let b = c .before .before .before .before in
+    let d = b .before in
+    let f = d .before .before in
+    let g = f .before in
+    let h = g .before in
+    let a = h .before .before .before .before .before .before in
+    serves _ _ _ _ _ (of-ratioed _ _ _ (a .pre .0) _ (a .pre .1 .0)
+    (inserts-signed _ _ _ _ _ _ (f .triple .ensures 1 _ (omega arith) (omega arith) (h .monomial-at .ensures) (g .monomial-at2 .ensures)) (b .if2 .taken)
+    (not-false _ (d .if1 .left)))) (c .before .before .insert .ensures)
 
 -- src/ratio_monomial_index.rt:200:5
 test-singular-criterion-requires : tie.Need-test-singular-criterion-requires
-test-singular-criterion-requires c κs = (c .before .before .before .before .before .before .before .before .before .before .before .before .before .before .pre .0, (c .before .before .before .before .before .before .before .before .before .before .before .before .before .before .pre .1 .0, (c .before .before .before .before .before .before .before .before .before .before .before .before .before .before .pre .1 .1 .0, ((c .before .before .before .before .before .before .triple .ensures 1 _ (omega arith) (omega arith) (c .before .before .before .before .before .before .before .before .monomial-at .ensures) (c .before .before .before .before .before .before .before .monomial-at2 .ensures)) .index-small, ((c .before .before .before .before .before .before .triple .ensures 1 _ (omega arith) (omega arith) (c .before .before .before .before .before .before .before .before .monomial-at .ensures) (c .before .before .before .before .before .before .before .monomial-at2 .ensures)) .first-canonical (not-false _ (c .before .before .before .before .if1 .left)), (c .before .before .before .before .before .before .triple .ensures 1 _ (omega arith) (omega arith) (c .before .before .before .before .before .before .before .before .monomial-at .ensures) (c .before .before .before .before .before .before .before .monomial-at2 .ensures)) .second-canonical (not-false _ (c .before .before .before .before .if1 .left)))))))
+test-singular-criterion-requires c κs =
+    let b = c .before .before .before .before in
+    let d = b .before .before in
+    let f = d .before in
+    let g = f .before in
+    let a = g .before .before .before .before .before .before in (
+      a .pre .0,
+      (
+        a .pre .1 .0,
+        (
+          a .pre .1 .1 .0,
+          (
+            (d .triple .ensures 1 _ (omega arith) (omega arith) (g .monomial-at .ensures) (f .monomial-at2 .ensures)) .index-small,
+            (
+              (d .triple .ensures 1 _ (omega arith) (omega arith) (g .monomial-at .ensures) (f .monomial-at2 .ensures)) .first-canonical (not-false _ (b .if1 .left)),
+              (d .triple .ensures 1 _ (omega arith) (omega arith) (g .monomial-at .ensures) (f .monomial-at2 .ensures)) .second-canonical (not-false _ (b .if1 .left)),
+            ),
+          ),
+        ),
+      ),
+    )
 
 -- src/ratio_monomial_index.rt:173:1
 same-length-2 : tie.Need-same-length-2
@@ -81,7 +148,17 @@ same-length-4 c = search needs
 
 -- src/ratio_monomial_index.rt:173:1
 returns-3 : tie.Need-returns-3
-returns-3 c = serves _ _ _ _ _ (of-ratioed _ _ _ (c .before .before .before .before .before .before .before .before .before .before .before .before .before .before .before .before .before .before .before .before .before .pre .0) _ (c .before .before .before .before .before .before .before .before .before .before .before .before .before .before .before .before .before .before .before .before .before .pre .1 .0) (asks-singular _ _ _ _ _ _ (c .before .before .before .before .before .before .before .before .before .before .before .before .before .triple .ensures 1 _ (omega arith) (omega arith) (c .before .before .before .before .before .before .before .before .before .before .before .before .before .before .before .monomial-at .ensures) (c .before .before .before .before .before .before .before .before .before .before .before .before .before .before .monomial-at2 .ensures)) (c .before .before .before .before .before .before .before .before .before .before .before .before .before .before .before .before .before .before .before .before .before .pre .1 .1 .1 .0) (c .before .before .before .before .before .before .before .before .before .before .if2 .left) (not-false _ (c .before .before .before .before .before .before .before .before .before .before .before .if1 .left)))) (c .before .before .before .before .before .before .test-singular-criterion .ensures)
+returns-3 c =
+    let b = c .before .before .before .before .before .before in
+    let d = b .before .before .before .before in
+    let f = d .before in
+    let g = f .before .before in
+    let h = g .before in
+    let i = h .before in
+    let a = i .before .before .before .before .before .before in
+    serves _ _ _ _ _ (of-ratioed _ _ _ (a .pre .0) _ (a .pre .1 .0)
+    (asks-singular _ _ _ _ _ _ (g .triple .ensures 1 _ (omega arith) (omega arith) (i .monomial-at .ensures) (h .monomial-at2 .ensures)) (a .pre .1 .1 .1 .0)
+    (d .if2 .left) (not-false _ (f .if1 .left)))) (b .test-singular-criterion .ensures)
 
 pub signed-call-spec : {M : Type 1} → statement M
 signed-call-spec =

@@ -1,5 +1,5 @@
 use Rattle.indices.proofs.Queries.{few-variables, head-of, sound-of, ready, replied, yes-none, yes-some}
-use mathlib.Core.Path.{_≡_, refl, sym, ap, _∙_}
+use mathlib.Core.Path.{sym, _∙_}
 use native.Mathlib.Omega.{arith}
 use borrow.Author.Needs.{needs}
 use Rattle.indices.proofs.ratio_monomial_index.test_singular_criterion.Statement.{
@@ -14,11 +14,16 @@ use Rattle.words.proofs.answer_word.Reads as answer-word-reads
 
 -- src/ratio_monomial_index.rt:119:5
 singular-requires : tie.Need-singular-requires
-singular-requires c κs = (sound-of _ _ (c .before .before .before .before .before .before .before .before .pre .0), (head-of _ _ (c .before .before .before .before .before .before .before .before .pre .0), (c .before .before .before .before .before .before .before .before .pre .1 .0, (c .before .before .before .before .before .before .before .before .pre .1 .1 .0 .0, (omega (arith, few-variables _ _ (c .before .before .before .before .before .before .before .before .pre .0), c .before .before .before .before .before .before .before .before .pre .1 .1 .0 .1), c .before .before .before .before .before .before .before .before .pre .1 .1 .1)))))
+singular-requires c κs =
+    let a = c .before .before .before .before .before .before .before .before in
+    (sound-of _ _ (a .pre .0), (head-of _ _ (a .pre .0), (a .pre .1 .0, (a .pre .1 .1 .0 .0, (omega (arith, few-variables _ _ (a .pre .0), a .pre .1 .1 .0 .1), a .pre .1 .1 .1)))))
 
 -- src/ratio_monomial_index.rt:120:8
 find-requires : tie.Need-find-requires
-find-requires c κs = ready _ _ _ _ _ (c .before .before .before .before .before .before .before .before .before .before .before .before .before .before .before .pre .0) (c .before .before .before .before .before .before .singular .ensures)
+find-requires c κs =
+    let b = c .before .before .before .before .before .before in
+    let a = b .before .before .before .before .before .before .before .before .before in
+    ready _ _ _ _ _ (a .pre .0) (b .singular .ensures)
 
 -- src/ratio_monomial_index.rt:121:9
 answer-word-requires : tie.Need-answer-word-requires
@@ -38,7 +43,11 @@ same-length-3 c = search needs
 
 -- src/ratio_monomial_index.rt:121:9
 returns : tie.Need-returns
-returns c = replied _ _ _ _ _ (c .before .before .before .before .before .before .before .before .before .before .before .before .before .before .before .before .before .before .before .before .pre .0) (c .before .before .before .before .before .before .before .before .before .before .before .singular .ensures) _ _ (c .before .before .before .before .find .ensures) _ (λ st I. c .answer-word .ensures ∙ sym (yes-none _ (c .before .if1 .taken)))
+returns c =
+    let b = c .before .before .before .before in
+    let d = b .before .before .before .before .before .before .before in
+    let a = d .before .before .before .before .before .before .before .before .before in
+    replied _ _ _ _ _ (a .pre .0) (d .singular .ensures) _ _ (b .find .ensures) _ (λ st I. c .answer-word .ensures ∙ sym (yes-none _ (c .before .if1 .taken)))
 
 -- src/ratio_monomial_index.rt:123:5
 answer-word-requires-2 : tie.Need-answer-word-requires-2
@@ -58,7 +67,11 @@ same-length-6 c = search needs
 
 -- src/ratio_monomial_index.rt:102:1
 returns-2 : tie.Need-returns-2
-returns-2 c = replied _ _ _ _ _ (c .before .before .before .before .before .before .before .before .before .before .before .before .before .before .before .before .before .before .before .before .pre .0) (c .before .before .before .before .before .before .before .before .before .before .before .singular .ensures) _ _ (c .before .before .before .before .find .ensures) _ (λ st I. c .answer-word2 .ensures ∙ sym (yes-some _ (c .before .if1 .left)))
+returns-2 c =
+    let b = c .before .before .before .before in
+    let d = b .before .before .before .before .before .before .before in
+    let a = d .before .before .before .before .before .before .before .before .before in
+    replied _ _ _ _ _ (a .pre .0) (d .singular .ensures) _ _ (b .find .ensures) _ (λ st I. c .answer-word2 .ensures ∙ sym (yes-some _ (c .before .if1 .left)))
 
 pub test-singular-criterion-spec : {M : Type 1} → statement M
 test-singular-criterion-spec =
