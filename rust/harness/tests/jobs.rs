@@ -1,8 +1,9 @@
-//! A moderate number of jobs of every mode, and the mutation check.
+//! A moderate number of jobs of every mode, the mutation check, and the jobs
+//! that the gate replays.
 
 use harness::{
     compare::{compare, notice},
-    jobs::{Job, Mode},
+    jobs::{record::sample, Job, Mode},
     model::mutation::{Mutation, Rules},
 };
 
@@ -24,4 +25,11 @@ fn every_wrong_rule_is_noticed() {
     for mutation in Mutation::ALL.iter().copied() {
         assert!(notice(mutation, 0..ROUNDS).is_some(), "{mutation:?}");
     }
+}
+
+#[test]
+fn replayed_jobs_are_as_the_original_answers() {
+    let stored = include_bytes!("../../../crates/call_replay/stdin");
+    let bytes: Vec<u8> = sample().into_iter().flat_map(u32::to_le_bytes).collect();
+    assert!(bytes == stored, "rust/make-replay writes them again");
 }

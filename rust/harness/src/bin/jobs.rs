@@ -2,13 +2,19 @@
 //!
 //! `jobs MODE|all COUNT [SEED]` runs COUNT jobs of each mode from a seed on.
 //! `jobs show MODE SEED` prints one job: its opening, and each call with the
-//! model's answer.
+//! model's answer. `jobs words` writes the words that `crates/call_replay`
+//! replays; see `jobs::record`.
 
-use std::{env, process::ExitCode, time::Instant};
+use std::{
+    env,
+    io::{self, Write},
+    process::ExitCode,
+    time::Instant,
+};
 
 use harness::{
     compare::{compare, Tally},
-    jobs::{Job, Mode},
+    jobs::{record::sample, Job, Mode},
     model::{mutation::Rules, Index},
     words::calls,
 };
@@ -19,6 +25,11 @@ fn main() -> ExitCode {
     match read(&args) {
         Some(Task::Show(job)) => {
             show(&job);
+            ExitCode::SUCCESS
+        }
+        Some(Task::Words) => {
+            let bytes: Vec<u8> = sample().into_iter().flat_map(u32::to_le_bytes).collect();
+            io::stdout().write_all(&bytes).expect("standard output");
             ExitCode::SUCCESS
         }
         Some(Task::Compare { modes, count, seed }) => match run(&modes, count, seed) {
@@ -32,7 +43,7 @@ fn main() -> ExitCode {
             }
         },
         None => {
-            eprintln!("usage: jobs MODE|all COUNT [SEED], or jobs show MODE SEED");
+            eprintln!("usage: jobs MODE|all COUNT [SEED], jobs show MODE SEED, or jobs words");
             eprintln!("modes: {:?}", Mode::ALL);
             ExitCode::FAILURE
         }
@@ -41,6 +52,7 @@ fn main() -> ExitCode {
 
 enum Task {
     Show(Job),
+    Words,
     Compare {
         modes: Vec<Mode>,
         count: u64,
@@ -54,6 +66,7 @@ fn read(args: &[&str]) -> Option<Task> {
             let job = Job::new(Mode::from_name(mode)?, seed.parse().ok()?);
             Some(Task::Show(job))
         }
+        ["words"] => Some(Task::Words),
         [modes, count] => read(&[modes, count, "0"]),
         [modes, count, seed] => Some(Task::Compare {
             modes: match *modes {

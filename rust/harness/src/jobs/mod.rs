@@ -2,6 +2,7 @@
 
 mod entries;
 mod maker;
+pub mod record;
 
 use crate::{
     model::{Kind, Opening},
