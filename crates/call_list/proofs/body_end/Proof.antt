@@ -35,7 +35,18 @@ kind-requires c κs = search needs
 
 -- src/lib.rt:69:13
 returns : tie.Need-returns Inv-loop μ-loop
-returns c = omega (arith, c .before .before .before .before .loop .inv .1 .1, body-stops (words (c .before .before .before .before .before .before .args .list .now)) (c .before .before .before .before .loop .i) (c .before .before .get .result) (omega (arith, length-words (c .before .before .before .before .before .before .args .list .now), c .before .before .before .loop-test .taken)) (c .before .before .get .ensures) (omega (arith, c .before .kind .ensures, c .if1 .taken)))
+returns c =
+    let start = c .before .before .before .before .before .before in
+    let loop = c .before .before .before .before .loop in
+    let loop-test = c .before .before .before .loop-test in
+    let get = c .before .before .get in
+    omega (
+      arith,
+      loop .inv .1 .1,
+      body-stops (words (start .args .list .now)) (loop .i) (get .result)
+          (omega (arith, length-words (start .args .list .now), loop-test .taken)) (get .ensures)
+          (omega (arith, c .before .kind .ensures, c .if1 .taken)),
+    )
 
 -- src/lib.rt:71:9
 add-i : tie.Need-add-i Inv-loop μ-loop
@@ -47,11 +58,36 @@ loop-less c = omega (arith, c .before .before .before .loop-test .taken)
 
 -- src/lib.rt:67:5
 loop-again : tie.Need-loop-again Inv-loop μ-loop
-loop-again c = (omega (arith, c .before .before .before .before .loop .inv .0), (omega (arith, c .before .before .before .loop-test .taken), omega (arith, c .before .before .before .before .loop .inv .1 .1, body-goes (words (c .before .before .before .before .before .before .args .list .now)) (c .before .before .before .before .loop .i) (c .before .before .get .result) (omega (arith, length-words (c .before .before .before .before .before .before .args .list .now), c .before .before .before .loop-test .taken)) (c .before .before .get .ensures) (λ z. omega (arith, c .before .kind .ensures, c .if1 .left, z)))))
+loop-again c =
+    let start = c .before .before .before .before .before .before in
+    let loop = c .before .before .before .before .loop in
+    let loop-test = c .before .before .before .loop-test in
+    let get = c .before .before .get in (
+      omega (arith, loop .inv .0),
+      (
+        omega (arith, loop-test .taken),
+        omega (
+          arith,
+          loop .inv .1 .1,
+          body-goes (words (start .args .list .now)) (loop .i) (get .result)
+              (omega (arith, length-words (start .args .list .now), loop-test .taken)) (get .ensures)
+              (λ z. omega (arith, c .before .kind .ensures, c .if1 .left, z)),
+        ),
+      ),
+    )
 
 -- src/lib.rt:61:1
 returns-2 : tie.Need-returns-2 Inv-loop μ-loop
-returns-2 c = omega (arith, c .before .loop .inv .1 .1, ap (λ (l : List ℕ). length (bodyOf l)) (past-end (words (c .before .before .before .args .list .now)) (c .before .loop .i) (omega (arith, length-words (c .before .before .before .args .list .now), c .loop-test .left))), ap length body-nil)
+returns-2 c =
+    let start = c .before .before .before in
+    let loop = c .before .loop in
+    omega (
+      arith,
+      loop .inv .1 .1,
+      ap (λ (l : List ℕ). length (bodyOf l))
+          (past-end (words (start .args .list .now)) (loop .i) (omega (arith, length-words (start .args .list .now), c .loop-test .left))),
+      ap length body-nil,
+    )
 
 pub body-end-spec : {M : Type 1} → statement M
 body-end-spec =

@@ -47,11 +47,36 @@ loop-less c = omega (arith, c .before .before .loop-test .taken)
 
 -- src/lib.rt:60:5
 loop-again : tie.Need-loop-again Inv-loop μ-loop
-loop-again c = (omega (arith, c .before .before .before .loop .inv .0, c .is-call .ensures, one-call (c .before .get .result)), (omega (arith, c .before .before .loop-test .taken), omega (arith, c .before .before .before .loop .inv .1 .1, c .is-call .ensures, counted (words (c .before .before .before .before .before .args .list .now)) (c .before .before .before .loop .i) (c .before .get .result) (omega (arith, length-words (c .before .before .before .before .before .args .list .now), c .before .before .loop-test .taken)) (c .before .get .ensures))))
+loop-again c =
+    let start = c .before .before .before .before .before in
+    let loop = c .before .before .before .loop in
+    let loop-test = c .before .before .loop-test in
+    let get = c .before .get in (
+      omega (arith, loop .inv .0, c .is-call .ensures, one-call (get .result)),
+      (
+        omega (arith, loop-test .taken),
+        omega (
+          arith,
+          loop .inv .1 .1,
+          c .is-call .ensures,
+          counted (words (start .args .list .now)) (loop .i) (get .result)
+              (omega (arith, length-words (start .args .list .now), loop-test .taken)) (get .ensures),
+        ),
+      ),
+    )
 
 -- src/lib.rt:54:1
 returns : tie.Need-returns Inv-loop μ-loop
-returns c = omega (arith, c .before .loop .inv .1 .1, ap (λ (l : List ℕ). length (calls l)) (past-end (words (c .before .before .before .args .list .now)) (c .before .loop .i) (omega (arith, length-words (c .before .before .before .args .list .now), c .loop-test .left))), ap length calls-nil)
+returns c =
+    let start = c .before .before .before in
+    let loop = c .before .loop in
+    omega (
+      arith,
+      loop .inv .1 .1,
+      ap (λ (l : List ℕ). length (calls l))
+          (past-end (words (start .args .list .now)) (loop .i) (omega (arith, length-words (start .args .list .now), c .loop-test .left))),
+      ap length calls-nil,
+    )
 
 pub count-spec : {M : Type 1} → statement M
 count-spec =

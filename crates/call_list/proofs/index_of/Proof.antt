@@ -24,7 +24,16 @@ returns c = rw (c .no-body .ensures) (leads-none _ _ _ (c .before .before .befor
 
 -- src/lib.rt:101:9
 get-requires : tie.Need-get-requires
-get-requires c κs = omega (arith, c .if1 .left, c .before .before .pre .1, body-most (drop (c .before .before .args .at) (words (c .before .before .args .list .now))), length-drop (c .before .before .args .at) (words (c .before .before .args .list .now)), length-words (c .before .before .args .list .now))
+get-requires c κs =
+    let start = c .before .before in
+    omega (
+      arith,
+      c .if1 .left,
+      start .pre .1,
+      body-most (drop (start .args .at) (words (start .args .list .now))),
+      length-drop (start .args .at) (words (start .args .list .now)),
+      length-words (start .args .list .now),
+    )
 
 -- src/lib.rt:102:8
 kind-requires : tie.Need-kind-requires
@@ -36,7 +45,13 @@ no-body-requires-2 c κs = search needs
 
 -- src/lib.rt:103:9
 returns-2 : tie.Need-returns-2
-returns-2 c = rw (c .no-body2 .ensures) (leads-other _ _ _ (c .before .before .before .before .before .before .pre .0) (c .before .before .before .before .before .before .pre .1) _ (c .before .before .before .get .ensures) (omega (arith, c .before .before .before .before .if1 .left)) (λ z. (c .before .if2 .taken) (c .before .before .kind .ensures ∙ z)))
+returns-2 c =
+    let start = c .before .before .before .before .before .before in
+    let if1 = c .before .before .before .before .if1 in
+    let get = c .before .before .before .get in
+    rw (c .no-body2 .ensures)
+    (leads-other _ _ _ (start .pre .0) (start .pre .1) _ (get .ensures) (omega (arith, if1 .left))
+    (λ z. c .before .if2 .taken (c .before .before .kind .ensures ∙ z)))
 
 -- src/lib.rt:107:16
 payload-requires : tie.Need-payload-requires
@@ -44,7 +59,12 @@ payload-requires c κs = search needs
 
 -- src/lib.rt:93:1
 returns-3 : tie.Need-returns-3
-returns-3 c = leads _ _ _ (c .before .before .before .before .before .before .pre .0) (c .before .before .before .before .before .before .pre .1) _ (c .before .before .before .get .ensures) (omega (arith, c .before .before .before .before .if1 .left)) (sym (c .before .before .kind .ensures) ∙ c .before .if2 .left) _ (c .payload .ensures)
+returns-3 c =
+    let start = c .before .before .before .before .before .before in
+    let if1 = c .before .before .before .before .if1 in
+    let get = c .before .before .before .get in
+    leads _ _ _ (start .pre .0) (start .pre .1) _ (get .ensures) (omega (arith, if1 .left))
+    (sym (c .before .before .kind .ensures) ∙ c .before .if2 .left) _ (c .payload .ensures)
 
 pub index-of-spec : {M : Type 1} → statement M
 index-of-spec =

@@ -34,7 +34,13 @@ kind-requires c κs = search needs
 
 -- src/lib.rt:32:1
 returns-3 : tie.Need-returns-3
-returns-3 c = rw (c .kind .ensures) (list-starts (c .before .before .before .before .before .args .list .now) (c .before .get .result) (omega (arith, c .before .before .before .if1 .left)) (λ z. omega (arith, c .before .before .if2 .left, z)) (c .before .get .ensures))
+returns-3 c =
+    let start = c .before .before .before .before .before in
+    let if1 = c .before .before .before .if1 in
+    let get = c .before .get in
+    rw (c .kind .ensures)
+    (list-starts (start .args .list .now) (get .result) (omega (arith, if1 .left)) (λ z. omega (arith, c .before .before .if2 .left, z))
+    (get .ensures))
 
 pub is-list-spec : {M : Type 1} → statement M
 is-list-spec = tie.close (tie.spec returns returns-2 get-requires kind-requires returns-3)

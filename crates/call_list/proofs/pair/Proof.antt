@@ -24,11 +24,20 @@ add-single c = omega (arith, c .before .before .before .before .before .good, c 
 
 -- src/lib.rt:122:15
 single-requires : tie.Need-single-requires
-single-requires c κs = (rest-fits _ _ _ (c .before .before .before .before .before .pre .0) (c .before .before .before .before .before .pre .1) _ (c .before .before .index-of .ensures) (not-false _ (c .if1 .left)), rest-ends _ _ _ (c .before .before .before .before .before .pre .0) (c .before .before .before .before .before .pre .1) _ (c .before .before .index-of .ensures) (not-false _ (c .if1 .left)))
+single-requires c κs =
+    let start = c .before .before .before .before .before in
+    let index-of = c .before .before .index-of in (
+      rest-fits _ _ _ (start .pre .0) (start .pre .1) _ (index-of .ensures) (not-false _ (c .if1 .left)),
+      rest-ends _ _ _ (start .pre .0) (start .pre .1) _ (index-of .ensures) (not-false _ (c .if1 .left)),
+    )
 
 -- src/lib.rt:112:1
 returns-2 : tie.Need-returns-2
-returns-2 c = λ m e. paired _ _ _ (c .before .before .before .before .before .before .pre .0) (c .before .before .before .before .before .before .pre .1) _ (c .before .before .before .index-of .ensures) (not-false _ (c .before .if1 .left)) m _ _ ((c .single .ensures) m e)
+returns-2 c =
+    let start = c .before .before .before .before .before .before in
+    let index-of = c .before .before .before .index-of in
+    λ m e. paired _ _ _ (start .pre .0) (start .pre .1) _ (index-of .ensures) (not-false _ (c .before .if1 .left)) m _ _
+    (c .single .ensures m e)
 
 pub pair-spec : {M : Type 1} → statement M
 pair-spec = tie.close (tie.spec index-of-requires returns add-single single-requires returns-2)

@@ -16,7 +16,10 @@ index-of-requires c κs = search needs
 
 -- src/lib.rt:135:9
 returns : tie.Need-returns
-returns c = λ k m pos few ex ey. tripled-none _ _ _ (c .before .before .before .before .before .before .pre .0) (c .before .before .before .before .before .before .pre .1) _ (c .before .before .index-of .ensures) k m _ _ (not-true _ (c .if1 .taken))
+returns c =
+    let start = c .before .before .before .before .before .before in
+    λ k m pos few ex ey. tripled-none _ _ _ (start .pre .0) (start .pre .1) _ (c .before .before .index-of .ensures) k m _ _
+    (not-true _ (c .if1 .taken))
 
 -- src/lib.rt:138:9
 no-body-requires : tie.Need-no-body-requires
@@ -24,7 +27,12 @@ no-body-requires c κs = search needs
 
 -- src/lib.rt:138:9
 returns-2 : tie.Need-returns-2
-returns-2 c = λ k m pos few ex ey. rw (c .no-body .ensures) (no-first _ _ _ (c .before .before .before .before .before .before .before .before .pre .0) (c .before .before .before .before .before .before .before .before .pre .1) _ (c .before .before .before .before .index-of .ensures) (not-false _ (c .before .before .if1 .left)) k m (c .before .before .before .before .before .before .before .before .args .x .now) (c .before .before .before .before .before .before .before .before .args .y .now) pos few ex (c .before .if2 .taken))
+returns-2 c =
+    let start = c .before .before .before .before .before .before .before .before in
+    let index-of = c .before .before .before .before .index-of in
+    λ k m pos few ex ey. rw (c .no-body .ensures)
+    (no-first _ _ _ (start .pre .0) (start .pre .1) _ (index-of .ensures) (not-false _ (c .before .before .if1 .left)) k m
+    (start .args .x .now) (start .args .y .now) pos few ex (c .before .if2 .taken))
 
 -- src/lib.rt:141:9
 no-body-requires-2 : tie.Need-no-body-requires-2
@@ -32,23 +40,50 @@ no-body-requires-2 c κs = search needs
 
 -- src/lib.rt:141:9
 returns-3 : tie.Need-returns-3
-returns-3 c = λ k m pos few ex ey. rw (c .no-body2 .ensures) (no-second _ _ _ (c .before .before .before .before .before .before .before .before .before .pre .0) (c .before .before .before .before .before .before .before .before .before .pre .1) _ (c .before .before .before .before .before .index-of .ensures) (not-false _ (c .before .before .before .if1 .left)) k m (c .before .before .before .before .before .before .before .before .before .args .x .now) (c .before .before .before .before .before .before .before .before .before .args .y .now) pos few ex (c .before .before .if2 .left) ey (c .before .if3 .taken))
+returns-3 c =
+    let start = c .before .before .before .before .before .before .before .before .before in
+    let index-of = c .before .before .before .before .before .index-of in
+    let if1 = c .before .before .before .if1 in
+    λ k m pos few ex ey. rw (c .no-body2 .ensures)
+    (no-second _ _ _ (start .pre .0) (start .pre .1) _ (index-of .ensures) (not-false _ (if1 .left)) k m (start .args .x .now)
+    (start .args .y .now) pos few ex (c .before .before .if2 .left) ey (c .before .if3 .taken))
 
 -- src/lib.rt:144:15
 add-t8 : tie.Need-add-t8
-add-t8 c = omega (arith, c .before .before .before .before .before .before .before .before .good, c .before .before .before .before .before .before .before .before .pre .0, length-words (c .before .before .before .before .before .before .before .before .args .list .now))
+add-t8 c =
+    let start = c .before .before .before .before .before .before .before .before in
+    let good = c .before .before .before .before .before .before .before .before .good in
+    omega (arith, good, start .pre .0, length-words (start .args .list .now))
 
 -- src/lib.rt:144:15
 add-t11 : tie.Need-add-t11
-add-t11 c = omega (arith, c .before .before .before .before .before .before .before .before .good, c .before .before .before .before .before .before .before .before .pre .0, length-words (c .before .before .before .before .before .before .before .before .args .list .now))
+add-t11 c =
+    let start = c .before .before .before .before .before .before .before .before in
+    let good = c .before .before .before .before .before .before .before .before .good in
+    omega (arith, good, start .pre .0, length-words (start .args .list .now))
 
 -- src/lib.rt:144:15
 add-t14 : tie.Need-add-t14
-add-t14 c = omega (arith, c .before .before .before .before .before .before .before .before .good, c .before .before .before .before .before .before .before .before .pre .0, length-words (c .before .before .before .before .before .before .before .before .args .list .now))
+add-t14 c =
+    let start = c .before .before .before .before .before .before .before .before in
+    let good = c .before .before .before .before .before .before .before .before .good in
+    omega (arith, good, start .pre .0, length-words (start .args .list .now))
 
 -- src/lib.rt:128:1
 returns-4 : tie.Need-returns-4
-returns-4 c = λ k m pos few ex ey. tripled _ _ _ (c .before .before .before .before .before .before .before .before .pre .0) (c .before .before .before .before .before .before .before .before .pre .1) _ (c .before .before .before .before .index-of .ensures) (not-false _ (c .before .before .if1 .left)) k m (c .before .before .before .before .before .before .before .before .args .x .now) (c .before .before .before .before .before .before .before .before .args .y .now) pos few ex (c .before .if2 .left) _ (single-good _ _ _ (second-fits _ _ _ (c .before .before .before .before .before .before .before .before .pre .0) (c .before .before .before .before .before .before .before .before .pre .1) _ (c .before .before .before .before .index-of .ensures) (not-false _ (c .before .before .if1 .left)) k m (c .before .before .before .before .before .before .before .before .args .x .now) (c .before .before .before .before .before .before .before .before .args .y .now) pos few ex (c .before .if2 .left)) (second-ends _ _ _ (c .before .before .before .before .before .before .before .before .pre .0) (c .before .before .before .before .before .before .before .before .pre .1) _ (c .before .before .before .before .index-of .ensures) (not-false _ (c .before .before .if1 .left)) k m (c .before .before .before .before .before .before .before .before .args .x .now) (c .before .before .before .before .before .before .before .before .args .y .now) pos few ex (c .before .if2 .left)) m _ ey (c .if3 .left) _ (λ t. eqb-true _ _ t) (λ t. eqb-false _ _ t))
+returns-4 c =
+    let start = c .before .before .before .before .before .before .before .before in
+    let index-of = c .before .before .before .before .index-of in
+    let if1 = c .before .before .if1 in
+    let if2 = c .before .if2 in
+    λ k m pos few ex ey. tripled _ _ _ (start .pre .0) (start .pre .1) _ (index-of .ensures) (not-false _ (if1 .left)) k m
+    (start .args .x .now) (start .args .y .now) pos few ex (if2 .left) _
+    (single-good _ _ _
+    (second-fits _ _ _ (start .pre .0) (start .pre .1) _ (index-of .ensures) (not-false _ (if1 .left)) k m (start .args .x .now)
+    (start .args .y .now) pos few ex (if2 .left))
+    (second-ends _ _ _ (start .pre .0) (start .pre .1) _ (index-of .ensures) (not-false _ (if1 .left)) k m (start .args .x .now)
+    (start .args .y .now) pos few ex (if2 .left))
+    m _ ey (c .if3 .left) _ (λ t. eqb-true _ _ t) (λ t. eqb-false _ _ t))
 
 pub triple-spec : {M : Type 1} → statement M
 triple-spec =

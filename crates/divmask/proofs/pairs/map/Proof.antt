@@ -58,17 +58,25 @@ variable c =
 
 stepped-at : (c : tie.After-field Inv-loop μ-loop) → Added (c .before .before .before .before .before .before .before .before .before) (c .before .first-bit .result) (c .field .result)
 stepped-at c =
+    let id = c .before .before .before .before .before .id in
+    let power = c .before .before .before .before .power in
+    let get2 = c .before .before .before .get2 in
     let b = c .before .before .before .before .before .before in
     let loop = b .before .before .before .loop in
-    stepped (loop .inv .0) (seen _ (loop .inv .0 .ra) (b .before .before .get .ensures)) (is-end-false _ (b .before .is-end .ensures) (b .if1 .left))
-    (c .before .before .before .before .before .id .ensures) (c .before .before .before .before .power .ensures) (c .before .before .before .get2 .ensures) (c .before .before .bits-of .ensures) (c .field .ensures) (c .before .first-bit .ensures)
+    stepped (loop .inv .0) (seen _ (loop .inv .0 .ra) (b .before .before .get .ensures))
+    (is-end-false _ (b .before .is-end .ensures) (b .if1 .left)) (id .ensures) (power .ensures) (get2 .ensures)
+    (c .before .before .bits-of .ensures) (c .field .ensures) (c .before .first-bit .ensures)
 
 short-at : (c : tie.After-short-field Inv-loop μ-loop) → AddedShort (c .before .before .before .before .before .before .before .before .before .before) (c .before .before .first-bit .result) (c .short-field .result)
 short-at c =
+    let id = c .before .before .before .before .before .before .id in
+    let power = c .before .before .before .before .before .power in
+    let bits-of = c .before .before .before .bits-of in
     let b = c .before .before .before .before .before .before .before in
     let loop = b .before .before .before .loop in
-    short-stepped (loop .inv .1) (seen _ (loop .inv .0 .ra) (b .before .before .get .ensures)) (is-end-false _ (b .before .is-end .ensures) (b .if1 .left))
-    (c .before .before .before .before .before .before .id .ensures) (c .before .before .before .before .before .power .ensures) (c .before .before .before .bits-of .ensures) (c .short-field .ensures) (c .before .before .first-bit .ensures)
+    short-stepped (loop .inv .1) (seen _ (loop .inv .0 .ra) (b .before .before .get .ensures))
+    (is-end-false _ (b .before .is-end .ensures) (b .if1 .left)) (id .ensures) (power .ensures) (bits-of .ensures) (c .short-field .ensures)
+    (c .before .before .first-bit .ensures)
 
 -- end of helpers
 

@@ -39,7 +39,12 @@ is-blank-requires c κs = rw (c .before .entry-width .ensures, c .entry-at .ensu
 
 -- src/entries.rt:212:9
 returns : tie.Need-returns
-returns c = refuse (λ q. never (sym (not-true _ (c .if1 .taken)) ∙ (rw (c .before .before .entry-at .ensures, c .before .before .before .entry-width .ensures) at (c .before .is-blank .ensures)) .1 (q .rest)))
+returns c =
+    let entry-width = c .before .before .before .entry-width in
+    refuse
+    (λ q. never
+    (sym (not-true _ (c .if1 .taken))
+    ∙ (rw (c .before .before .entry-at .ensures, entry-width .ensures) at (c .before .is-blank .ensures)) .1 (q .rest)))
 
 -- src/entries.rt:214:18
 add-a : tie.Need-add-a
@@ -79,7 +84,9 @@ slice-aggregate-prepare c = search needs
 
 -- src/entries.rt:217:9
 prepare-requires : tie.Need-prepare-requires
-prepare-requires c κs = (rw (range-words (c .before .before .before .before .before .before .before .before .before .before .args .image .now) (24 + (c .before .before .before .before .before .before .before .before .before .before .args .s .variables)) (c .before .before .before .before .before .before .before .before .before .before .args .s .variables)) (c .before .before .before .before .before .before .before .before .before .before .pre .1 .1 .map), refl)
+prepare-requires c κs =
+    let start = c .before .before .before .before .before .before .before .before .before .before in
+    (rw (range-words (start .args .image .now) (24 + start .args .s .variables) (start .args .s .variables)) (start .pre .1 .1 .map), refl)
 
 -- src/entries.rt:218:27
 slice-aggregate-all-entries : tie.Need-slice-aggregate-all-entries
@@ -104,7 +111,17 @@ all-entries-requires c κs =
 
 -- src/entries.rt:202:1
 returns-2 : tie.Need-returns-2
-returns-2 c = (λ z. record { each = (c .all-entries .ensures .0) z; rest = (rw (c .before .before .before .before .before .before .before .before .before .before .before .entry-at .ensures, c .before .before .before .before .before .before .before .before .before .before .before .before .entry-width .ensures) at (c .before .before .before .before .before .before .before .before .before .before .is-blank .ensures)) .0 (not-false _ (c .before .before .before .before .before .before .before .before .before .if1 .left)) }, λ q. (c .all-entries .ensures .1) (q .each))
+returns-2 c =
+    let entry-width = c .before .before .before .before .before .before .before .before .before .before .before .before .entry-width in
+    let entry-at = c .before .before .before .before .before .before .before .before .before .before .before .entry-at in
+    let is-blank = c .before .before .before .before .before .before .before .before .before .before .is-blank in
+    let if1 = c .before .before .before .before .before .before .before .before .before .if1 in (
+      λ z. record {
+        each = c .all-entries .ensures .0 z;
+        rest = (rw (entry-at .ensures, entry-width .ensures) at (is-blank .ensures)) .0 (not-false _ (if1 .left));
+      },
+      λ q. c .all-entries .ensures .1 (q .each),
+    )
 
 pub entries-ok-spec : {M : Type 1} → statement M
 entries-ok-spec =

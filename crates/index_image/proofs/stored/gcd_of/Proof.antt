@@ -42,7 +42,14 @@ same-length c = search needs
 
 -- src/stored.rt:134:9
 returns : tie.Need-returns Inv-loop μ-loop
-returns c = (omega arith, fold-none (words (c .before .before .before .before .before .before .before .args .image .now)) (c .before .before .before .before .before .before .before .args .s) (c .before .before .before .before .before .before .before .pre .0) (at.permutationAt (c .before .before .before .before .before .before .before .args .s) + (c .before .before .before .before .before .before .before .args .lo)) (c .before .before .before .before .before .before .before .args .c) (c .before .before .before .before .before .before .before .args .acc .now) (omega (arith, c .before .before .before .before .before .before .before .pre .1 .1)) (c .before .before .before .before .if1 .taken) (c .before .before .put .last .0) (c .before .before .put .ensures))
+returns c =
+    let start = c .before .before .before .before .before .before .before in
+    let if1 = c .before .before .before .before .if1 in
+    let put = c .before .before .put in (
+      omega arith,
+      fold-none (words (start .args .image .now)) (start .args .s) (start .pre .0) (at.permutationAt (start .args .s) + start .args .lo)
+          (start .args .c) (start .args .acc .now) (omega (arith, start .pre .1 .1)) (if1 .taken) (put .last .0) (put .ensures),
+    )
 
 -- src/stored.rt:136:13
 permutation-at-requires : tie.Need-permutation-at-requires Inv-loop μ-loop
@@ -50,11 +57,23 @@ permutation-at-requires c κs = c .before .before .before .pre .0 .range
 
 -- src/stored.rt:136:13
 add-p : tie.Need-add-p Inv-loop μ-loop
-add-p c = omega (arith, place-room (c .before .before .before .before .args .image .now) (c .before .before .before .before .args .s) (c .before .before .before .before .pre .0) ((c .before .before .before .before .args .lo) + (c .before .before .before .before .args .c)) (c .before .before .before .before .pre .1 .0), c .permutation-at .ensures)
+add-p c =
+    let start = c .before .before .before .before in
+    omega (
+      arith,
+      place-room (start .args .image .now) (start .args .s) (start .pre .0) (start .args .lo + start .args .c) (start .pre .1 .0),
+      c .permutation-at .ensures,
+    )
 
 -- src/stored.rt:137:13
 get-requires : tie.Need-get-requires Inv-loop μ-loop
-get-requires c κs = omega (arith, place-room (c .before .before .before .before .args .image .now) (c .before .before .before .before .args .s) (c .before .before .before .before .pre .0) ((c .before .before .before .before .args .lo) + (c .before .before .before .before .args .c)) (c .before .before .before .before .pre .1 .0), c .permutation-at .ensures)
+get-requires c κs =
+    let start = c .before .before .before .before in
+    omega (
+      arith,
+      place-room (start .args .image .now) (start .args .s) (start .pre .0) (start .args .lo + start .args .c) (start .pre .1 .0),
+      c .permutation-at .ensures,
+    )
 
 -- src/stored.rt:137:13
 cast-e : tie.Need-cast-e Inv-loop μ-loop
@@ -62,27 +81,102 @@ cast-e c = omega arith
 
 -- src/stored.rt:138:39
 entry-at-requires : tie.Need-entry-at-requires Inv-loop μ-loop
-entry-at-requires c κs = (c .before .before .before .before .before .pre .0 .range, omega (arith, (entry-at-place (words (c .before .before .before .before .before .args .image .now)) (c .before .before .before .before .before .args .s) (c .before .before .before .before .before .pre .0) (c .before .before .before .before .before .args .lo) 0 ((c .before .permutation-at .result) + (c .before .before .before .before .before .args .lo)) (c .get .result) (omega (arith, c .before .permutation-at .ensures)) (omega (arith, c .before .before .before .before .before .pre .1 .0, c .before .before .if1 .left)) (c .get .ensures)) .small, c .before .before .before .before .before .pre .0 .range .few))
+entry-at-requires c κs =
+    let start = c .before .before .before .before .before in
+    let permutation-at = c .before .permutation-at in (
+      start .pre .0 .range,
+      omega (
+        arith,
+        (entry-at-place (words (start .args .image .now)) (start .args .s) (start .pre .0) (start .args .lo) 0
+            (permutation-at .result + start .args .lo) (c .get .result) (omega (arith, permutation-at .ensures))
+            (omega (arith, start .pre .1 .0, c .before .before .if1 .left)) (c .get .ensures)) .small,
+        start .pre .0 .range .few,
+      ),
+    )
 
 -- src/stored.rt:138:9
 monomial-in-requires : tie.Need-monomial-in-requires Inv-loop μ-loop
-monomial-in-requires c κs = rw (c .entry-at .ensures) ((c .before .before .before .before .before .before .pre .0 .lms) (c .before .get .result) ((entry-at-place (words (c .before .before .before .before .before .before .args .image .now)) (c .before .before .before .before .before .before .args .s) (c .before .before .before .before .before .before .pre .0) (c .before .before .before .before .before .before .args .lo) 0 ((c .before .before .permutation-at .result) + (c .before .before .before .before .before .before .args .lo)) (c .before .get .result) (omega (arith, c .before .before .permutation-at .ensures)) (omega (arith, c .before .before .before .before .before .before .pre .1 .0, c .before .before .before .if1 .left)) (c .before .get .ensures)) .small))
+monomial-in-requires c κs =
+    let start = c .before .before .before .before .before .before in
+    let if1 = c .before .before .before .if1 in
+    let permutation-at = c .before .before .permutation-at in
+    let get = c .before .get in
+    rw (c .entry-at .ensures)
+    (start .pre .0 .lms (get .result)
+    ((entry-at-place (words (start .args .image .now)) (start .args .s) (start .pre .0) (start .args .lo) 0
+    (permutation-at .result + start .args .lo) (get .result) (omega (arith, permutation-at .ensures))
+    (omega (arith, start .pre .1 .0, if1 .left)) (get .ensures)) .small))
 
 -- src/stored.rt:139:5
 paste-requires : tie.Need-paste-requires Inv-loop μ-loop
-paste-requires c κs = omega (arith, c .before .monomial-in .ensures .long, canonical-length 1 (c .before .before .before .before .before .before .before .before .args .s .variables) (lmIn (words (c .before .before .before .before .before .before .before .before .args .image .now)) (c .before .before .before .before .before .before .before .before .args .s) (c .before .before .before .get .result)) (omega arith) (omega (arith, (c .before .before .before .before .before .before .before .before .pre .0 .range .vars-to))) (lm-canonical (words (c .before .before .before .before .before .before .before .before .args .image .now)) (c .before .before .before .before .before .before .before .before .args .s) (c .before .before .before .get .result) ((c .before .before .before .before .before .before .before .before .pre .0 .lms) (c .before .before .before .get .result) ((entry-at-place (words (c .before .before .before .before .before .before .before .before .args .image .now)) (c .before .before .before .before .before .before .before .before .args .s) (c .before .before .before .before .before .before .before .before .pre .0) (c .before .before .before .before .before .before .before .before .args .lo) 0 ((c .before .before .before .before .permutation-at .result) + (c .before .before .before .before .before .before .before .before .args .lo)) (c .before .before .before .get .result) (omega (arith, c .before .before .before .before .permutation-at .ensures)) (omega (arith, c .before .before .before .before .before .before .before .before .pre .1 .0, c .before .before .before .before .before .if1 .left)) (c .before .before .before .get .ensures)) .small))), ap length (lm-read (words (c .before .before .before .before .before .before .before .before .args .image .now)) (c .before .before .before .before .before .before .before .before .args .s) (c .before .before .before .get .result) (c .before .before .entry-at .result) (words (c .before .monomial-in .result .now)) (c .before .before .entry-at .ensures) (c .before .monomial-in .ensures .is)), ap length (c .before .monomial-in .ensures .is), c .before .before .before .before .before .before .before .before .pre .1 .1, c .before .before .before .before .before .before .before .before .pre .0 .range .vars-to)
+paste-requires c κs =
+    let start = c .before .before .before .before .before .before .before .before in
+    let if1 = c .before .before .before .before .before .if1 in
+    let permutation-at = c .before .before .before .before .permutation-at in
+    let get = c .before .before .before .get in
+    let entry-at = c .before .before .entry-at in
+    let monomial-in = c .before .monomial-in in
+    let W = words (start .args .image .now) in
+    omega (
+      arith,
+      monomial-in .ensures .long,
+      canonical-length 1 (start .args .s .variables) (lmIn W (start .args .s) (get .result)) (omega arith)
+          (omega (arith, start .pre .0 .range .vars-to))
+          (lm-canonical W (start .args .s) (get .result)
+          (start .pre .0 .lms (get .result)
+          ((entry-at-place W (start .args .s) (start .pre .0) (start .args .lo) 0 (permutation-at .result + start .args .lo)
+          (get .result) (omega (arith, permutation-at .ensures)) (omega (arith, start .pre .1 .0, if1 .left)) (get .ensures)) .small))),
+      ap length
+          (lm-read W (start .args .s) (get .result) (entry-at .result) (words (monomial-in .result .now)) (entry-at .ensures)
+          (monomial-in .ensures .is)),
+      ap length (monomial-in .ensures .is),
+      start .pre .1 .1,
+      start .pre .0 .range .vars-to,
+    )
 
 -- src/stored.rt:142:5
 loop-holds : tie.Need-loop-holds Inv-loop μ-loop
-loop-holds c = fold-one (words (c .before .before .before .before .before .before .before .before .before .before .before .args .image .now)) (c .before .before .before .before .before .before .before .before .before .before .before .args .s) (c .before .before .before .before .before .before .before .before .before .before .before .pre .0) (at.permutationAt (c .before .before .before .before .before .before .before .before .before .before .before .args .s) + (c .before .before .before .before .before .before .before .before .before .before .before .args .lo)) (c .before .before .before .before .before .before .before .before .before .before .before .args .c) (omega (arith, place-fits (words (c .before .before .before .before .before .before .before .before .before .before .before .args .image .now)) (c .before .before .before .before .before .before .before .before .before .before .before .args .s) (c .before .before .before .before .before .before .before .before .before .before .before .pre .0) ((c .before .before .before .before .before .before .before .before .before .before .before .args .lo) + (c .before .before .before .before .before .before .before .before .before .before .before .args .c)) (c .before .before .before .before .before .before .before .before .before .before .before .pre .1 .0))) (c .before .before .before .before .before .before .get .result) ((c .before .before .before .before .before .before .before .before .before .before .before .pre .0 .lms) (c .before .before .before .before .before .before .get .result) ((entry-at-place (words (c .before .before .before .before .before .before .before .before .before .before .before .args .image .now)) (c .before .before .before .before .before .before .before .before .before .before .before .args .s) (c .before .before .before .before .before .before .before .before .before .before .before .pre .0) (c .before .before .before .before .before .before .before .before .before .before .before .args .lo) 0 ((c .before .before .before .before .before .before .before .permutation-at .result) + (c .before .before .before .before .before .before .before .before .before .before .before .args .lo)) (c .before .before .before .before .before .before .get .result) (omega (arith, c .before .before .before .before .before .before .before .permutation-at .ensures)) (omega (arith, c .before .before .before .before .before .before .before .before .before .before .before .pre .1 .0, c .before .before .before .before .before .before .before .before .if1 .left)) (c .before .before .before .before .before .before .get .ensures)) .small)) (omega (arith, c .before .before .before .before .before .before .before .before .if1 .left)) (rw (c .before .before .before .before .before .before .before .permutation-at .ensures) at (c .before .before .before .before .before .before .get .ensures)) (c .before .before .before .before .before .before .before .before .before .before .before .args .acc .now) (c .before .before .paste .last .0) (words (c .before .before .before .before .monomial-in .result .now)) (length (c .before .before .before .before .monomial-in .result .now) / 4) (omega (arith, c .before .before .paste .kept .0, c .before .before .before .before .before .before .before .before .before .before .before .pre .1 .1)) (lm-read (words (c .before .before .before .before .before .before .before .before .before .before .before .args .image .now)) (c .before .before .before .before .before .before .before .before .before .before .before .args .s) (c .before .before .before .before .before .before .get .result) (c .before .before .before .before .before .entry-at .result) (words (c .before .before .before .before .monomial-in .result .now)) (c .before .before .before .before .before .entry-at .ensures) (c .before .before .before .before .monomial-in .ensures .is)) (sym (length-words (c .before .before .before .before .monomial-in .result .now))) (c .before .before .paste .ensures)
+loop-holds c =
+    let start = c .before .before .before .before .before .before .before .before .before .before .before in
+    let if1 = c .before .before .before .before .before .before .before .before .if1 in
+    let permutation-at = c .before .before .before .before .before .before .before .permutation-at in
+    let get = c .before .before .before .before .before .before .get in
+    let entry-at = c .before .before .before .before .before .entry-at in
+    let monomial-in = c .before .before .before .before .monomial-in in
+    let paste = c .before .before .paste in
+    let W = words (start .args .image .now) in
+    fold-one W (start .args .s) (start .pre .0) (at.permutationAt (start .args .s) + start .args .lo) (start .args .c)
+    (omega (arith, place-fits W (start .args .s) (start .pre .0) (start .args .lo + start .args .c) (start .pre .1 .0))) (get .result)
+    (start .pre .0 .lms (get .result)
+    ((entry-at-place W (start .args .s) (start .pre .0) (start .args .lo) 0 (permutation-at .result + start .args .lo)
+    (get .result) (omega (arith, permutation-at .ensures)) (omega (arith, start .pre .1 .0, if1 .left)) (get .ensures)) .small))
+    (omega (arith, if1 .left)) (rw (permutation-at .ensures) at (get .ensures)) (start .args .acc .now) (paste .last .0)
+    (words (monomial-in .result .now)) (length (monomial-in .result .now) / 4) (omega (arith, paste .kept .0, start .pre .1 .1))
+    (lm-read W (start .args .s) (get .result) (entry-at .result) (words (monomial-in .result .now)) (entry-at .ensures)
+    (monomial-in .ensures .is))
+    (sym (length-words (monomial-in .result .now))) (paste .ensures)
 
 -- src/stored.rt:143:35
 add-get : tie.Need-add-get Inv-loop μ-loop
-add-get c = omega (arith, place-room (c .before .before .before .before .before .before .before .before .before .before .before .before .before .args .image .now) (c .before .before .before .before .before .before .before .before .before .before .before .before .before .args .s) (c .before .before .before .before .before .before .before .before .before .before .before .before .before .pre .0) ((c .before .before .before .before .before .before .before .before .before .before .before .before .before .args .lo) + (c .before .before .before .before .before .before .before .before .before .before .before .before .before .args .c)) (c .before .before .before .before .before .before .before .before .before .before .before .before .before .pre .1 .0), c .before .before .before .before .before .before .before .before .before .permutation-at .ensures)
+add-get c =
+    let start = c .before .before .before .before .before .before .before .before .before .before .before .before .before in
+    let permutation-at = c .before .before .before .before .before .before .before .before .before .permutation-at in
+    omega (
+      arith,
+      place-room (start .args .image .now) (start .args .s) (start .pre .0) (start .args .lo + start .args .c) (start .pre .1 .0),
+      permutation-at .ensures,
+    )
 
 -- src/stored.rt:143:17
 get-requires-2 : tie.Need-get-requires-2 Inv-loop μ-loop
-get-requires-2 c κs = omega (arith, place-room (c .before .before .before .before .before .before .before .before .before .before .before .before .before .args .image .now) (c .before .before .before .before .before .before .before .before .before .before .before .before .before .args .s) (c .before .before .before .before .before .before .before .before .before .before .before .before .before .pre .0) ((c .before .before .before .before .before .before .before .before .before .before .before .before .before .args .lo) + (c .before .before .before .before .before .before .before .before .before .before .before .before .before .args .c)) (c .before .before .before .before .before .before .before .before .before .before .before .before .before .pre .1 .0), c .before .before .before .before .before .before .before .before .before .permutation-at .ensures)
+get-requires-2 c κs =
+    let start = c .before .before .before .before .before .before .before .before .before .before .before .before .before in
+    let permutation-at = c .before .before .before .before .before .before .before .before .before .permutation-at in
+    omega (
+      arith,
+      place-room (start .args .image .now) (start .args .s) (start .pre .0) (start .args .lo + start .args .c) (start .pre .1 .0),
+      permutation-at .ensures,
+    )
 
 -- src/stored.rt:143:17
 cast-e-2 : tie.Need-cast-e-2 Inv-loop μ-loop
@@ -90,20 +184,74 @@ cast-e-2 c = omega arith
 
 -- src/stored.rt:144:48
 entry-at-requires-2 : tie.Need-entry-at-requires-2 Inv-loop μ-loop
-entry-at-requires-2 c κs = (c .before .before .before .before .before .before .before .before .before .before .before .before .before .before .before .pre .0 .range, omega (arith, (entry-at-place (words (c .before .before .before .before .before .before .before .before .before .before .before .before .before .before .before .args .image .now)) (c .before .before .before .before .before .before .before .before .before .before .before .before .before .before .before .args .s) (c .before .before .before .before .before .before .before .before .before .before .before .before .before .before .before .pre .0) (c .before .before .before .before .before .before .before .before .before .before .before .before .before .before .before .args .lo) (c .before .before .before .loop .i) ((c .before .before .before .before .before .before .before .before .before .before .before .permutation-at .result) + (c .before .before .before .before .before .before .before .before .before .before .before .before .before .before .before .args .lo) + (c .before .before .before .loop .i)) (c .before .get2 .result) (omega (arith, c .before .before .before .before .before .before .before .before .before .before .before .permutation-at .ensures)) (omega (arith, c .before .before .before .before .before .before .before .before .before .before .before .before .before .before .before .pre .1 .0, c .before .before .loop-test .taken)) (c .before .get2 .ensures)) .small, c .before .before .before .before .before .before .before .before .before .before .before .before .before .before .before .pre .0 .range .few))
+entry-at-requires-2 c κs =
+    let start = c .before .before .before .before .before .before .before .before .before .before .before .before .before .before .before in
+    let permutation-at = c .before .before .before .before .before .before .before .before .before .before .before .permutation-at in
+    let loop = c .before .before .before .loop in
+    let get2 = c .before .get2 in (
+      start .pre .0 .range,
+      omega (
+        arith,
+        (entry-at-place (words (start .args .image .now)) (start .args .s) (start .pre .0) (start .args .lo) (loop .i)
+            (permutation-at .result + start .args .lo + loop .i) (get2 .result) (omega (arith, permutation-at .ensures))
+            (omega (arith, start .pre .1 .0, c .before .before .loop-test .taken)) (get2 .ensures)) .small,
+        start .pre .0 .range .few,
+      ),
+    )
 
 -- src/stored.rt:144:26
 monomial-from-requires : tie.Need-monomial-from-requires Inv-loop μ-loop
 monomial-from-requires c κs =
+    let start =
+    c .before .before .before .before .before .before .before .before .before .before .before .before .before .before .before .before in
+    let permutation-at = c .before .before .before .before .before .before .before .before .before .before .before .before .permutation-at in
+    let loop = c .before .before .before .before .loop in
+    let loop-test = c .before .before .before .loop-test in
+    let get2 = c .before .before .get2 in
+    let k = entry-at-place (words (start .args .image .now)) (start .args .s) (start .pre .0) (start .args .lo) (loop .i)
+    ((permutation-at .result) + (start .args .lo) + (loop .i)) (get2 .result) (omega (arith, permutation-at .ensures))
+    (omega (arith, start .pre .1 .0, loop-test .taken)) (get2 .ensures) in
     let o = c .before .before .before .before .before .before .before .before .before .before .before .before .before .before .before .before in
     rw (c .entry-at2 .ensures) (
-      ((c .before .before .before .before .before .before .before .before .before .before .before .before .before .before .before .before .pre .0 .lms) (c .before .before .get2 .result) ((entry-at-place (words (c .before .before .before .before .before .before .before .before .before .before .before .before .before .before .before .before .args .image .now)) (c .before .before .before .before .before .before .before .before .before .before .before .before .before .before .before .before .args .s) (c .before .before .before .before .before .before .before .before .before .before .before .before .before .before .before .before .pre .0) (c .before .before .before .before .before .before .before .before .before .before .before .before .before .before .before .before .args .lo) (c .before .before .before .before .loop .i) ((c .before .before .before .before .before .before .before .before .before .before .before .before .permutation-at .result) + (c .before .before .before .before .before .before .before .before .before .before .before .before .before .before .before .before .args .lo) + (c .before .before .before .before .loop .i)) (c .before .before .get2 .result) (omega (arith, c .before .before .before .before .before .before .before .before .before .before .before .before .permutation-at .ensures)) (omega (arith, c .before .before .before .before .before .before .before .before .before .before .before .before .before .before .before .before .pre .1 .0, c .before .before .before .loop-test .taken)) (c .before .before .get2 .ensures)) .small)),
-      omega (arith, entry-room (o .args .image .now) (o .args .s) (o .pre .0) _ ((entry-at-place (words (c .before .before .before .before .before .before .before .before .before .before .before .before .before .before .before .before .args .image .now)) (c .before .before .before .before .before .before .before .before .before .before .before .before .before .before .before .before .args .s) (c .before .before .before .before .before .before .before .before .before .before .before .before .before .before .before .before .pre .0) (c .before .before .before .before .before .before .before .before .before .before .before .before .before .before .before .before .args .lo) (c .before .before .before .before .loop .i) ((c .before .before .before .before .before .before .before .before .before .before .before .before .permutation-at .result) + (c .before .before .before .before .before .before .before .before .before .before .before .before .before .before .before .before .args .lo) + (c .before .before .before .before .loop .i)) (c .before .before .get2 .result) (omega (arith, c .before .before .before .before .before .before .before .before .before .before .before .before .permutation-at .ensures)) (omega (arith, c .before .before .before .before .before .before .before .before .before .before .before .before .before .before .before .before .pre .1 .0, c .before .before .before .loop-test .taken)) (c .before .before .get2 .ensures)) .small)),
+      start .pre .0 .lms (get2 .result) (k .small),
+      omega (arith, entry-room (o .args .image .now) (o .args .s) (o .pre .0) _ (k .small)),
     )
 
 -- src/stored.rt:144:9
 meet-requires : tie.Need-meet-requires Inv-loop μ-loop
-meet-requires c κs = (c .before .before .before .before .before .loop .inv .room, (c .before .before .before .before .before .loop .inv .few, (fold-canonical (words (c .before .before .before .before .before .before .before .before .before .before .before .before .before .before .before .before .before .args .image .now)) (c .before .before .before .before .before .before .before .before .before .before .before .before .before .before .before .before .before .args .s) (c .before .before .before .before .before .before .before .before .before .before .before .before .before .before .before .before .before .pre .0) (at.permutationAt (c .before .before .before .before .before .before .before .before .before .before .before .before .before .before .before .before .before .args .s) + (c .before .before .before .before .before .before .before .before .before .before .before .before .before .before .before .before .before .args .lo)) (c .before .before .before .before .before .before .before .before .before .before .before .before .before .before .before .before .before .args .c) (c .before .before .before .before .before .loop .acc) (c .before .before .before .before .before .loop .n) (c .before .before .before .before .before .loop .i) (c .before .before .before .before .before .loop .inv), (starts-wide (c .monomial-from .ensures .starts), lm-64 (words (c .before .before .before .before .before .before .before .before .before .before .before .before .before .before .before .before .before .args .image .now)) (c .before .before .before .before .before .before .before .before .before .before .before .before .before .before .before .before .before .args .s) (c .before .before .before .before .before .before .before .before .before .before .before .before .before .before .before .before .before .pre .0) (at.permutationAt (c .before .before .before .before .before .before .before .before .before .before .before .before .before .before .before .before .before .args .s) + (c .before .before .before .before .before .before .before .before .before .before .before .before .before .before .before .before .before .args .lo)) (c .before .before .before .before .before .before .before .before .before .before .before .before .before .before .before .before .before .args .c) (omega (arith, place-fits (words (c .before .before .before .before .before .before .before .before .before .before .before .before .before .before .before .before .before .args .image .now)) (c .before .before .before .before .before .before .before .before .before .before .before .before .before .before .before .before .before .args .s) (c .before .before .before .before .before .before .before .before .before .before .before .before .before .before .before .before .before .pre .0) ((c .before .before .before .before .before .before .before .before .before .before .before .before .before .before .before .before .before .args .lo) + (c .before .before .before .before .before .before .before .before .before .before .before .before .before .before .before .before .before .args .c)) (c .before .before .before .before .before .before .before .before .before .before .before .before .before .before .before .before .before .pre .1 .0))) (c .before .before .before .get2 .result) ((c .before .before .before .before .before .before .before .before .before .before .before .before .before .before .before .before .before .pre .0 .lms) (c .before .before .before .get2 .result) ((entry-at-place (words (c .before .before .before .before .before .before .before .before .before .before .before .before .before .before .before .before .before .args .image .now)) (c .before .before .before .before .before .before .before .before .before .before .before .before .before .before .before .before .before .args .s) (c .before .before .before .before .before .before .before .before .before .before .before .before .before .before .before .before .before .pre .0) (c .before .before .before .before .before .before .before .before .before .before .before .before .before .before .before .before .before .args .lo) (c .before .before .before .before .before .loop .i) ((c .before .before .before .before .before .before .before .before .before .before .before .before .before .permutation-at .result) + (c .before .before .before .before .before .before .before .before .before .before .before .before .before .before .before .before .before .args .lo) + (c .before .before .before .before .before .loop .i)) (c .before .before .before .get2 .result) (omega (arith, c .before .before .before .before .before .before .before .before .before .before .before .before .before .permutation-at .ensures)) (omega (arith, c .before .before .before .before .before .before .before .before .before .before .before .before .before .before .before .before .before .pre .1 .0, c .before .before .before .before .loop-test .taken)) (c .before .before .before .get2 .ensures)) .small)) (first 1 (words (c .monomial-from .result .now))) (lm-read (words (c .before .before .before .before .before .before .before .before .before .before .before .before .before .before .before .before .before .args .image .now)) (c .before .before .before .before .before .before .before .before .before .before .before .before .before .before .before .before .before .args .s) (c .before .before .before .get2 .result) (c .before .entry-at2 .result) (first 1 (words (c .monomial-from .result .now))) (c .before .entry-at2 .ensures) (c .monomial-from .ensures .is))))))
+meet-requires c κs =
+    let start =
+    c .before .before .before .before .before .before .before .before .before .before .before .before .before .before .before .before .before
+    in
+    let permutation-at =
+    c .before .before .before .before .before .before .before .before .before .before .before .before .before .permutation-at in
+    let loop = c .before .before .before .before .before .loop in
+    let loop-test = c .before .before .before .before .loop-test in
+    let get2 = c .before .before .before .get2 in
+    let entry-at2 = c .before .entry-at2 in
+    let W = words (start .args .image .now) in (
+      loop .inv .room,
+      (
+        loop .inv .few,
+        (
+          fold-canonical W (start .args .s) (start .pre .0) (at.permutationAt (start .args .s) + start .args .lo) (start .args .c)
+              (loop .acc) (loop .n) (loop .i) (loop .inv),
+          (
+            starts-wide (c .monomial-from .ensures .starts),
+            lm-64 W (start .args .s) (start .pre .0) (at.permutationAt (start .args .s) + start .args .lo) (start .args .c)
+                (omega (arith, place-fits W (start .args .s) (start .pre .0) (start .args .lo + start .args .c) (start .pre .1 .0)))
+                (get2 .result)
+                (start .pre .0 .lms (get2 .result)
+                ((entry-at-place W (start .args .s) (start .pre .0) (start .args .lo) (loop .i)
+                (permutation-at .result + start .args .lo + loop .i) (get2 .result) (omega (arith, permutation-at .ensures))
+                (omega (arith, start .pre .1 .0, loop-test .taken)) (get2 .ensures)) .small))
+                (first 1 (words (c .monomial-from .result .now)))
+                (lm-read W (start .args .s) (get2 .result) (entry-at2 .result) (first 1 (words (c .monomial-from .result .now)))
+                (entry-at2 .ensures) (c .monomial-from .ensures .is)),
+          ),
+        ),
+      ),
+    )
 
 -- src/stored.rt:145:9
 add-i : tie.Need-add-i Inv-loop μ-loop
@@ -115,7 +263,31 @@ loop-less c = omega (arith, c .before .before .before .before .before .before .b
 
 -- src/stored.rt:142:5
 loop-again : tie.Need-loop-again Inv-loop μ-loop
-loop-again c = fold-more (words (c .before .before .before .before .before .before .before .before .before .before .before .before .before .before .before .before .before .before .before .before .args .image .now)) (c .before .before .before .before .before .before .before .before .before .before .before .before .before .before .before .before .before .before .before .before .args .s) (c .before .before .before .before .before .before .before .before .before .before .before .before .before .before .before .before .before .before .before .before .pre .0) (at.permutationAt (c .before .before .before .before .before .before .before .before .before .before .before .before .before .before .before .before .before .before .before .before .args .s) + (c .before .before .before .before .before .before .before .before .before .before .before .before .before .before .before .before .before .before .before .before .args .lo)) (c .before .before .before .before .before .before .before .before .before .before .before .before .before .before .before .before .before .before .before .before .args .c) (omega (arith, place-fits (words (c .before .before .before .before .before .before .before .before .before .before .before .before .before .before .before .before .before .before .before .before .args .image .now)) (c .before .before .before .before .before .before .before .before .before .before .before .before .before .before .before .before .before .before .before .before .args .s) (c .before .before .before .before .before .before .before .before .before .before .before .before .before .before .before .before .before .before .before .before .pre .0) ((c .before .before .before .before .before .before .before .before .before .before .before .before .before .before .before .before .before .before .before .before .args .lo) + (c .before .before .before .before .before .before .before .before .before .before .before .before .before .before .before .before .before .before .before .before .args .c)) (c .before .before .before .before .before .before .before .before .before .before .before .before .before .before .before .before .before .before .before .before .pre .1 .0))) (c .before .before .before .before .before .before .get2 .result) ((c .before .before .before .before .before .before .before .before .before .before .before .before .before .before .before .before .before .before .before .before .pre .0 .lms) (c .before .before .before .before .before .before .get2 .result) ((entry-at-place (words (c .before .before .before .before .before .before .before .before .before .before .before .before .before .before .before .before .before .before .before .before .args .image .now)) (c .before .before .before .before .before .before .before .before .before .before .before .before .before .before .before .before .before .before .before .before .args .s) (c .before .before .before .before .before .before .before .before .before .before .before .before .before .before .before .before .before .before .before .before .pre .0) (c .before .before .before .before .before .before .before .before .before .before .before .before .before .before .before .before .before .before .before .before .args .lo) (c .before .before .before .before .before .before .before .before .loop .i) ((c .before .before .before .before .before .before .before .before .before .before .before .before .before .before .before .before .permutation-at .result) + (c .before .before .before .before .before .before .before .before .before .before .before .before .before .before .before .before .before .before .before .before .args .lo) + (c .before .before .before .before .before .before .before .before .loop .i)) (c .before .before .before .before .before .before .get2 .result) (omega (arith, c .before .before .before .before .before .before .before .before .before .before .before .before .before .before .before .before .permutation-at .ensures)) (omega (arith, c .before .before .before .before .before .before .before .before .before .before .before .before .before .before .before .before .before .before .before .before .pre .1 .0, c .before .before .before .before .before .before .before .loop-test .taken)) (c .before .before .before .before .before .before .get2 .ensures)) .small)) (c .before .before .before .before .before .before .before .before .loop .acc) (c .before .before .before .before .before .before .before .before .loop .n) (c .before .before .before .before .before .before .before .before .loop .i) (c .before .before .before .before .before .before .before .before .loop .inv) (c .before .before .before .before .before .before .before .loop-test .taken) (rw (c .before .before .before .before .before .before .before .before .before .before .before .before .before .before .before .before .permutation-at .ensures) at (c .before .before .before .before .before .before .get2 .ensures)) (c .before .before .meet .last .0) (first 1 (words (c .before .before .before .monomial-from .result .now))) (c .before .before .meet .result) (omega (arith, c .before .before .meet .kept .0, c .before .before .before .before .before .before .before .before .loop .inv .room)) (lm-read (words (c .before .before .before .before .before .before .before .before .before .before .before .before .before .before .before .before .before .before .before .before .args .image .now)) (c .before .before .before .before .before .before .before .before .before .before .before .before .before .before .before .before .before .before .before .before .args .s) (c .before .before .before .before .before .before .get2 .result) (c .before .before .before .before .entry-at2 .result) (first 1 (words (c .before .before .before .monomial-from .result .now))) (c .before .before .before .before .entry-at2 .ensures) (c .before .before .before .monomial-from .ensures .is)) (c .before .before .meet .ensures .0) (c .before .before .meet .ensures .1)
+loop-again c =
+    let start =
+    c .before .before .before .before .before .before .before .before .before .before .before .before .before .before .before .before .before .before .before .before
+    in
+    let permutation-at =
+    c .before .before .before .before .before .before .before .before .before .before .before .before .before .before .before .before .permutation-at
+    in
+    let loop = c .before .before .before .before .before .before .before .before .loop in
+    let loop-test = c .before .before .before .before .before .before .before .loop-test in
+    let get2 = c .before .before .before .before .before .before .get2 in
+    let entry-at2 = c .before .before .before .before .entry-at2 in
+    let monomial-from = c .before .before .before .monomial-from in
+    let meet = c .before .before .meet in
+    let W = words (start .args .image .now) in
+    fold-more W (start .args .s) (start .pre .0) (at.permutationAt (start .args .s) + start .args .lo) (start .args .c)
+    (omega (arith, place-fits W (start .args .s) (start .pre .0) (start .args .lo + start .args .c) (start .pre .1 .0))) (get2 .result)
+    (start .pre .0 .lms (get2 .result)
+    ((entry-at-place W (start .args .s) (start .pre .0) (start .args .lo) (loop .i)
+    (permutation-at .result + start .args .lo + loop .i) (get2 .result) (omega (arith, permutation-at .ensures))
+    (omega (arith, start .pre .1 .0, loop-test .taken)) (get2 .ensures)) .small))
+    (loop .acc) (loop .n) (loop .i) (loop .inv) (loop-test .taken) (rw (permutation-at .ensures) at (get2 .ensures)) (meet .last .0)
+    (first 1 (words (monomial-from .result .now))) (meet .result) (omega (arith, meet .kept .0, loop .inv .room))
+    (lm-read W (start .args .s) (get2 .result) (entry-at2 .result) (first 1 (words (monomial-from .result .now))) (entry-at2 .ensures)
+    (monomial-from .ensures .is))
+    (meet .ensures .0) (meet .ensures .1)
 
 -- src/stored.rt:126:1
 same-length-2 : tie.Need-same-length-2 Inv-loop μ-loop
@@ -123,7 +295,10 @@ same-length-2 c = omega (arith, c .before .loop .inv .room, c .before .before .b
 
 -- src/stored.rt:126:1
 returns-2 : tie.Need-returns-2 Inv-loop μ-loop
-returns-2 c = (c .before .loop .inv .few, (let z : (c .before .loop .i) ≡ (c .before .before .before .before .before .before .before .before .before .before .before .before .before .args .c) = omega (arith, c .before .loop .inv .to, c .loop-test .left) in rw z at (c .before .loop .inv .is)))
+returns-2 c =
+    let start = c .before .before .before .before .before .before .before .before .before .before .before .before .before in
+    let loop = c .before .loop in
+    (loop .inv .few, let z : loop .i ≡ start .args .c = omega (arith, loop .inv .to, c .loop-test .left) in rw z at (loop .inv .is))
 
 pub gcd-of-spec : {M : Type 1} → statement M
 gcd-of-spec =
