@@ -107,7 +107,7 @@ pub record EntryIs (W : List ℕ) (s : Shape) (k : Kind) (l : map.State) (i : �
 -- the words behind the masked lm
 abbrev signWidth : Kind → ℕ → ℕ
 signWidth monomials m = 0
-signWidth ratioed m = m + 5
+signWidth ratioed m = maskedWidth m + 2
 
 width-sign : (k : Kind) (m : ℕ) → widthOf (code k) m ≡ maskedWidth m + signWidth k m
 width-sign monomials m = omega arith
@@ -137,10 +137,10 @@ module _ (W : List ℕ) (s : Shape) (few : s .variables ≤ 64) (i : ℕ) where
   sign-iff ratioed l e g fits =
       let row = rowOf l (ratioOf e) in
       let sign = masked m xs (e .sign) (row ∷ []) in
-      let p1 = first W (at.indexAt s i) (at.signAt s i) (m + 5) (m + 4) (indexWord (e .index)) sign (omega arith) (omega arith) (omega arith) in
-      let p2 = slot-first W m xs (at.signAt s i) few (omega arith) (at.rowAt s i) (m + 4) 1 (e .sign) (row ∷ []) (omega arith) (omega arith) (g .sign-canonical) in
+      let p1 = first W (at.indexAt s i) (at.signAt s i) (maskedWidth m + 2) (maskedWidth m + 1) (indexWord (e .index)) sign (omega arith) (omega arith) (omega arith) in
+      let p2 = slot-first W m xs (at.signAt s i) few (omega arith) (at.rowAt s i) (maskedWidth m + 1) 1 (e .sign) (row ∷ []) (omega arith) (omega arith) (g .sign-canonical) in
       let p3 = first W (at.rowAt s i) (at.rowAt s i + 1) 1 0 row [] (omega arith) (omega arith) refl in (
-        λ (q : part W (at.indexAt s i) (m + 5) ≡ indexWord (e .index) ∷ sign). λ z.
+        λ (q : part W (at.indexAt s i) (maskedWidth m + 2) ≡ indexWord (e .index) ∷ sign). λ z.
             let q1 = p1 .0 q in
             let q2 = p2 .0 (q1 .1) in
             record {

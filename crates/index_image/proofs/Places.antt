@@ -25,8 +25,8 @@ module _ (W : List ℕ) (s : Shape) (R : Ready W s) where
 
   pub label-fits : s .kind ≡ 1 → (x : ℕ) → x < s .capacity → at.labelAt s x < length W
   label-fits k x h =
-      let e : s .kind * (4 + s .capacity * (s .variables + 3) + s .capacity) ≡ 4 + s .capacity * (s .variables + 3) + s .capacity = rw k (one-mul _) in
-      omega (arith, R .room, row-fits x (s .capacity) (s .variables + 3) h)
+      let e : at.labelsSize s ≡ labels.size (s .variables) (s .capacity) = rw k (one-mul _) in
+      omega (arith, R .room, row-fits x (s .capacity) (at.labelRowWidth (s .variables)) h)
 
   pub node-fits : (k : ℕ) → k < s .nodes → at.nodeAt s k + at.nodeWidth (s .variables) ≤ length W
   node-fits k h = omega (arith, R .room, row-fits k (2 * s .capacity - 1) (at.nodeWidth (s .variables)) (omega (arith, r .nodes-to)))

@@ -1,9 +1,9 @@
-use Prim.Native.Nat.{_+_}
 use native.Mathlib.Omega.{arith}
 use mathlib.Core.Path.{sym, _∙_, refl}
 use borrow.Author.Tests.{not-true, not-false}
 use Rattle.words.proofs.Answers.{refuse}
 use Rattle.words.proofs.Tables.{never}
+use Rattle.index_image.specs.Shape as shape
 use Rattle.index_image.proofs.Bounds.{rest}
 use Rattle.index_image.proofs.Slots.{range-words}
 use borrow.Author.Needs.{needs}
@@ -86,7 +86,7 @@ slice-aggregate-prepare c = search needs
 prepare-requires : tie.Need-prepare-requires
 prepare-requires c κs =
     let start = c .before .before .before .before .before .before .before .before .before .before in
-    (rw (range-words (start .args .image .now) (24 + start .args .s .variables) (start .args .s .variables)) (start .pre .1 .1 .map), refl)
+    (rw (range-words (start .args .image .now) (shape.mapAt (start .args .s .variables)) (start .args .s .variables)) (start .pre .1 .1 .map), refl)
 
 -- src/entries.rt:218:27
 slice-aggregate-all-entries : tie.Need-slice-aggregate-all-entries
@@ -103,7 +103,7 @@ all-entries-requires c κs =
           o .pre .1 .1,
           (
             c .before .before .prepare .ensures .0,
-            rw (range-words (o .args .image .now) (24 + o .args .s .variables) (o .args .s .variables)) at (c .before .before .prepare .ensures .1),
+            rw (range-words (o .args .image .now) (shape.mapAt (o .args .s .variables)) (o .args .s .variables)) at (c .before .before .prepare .ensures .1),
           ),
         ),
       ),

@@ -1,6 +1,6 @@
 use native.Mathlib.Omega.{arith}
 use Rattle.index_image.specs.Shape as shape
-use Rattle.index_image.proofs.Reading.{part-words}
+use Rattle.words.proofs.Drafts.{part-of as part-words}
 use Rattle.monomial.proofs.Firsts.{starts-whole, first-whole}
 use Prim.Native.Nat.{_+_, _-_, _*_}
 use borrow.Author.Needs.{needs}
