@@ -29,8 +29,11 @@ abbrev μ-loop : tie.MeasureT-loop
 -- what is known of a variable's word
 variable : (c : tie.Else1 Inv-loop μ-loop) → Here (c .before .before .before .before .before .before .pre .1 .1 .some) (c .before .before .before .loop .inv) (seen _ (c .before .before .before .loop .inv .ra) (c .before .before .get .ensures))
 variable c =
-    let loop = c .before .before .before .loop in
-    at-variable (c .before .before .before .before .before .before .pre .1 .1 .some) (loop .inv) (seen _ (loop .inv .ra) (c .before .before .get .ensures)) (is-end-false _ (c .before .is-end .ensures) (c .if1 .left))
+    let start = c .before .before .before .before .before .before in
+    let loop-here = c .before .before .before .loop in
+    let loop = loop-here in
+    at-variable (start .pre .1 .1 .some) (loop .inv) (seen _ (loop .inv .ra) (c .before .before .get .ensures))
+    (is-end-false _ (c .before .is-end .ensures) (c .if1 .left))
 
 -- end of helpers
 
@@ -51,8 +54,12 @@ is-end-requires c κs = search needs
 -- src/lib.rt:47:13
 returns : tie.Need-returns Inv-loop μ-loop
 returns c =
-    let loop = c .before .before .before .loop in
-    accept (all-passed (c .before .before .before .before .before .before .pre .1 .1 .some) (loop .inv) (seen _ (loop .inv .ra) (c .before .before .get .ensures)) (is-end-true _ (c .before .is-end .ensures) (c .if1 .taken)))
+    let start = c .before .before .before .before .before .before in
+    let loop-here = c .before .before .before .loop in
+    let loop = loop-here in
+    accept
+    (all-passed (start .pre .1 .1 .some) (loop .inv) (seen _ (loop .inv .ra) (c .before .before .get .ensures))
+    (is-end-true _ (c .before .is-end .ensures) (c .if1 .taken)))
 
 -- src/lib.rt:49:32
 id-requires : tie.Need-id-requires Inv-loop μ-loop
@@ -80,11 +87,17 @@ returns-2 c =
 
 -- src/lib.rt:53:9
 add-i : tie.Need-add-i Inv-loop μ-loop
-add-i c = omega (arith, first-bytes 1 (c .before .before .before .before .before .before .before .before .before .before .args .lm .now), within (c .before .before .before .before .before .before .before .loop .inv .ra))
+add-i c =
+    let start = c .before .before .before .before .before .before .before .before .before .before in
+    let loop = c .before .before .before .before .before .before .before .loop in
+    omega (arith, first-bytes 1 (start .args .lm .now), within (loop .inv .ra))
 
 -- src/lib.rt:44:5
 loop-less : tie.Need-loop-less Inv-loop μ-loop
-loop-less c = omega (arith, first-bytes 1 (c .before .before .before .before .before .before .before .before .before .before .args .lm .now), within (c .before .before .before .before .before .before .before .loop .inv .ra))
+loop-less c =
+    let start = c .before .before .before .before .before .before .before .before .before .before in
+    let loop = c .before .before .before .before .before .before .before .loop in
+    omega (arith, first-bytes 1 (start .args .lm .now), within (loop .inv .ra))
 
 -- src/lib.rt:44:5
 loop-again : tie.Need-loop-again Inv-loop μ-loop
