@@ -44,7 +44,8 @@ module _ (W : List ℕ) (m : ℕ) (xs : List ℕ) (i : ℕ) (few : m ≤ 64) (fi
       rw e at (part-append W i (length ws) (m + 1 - length ws) ws (zeros (m + 1 - length ws)) (omega arith) refl)
 
   -- the words of a canonical monomial's slot, mask and vector are read back as that monomial
-  pub slot-read : (ws : List ℕ) → Canonical 1 m ws → part W i (slotWidth m) ≡ slot m ws → getD W (maskAt m i) 0 ≡ mask m xs (pow 1 ws) → getD W (vectorAt m i) 0 ≡ vector m (pow 1 ws)
+  pub slot-read : (ws : List ℕ) → Canonical 1 m ws → part W i (slotWidth m) ≡ slot m ws → getD W (maskAt m i) 0 ≡ mask m xs (pow 1 ws)
+      → getD W (vectorAt m i) 0 ≡ vector m (pow 1 ws)
       → MaskedSlot W m xs i × (slotIn W m i ≡ ws)
   unfolding slotIn
   slot-read ws can e em ev =
@@ -180,7 +181,8 @@ module _ (W : List ℕ) (s : Shape) (k : Kind) (ek : s .kind ≡ code k) (few : 
       let n = s .variables in
       let w : at.entryWidth s ≡ maskedWidth n + signWidth k n = ap (λ (x : ℕ). widthOf x n) ek ∙ width-sign k n in
       let b = at.indexAt s i in
-      let p = slot-first W n (mapMaxima W s) (at.entryAt s i) few (omega arith) b (at.entryWidth s) (signWidth k n) (e .lm) (signWords k n (mapMaxima W s) l e) refl w (g .lm-canonical) in
+      let p = slot-first W n (mapMaxima W s) (at.entryAt s i) few (omega arith) b (at.entryWidth s) (signWidth k n) (e .lm)
+      (signWords k n (mapMaxima W s) l e) refl w (g .lm-canonical) in
       let q = sign-iff W s few i k l e g (omega arith) in
       let lm = lm-in W s few i in (
         λ h. let r = p .0 h in record { lm-slot = r .0 .0; lm-is = lm ∙ r .0 .1; ratio = q .0 (r .1) },

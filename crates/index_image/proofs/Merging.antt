@@ -112,11 +112,16 @@ module _ {A B C : List ℕ} {i j n : ℕ} (s : Merging A B C i j n) (room : leng
               | no z ↦
                   let g : eqb w (varWord 2 (upperIdent t) p) ≡ false = rw (ne-eqb p 32768 z) at f in
                   let rest = varsOf 2 (next .u) P in
-                  let r : result Op.Ratio A B ≡ s .done ++ (varWord 2 (upperIdent t) p ∷ (rest ++ (length (varsOf 2 4096 P) ∷ []))) = rw (more z) (append-assoc (s .done) (varWord 2 (upperIdent t) p ∷ rest) _) in
-                  let k : n < length (result Op.Ratio A B) = rw r (omega (arith, length-append (s .done) (varWord 2 (upperIdent t) p ∷ (rest ++ (length (varsOf 2 4096 P) ∷ []))), s .count)) in
+                  let r : result Op.Ratio A B ≡ s .done ++ (varWord 2 (upperIdent t) p ∷ (rest ++ (length (varsOf 2 4096 P) ∷ []))) =
+                  rw (more z) (append-assoc (s .done) (varWord 2 (upperIdent t) p ∷ rest) _) in
+                  let k : n < length (result Op.Ratio A B) = rw r
+                  (omega (arith, length-append (s .done) (varWord 2 (upperIdent t) p ∷ (rest ++ (length (varsOf 2 4096 P) ∷ []))), s .count)) in
                   let zn : 0 + n ≡ n = omega arith in
-                  let at : getD C n 0 ≡ getD (result Op.Ratio A B) n 0 = ap (λ (k : ℕ). getD C k 0) (sym zn) ∙ sym (part-get C 0 (length (result Op.Ratio A B)) n k) ∙ ap (λ (l : List ℕ). getD l n 0) q in
-                  let is : w ≡ varWord 2 (upperIdent t) p = ew ∙ at ∙ ap (λ (l : List ℕ). getD l n 0) r ∙ ap (λ (m : ℕ). getD (s .done ++ (varWord 2 (upperIdent t) p ∷ (rest ++ (length (varsOf 2 4096 P) ∷ [])))) m 0) (sym (s .count)) ∙ getD-append-seam (s .done) (varWord 2 (upperIdent t) p) (rest ++ (length (varsOf 2 4096 P) ∷ [])) 0 in
+                  let at : getD C n 0 ≡ getD (result Op.Ratio A B) n 0 =
+                  ap (λ (k : ℕ). getD C k 0) (sym zn) ∙ sym (part-get C 0 (length (result Op.Ratio A B)) n k) ∙ ap (λ (l : List ℕ). getD l n 0) q in
+                  let is : w ≡ varWord 2 (upperIdent t) p = ew ∙ at ∙ ap (λ (l : List ℕ). getD l n 0) r ∙ ap
+                  (λ (m : ℕ). getD (s .done ++ (varWord 2 (upperIdent t) p ∷ (rest ++ (length (varsOf 2 4096 P) ∷ [])))) m 0) (sym (s .count))
+                  ∙ getD-append-seam (s .done) (varWord 2 (upperIdent t) p) (rest ++ (length (varsOf 2 4096 P) ∷ [])) 0 in
                   let y = sym (eq-eqb w (varWord 2 (upperIdent t) p) is) ∙ g in
                   let o : _≡_ {A = ℕ} 0 1 = cc in omega arith
             ]

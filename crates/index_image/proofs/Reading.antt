@@ -141,7 +141,8 @@ module _ (W : List ℕ) (s : Shape) (R : Ready W s) where
         let cb : Canonical 1 64 ws = lm-64 ws ew in
         let li : length (part W q i) ≡ i = length-part W q i (omega (arith, f .to)) in
         let pa : part (words acc′) 0 n′ ≡ result Gcd A ws = rw ea (pasted acc (result Gcd A ws) n′ (gcd-small A ws ca cb) en) in
-        let ga : result Gcd A ws ≡ gcdOf (power W s) (part W q i ++ e ∷ []) = rw (f .is, ew) (gcd-more (s .variables) (power W s) P (part W q i) e (lmIn W s e) (omega (arith, f .from)) (lm-canonical W s e some) (λ v. lm-powers W s v e)) in
+        let ga : result Gcd A ws ≡ gcdOf (power W s) (part W q i ++ e ∷ []) =
+        rw (f .is, ew) (gcd-more (s .variables) (power W s) P (part W q i) e (lmIn W s e) (omega (arith, f .from)) (lm-canonical W s e some) (λ v. lm-powers W s v e)) in
         let sn : part W q (i + 1) ≡ part W q i ++ (e ∷ []) = part-snoc W q i (omega arith) ∙ rw ee in
         record {
           from = omega arith;

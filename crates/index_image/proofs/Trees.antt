@@ -134,7 +134,8 @@ module _ (W : List ℕ) (s : Shape) (R : at.InRange s) (room : at.size s ≤ len
         let nl = treeWords m xs pw l in
         let nr = treeWords m xs pw r in
         let rr = nodeWords m xs pw (suc d) key (nodes l) (inorder l ++ inorder r) in
-        let a = part-append W (at.nodeAt s k) w (nodes l * w + nodes r * w) rr (nl ++ nr) row-in (length-row m xs pw P (suc d) key (nodes l) (inorder l ++ inorder r)) .0 (rw all-rows at (t .rows)) in
+        let a = part-append W (at.nodeAt s k) w (nodes l * w + nodes r * w) rr (nl ++ nr) row-in
+        (length-row m xs pw P (suc d) key (nodes l) (inorder l ++ inorder r)) .0 (rw all-rows at (t .rows)) in
         let b = part-append W (at.nodeAt s (k + 1)) (nodes l * w) (nodes r * w) nl nr less-in (length-tree m xs pw P l) .0 (rw next at (a .1)) in
         let la = length-append (inorder l) (inorder r) in
         let p = part-append W (at.permutationAt s + lo) (length (inorder l)) (length (inorder r)) (inorder l) (inorder r) perm-in refl .0 (rw la at (t .perm)) in
@@ -164,7 +165,8 @@ module _ (W : List ℕ) (s : Shape) (R : at.InRange s) (room : at.size s ≤ len
   unfolding treeWords nodes
   leaf-row k lo es t h = row-iff m xs pw P W (at.nodeAt s k) 0 0 0 es (row-fits k h) .0 (rw (one-mul w) at (t .rows))
 
-  pub row-leaf : (k lo : ℕ) (es : List ℕ) → k < 2 * s .capacity - 1 → RowIs W (s .variables) xs pw (at.nodeAt s k) 0 0 0 es → part W (at.permutationAt s + lo) (length es) ≡ es → Stands W s xs pw k lo (leaf es)
+  pub row-leaf : (k lo : ℕ) (es : List ℕ) → k < 2 * s .capacity - 1 → RowIs W (s .variables) xs pw (at.nodeAt s k) 0 0 0 es
+      → part W (at.permutationAt s + lo) (length es) ≡ es → Stands W s xs pw k lo (leaf es)
   unfolding treeWords nodes
   row-leaf k lo es h r p = record { rows = rw (one-mul w) (row-iff m xs pw P W (at.nodeAt s k) 0 0 0 es (row-fits k h) .1 r); perm = p }
 

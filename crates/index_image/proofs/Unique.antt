@@ -54,7 +54,8 @@ module _ (m : ℕ) (xs : List ℕ) (pw : ℕ → ℕ → ℕ) (few : m ≤ 64) (
         dim = omega arith;
         key = ap (λ (x : List ℕ). getD x (keyAt 0) 0) e;
         skip = ap (λ (x : List ℕ). getD x (skipAt 0) 0) e;
-        sides = same-right (nodeWords m xs pw (suc d) k (nodes l) (inorder l ++ inorder r)) (rows l ++ rows r) (nodeWords m xs pw (suc d′) k′ (nodes l′) (inorder l′ ++ inorder r′)) (rows l′ ++ rows r′) (a ∙ sym b) e;
+        sides = same-right (nodeWords m xs pw (suc d) k (nodes l) (inorder l ++ inorder r)) (rows l ++ rows r)
+            (nodeWords m xs pw (suc d′) k′ (nodes l′) (inorder l′ ++ inorder r′)) (rows l′ ++ rows r′) (a ∙ sym b) e;
       }
 
   leaf-tag : (es : List ℕ) → getD (rows (leaf es)) (tagAt 0) 0 ≡ 0

@@ -62,7 +62,8 @@ module _ {W : List ℕ} {s : Shape} (R : Ready W s) where
   row-of-leaf : (k lo : ℕ) (es : List ℕ) → TreeAt W s k lo (leaf es) → k < s .nodes → RowIs W (s .variables) xs pw (at.nodeAt s k) 0 0 0 es
   row-of-leaf k lo es x h = leaf-row W s (R .range) (R .room) xs pw P k lo es (x .stands) (rows-in h)
 
-  leaf-of-row : (k lo : ℕ) (es : List ℕ) → k < s .nodes → RowIs W (s .variables) xs pw (at.nodeAt s k) 0 0 0 es → part W (at.permutationAt s + lo) (length es) ≡ es → TreeAt W s k lo (leaf es)
+  leaf-of-row : (k lo : ℕ) (es : List ℕ) → k < s .nodes → RowIs W (s .variables) xs pw (at.nodeAt s k) 0 0 0 es
+      → part W (at.permutationAt s + lo) (length es) ≡ es → TreeAt W s k lo (leaf es)
   unfolding Ordered
   leaf-of-row k lo es h r p = record { stands = row-leaf W s (R .range) (R .room) xs pw P k lo es (rows-in h) r p; ordered = tt }
 
@@ -114,13 +115,15 @@ module _ {W : List ℕ} {s : Shape} (R : Ready W s) where
       let v = getD W (tagAt a) 0 - 1 - s .kind in
       let ev : v ≡ d - s .kind = omega arith in
       let kd : s .kind ≤ d = omega (arith, R .range .kind-to) in
-      let l : key ≤ least (pw (d - s .kind)) r = least-from (pw (d - s .kind)) key r hr (λ e m. not-less e (λ z. f e m (below-variable pw lb (s .kind) d key e (R .range .kind-to) kd .1 z))) in
+      let l : key ≤ least (pw (d - s .kind)) r = least-from (pw (d - s .kind)) key r hr
+      (λ e m. not-less e (λ z. f e m (below-variable pw lb (s .kind) d key e (R .range .kind-to) kd .1 z))) in
       rw (ek, y .is, gcd-pow (s .variables) pw P r v, ev) l
     where
       not-less : (e : ℕ) → (pw (d - s .kind) e < key → ⊥) → key ≤ pw (d - s .kind) e
       not-less e n = omega arith
 
-  other-of : (a b : ℕ) (r : List ℕ) → 1 ≤ getD W (tagAt a) 0 → (getD W (tagAt a) 0 ≡ s .kind → ⊥) → SlotHas W (s .variables) (gcdAt b) (gcdOf pw r) → OtherOk W s a b → (e : ℕ) → e ∈ r → BelowKey W s a e → ⊥
+  other-of : (a b : ℕ) (r : List ℕ) → 1 ≤ getD W (tagAt a) 0 → (getD W (tagAt a) 0 ≡ s .kind → ⊥) → SlotHas W (s .variables) (gcdAt b) (gcdOf pw r)
+      → OtherOk W s a b → (e : ℕ) → e ∈ r → BelowKey W s a e → ⊥
   other-of a b r h n y o e m z =
       let v = getD W (tagAt a) 0 - 1 - s .kind in
       let kd : s .kind ≤ getD W (tagAt a) 0 - 1 = omega (arith, R .range .kind-to) in
@@ -198,7 +201,14 @@ module _ {W : List ℕ} {s : Shape} (R : Ready W s) where
             made = λ h. (
               leaf es,
               record {
-                is = leaf-of-row k lo es (x .used) (record { tag-is = sym (x .tag-is) ∙ z; key-is = o .key; count = sym (x .row .count) ∙ sym le; skip-is = o .skip; node = o .node }) (rw le refl);
+                is = leaf-of-row k lo es (x .used) (record {
+                  tag-is = sym (x .tag-is) ∙ z;
+                  key-is = o .key;
+                  count = sym (x .row .count)
+                      ∙ sym le;
+                  skip-is = o .skip;
+                  node = o .node;
+                }) (rw le refl);
                 inside = omega (arith, nodes-leaf es);
                 few = omega arith;
                 bounded = o .bounded;
@@ -356,8 +366,10 @@ module _ {W : List ℕ} {s : Shape} (R : Ready W s) where
                 some-other = omega (arith, y .right .count, o .some-other);
                 count = omega (arith, x .count, y .left .count, y .right .count);
                 skip = x .here .skip-is ∙ sym (y .one);
-                node = rw (gcds (at.nodeAt s (k + 1)) (at.nodeAt s (k + 1 + t1)) (inorder (x .l)) (inorder (x .r)) (o .some-less) (o .some-other) (y .left .slot) (y .right .slot)) (x .here .node);
-                other = other-in (at.nodeAt s k) (at.nodeAt s (k + 1 + t1)) (x .d) (x .key) (inorder (x .r)) (o .some-other) (x .here .tag-is) (x .here .key-is) (y .right .slot) (o .other);
+                node = rw (gcds (at.nodeAt s (k + 1)) (at.nodeAt s (k + 1 + t1)) (inorder (x .l)) (inorder (x .r)) (o .some-less) (o .some-other)
+                    (y .left .slot) (y .right .slot)) (x .here .node);
+                other = other-in (at.nodeAt s k) (at.nodeAt s (k + 1 + t1)) (x .d) (x .key) (inorder (x .r)) (o .some-other) (x .here .tag-is)
+                    (x .here .key-is) (y .right .slot) (o .other);
               }
 
           pub no-branch : (BranchOk W s (at.nodeAt s k) (at.nodeAt s (k + 1)) (at.nodeAt s (k + 1 + t1)) t1 → ⊥) → Walked W s H ll lh k lo avail 0
@@ -437,7 +449,8 @@ module _ {W : List ℕ} {s : Shape} (R : Ready W s) where
                   );
                 }
               where
-                not-below : OtherOk W s (at.nodeAt s k) (at.nodeAt s (k + 1 + t1)) → ((e : ℕ) → e ∈ inorder l2 → Inside W s H (b .other) lh e) → (e : ℕ) → e ∈ inorder l2 → BelowKey W s (at.nodeAt s k) e → ⊥
+                not-below : OtherOk W s (at.nodeAt s k) (at.nodeAt s (k + 1 + t1)) → ((e : ℕ) → e ∈ inorder l2 → Inside W s H (b .other) lh e)
+                    → (e : ℕ) → e ∈ inorder l2 → BelowKey W s (at.nodeAt s k) e → ⊥
                 not-below q i e m z =
                     elim (ℕ-discrete (getD W (tagAt (at.nodeAt s k)) 0) (s .kind)) [
                       | yes y ↦ C .other e .0 (i e m) .1 y z

@@ -16,11 +16,20 @@ index-of-requires c κs = search needs
 
 -- src/lib.rt:119:9
 returns : tie.Need-returns
-returns c = λ m e. paired-none _ _ _ (c .before .before .before .before .before .pre .0) (c .before .before .before .before .before .pre .1) _ (c .before .before .index-of .ensures) m _ (not-true _ (c .if1 .taken))
+returns c =
+    λ m e. paired-none _ _ _ (c .before .before .before .before .before .pre .0) (c .before .before .before .before .before .pre .1) _
+    (c .before .before .index-of .ensures) m _ (not-true _ (c .if1 .taken))
 
 -- src/lib.rt:122:28
 add-single : tie.Need-add-single
-add-single c = omega (arith, c .before .before .before .before .before .good, c .before .before .before .before .before .pre .0, length-words (c .before .before .before .before .before .args .list .now))
+add-single c =
+    omega (
+      arith,
+      c .before .before .before .before .before .good,
+      c .before .before .before .before .before .pre .0,
+      length-words
+          (c .before .before .before .before .before .args .list .now),
+    )
 
 -- src/lib.rt:122:15
 single-requires : tie.Need-single-requires

@@ -49,7 +49,8 @@ variable c =
     let loop = c .before .before .before .loop in
     step (loop .inv) (seen _ (loop .inv .ra) (c .before .before .get .ensures)) (is-end-false _ (c .before .is-end .ensures) (c .if1 .left))
 
-stepped-at : (c : tie.After-first-bit Inv-loop μ-loop) → Added (c .before .before .before .before .before .before .before .before .before) (c .first-bit .result) (c .before .field .result)
+stepped-at : (c : tie.After-first-bit Inv-loop μ-loop)
+    → Added (c .before .before .before .before .before .before .before .before .before) (c .first-bit .result) (c .before .field .result)
 stepped-at c =
     let id = c .before .before .before .before .before .id in
     let get2 = c .before .before .before .before .get2 in

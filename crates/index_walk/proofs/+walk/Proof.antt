@@ -74,7 +74,8 @@ module _ (t : ℕ) where
       (omega (arith, r .nodes-to, r .cap-to), omega (arith, r .few, r .cap-to))
 
   -- the row lies within the image
-  room : (c : walk-lts.After-node-at (claims t) (walk-at t) walk.Post) → 4 * (c .node-at .result + at.nodeWidth (c .before .before .before .before .before .args .s .variables)) ≤ length (c .before .before .before .before .before .args .image .now)
+  room : (c : walk-lts.After-node-at (claims t) (walk-at t) walk.Post)
+      → 4 * (c .node-at .result + at.nodeWidth (c .before .before .before .before .before .args .s .variables)) ≤ length (c .before .before .before .before .before .args .image .now)
   room c =
       let start = c .before .before .before .before .before in
       let fits = node-room (start .args .image .now) (start .args .s) (start .pre .1 .0) (start .args .k) (omega (arith, c .before .if1 .left)) in
@@ -94,18 +95,21 @@ module _ (t : ℕ) where
     tag-is = rw (c .before .before .before .node-at .ensures) at (c .get2 .ensures);
   }
 
-  keyed : (c : walk-lts.Else5 (claims t) (walk-at t) walk.Post) → KeyIn (words (c .before .before .before .before .before .before .before .before .before .before .before .args .image .now)) (c .before .before .before .before .before .before .before .before .before .before .before .args .s) (c .before .before .before .before .before .before .node-at .result)
+  keyed : (c : walk-lts.Else5 (claims t) (walk-at t) walk.Post)
+      → KeyIn (words (c .before .before .before .before .before .before .before .before .before .before .before .args .image .now)) (c .before .before .before .before .before .before .before .before .before .before .before .args .s) (c .before .before .before .before .before .before .node-at .result)
   keyed c = passed (c .before .key-ok .result) (c .before .key-ok .ensures) (c .if5 .left)
 
   -- the bounds of the less side, which are put back behind it
-  bounds : (c : walk-lts.After-exchange (claims t) (walk-at t) walk.Post) → Uppers (c .before .before .before .before .before .before .before .before .before .before .before .before .before .before .before .args .s .variables) (c .exchange .last .0)
+  bounds : (c : walk-lts.After-exchange (claims t) (walk-at t) walk.Post)
+      → Uppers (c .before .before .before .before .before .before .before .before .before .before .before .before .before .before .before .args .s .variables) (c .exchange .last .0)
   bounds c =
       let start = c .before .before .before .before .before .before .before .before .before .before .before .before .before .before .before in
       let sides = c .before .before .sides in
       uppers-put (start .args .s .variables) (start .args .hi .now) (start .pre .1 .1 .0) (sides .result .variable) (sides .result .power)
       (sides .ensures .known) (sides .ensures .small) (sides .ensures .some) (c .exchange .last .0) (c .exchange .ensures .1)
 
-  kept : (c : walk-lts.After-slice-known4 (claims t) (walk-at t) walk.Post) → c .before .before .put .last .0 ≡ c .before .before .before .before .before .before .before .before .before .before .before .before .before .before .before .before .before .before .before .before .before .before .before .before .before .args .hi .now
+  kept : (c : walk-lts.After-slice-known4 (claims t) (walk-at t) walk.Post)
+      → c .before .before .put .last .0 ≡ c .before .before .before .before .before .before .before .before .before .before .before .before .before .before .before .before .before .before .before .before .before .before .before .before .before .args .hi .now
   kept c =
       let start = c .before .before .before .before .before .before .before .before .before .before .before .before .before .before .before .before .before .before .before .before .before .before .before .before .before in
       let sides = c .before .before .before .before .before .before .before .before .before .before .before .before .sides in
@@ -113,13 +117,17 @@ module _ (t : ℕ) where
       let walk = c .before .before .before .before .before .before .walk in
       let put = c .before .before .put in
       put-back (start .args .s .variables) (start .args .hi .now) (start .pre .1 .1 .0) (sides .result .variable) (sides .result .power)
-      (sides .ensures .known) (sides .ensures .small) (λ i. omega (arith, c .before .before .before .before .before .before .before .before .before .before .before .before .before .before .before .before .before .before .before .before .before .before .before .slice-known .given i)) (walk .last .1 .1 .0) (put .last .0)
+      (sides .ensures .known) (sides .ensures .small)
+      (λ i. omega (arith, c .before .before .before .before .before .before .before .before .before .before .before .before .before .before .before .before .before .before .before .before .before .before .before .slice-known .given i))
+      (walk .last .1 .1 .0) (put .last .0)
       (exchange .result) (λ i. omega (arith, c .slice-known4 .given i)) (walk .ensures .1 ∙ exchange .ensures .1) (exchange .ensures .0) (put .ensures)
 
   -- the less side was walked
   less : (c : walk-lts.After-walk (claims t) (walk-at t) walk.Post)
       → Less (c .before .before .before .before .before .before .before .before .before .before .before .before .before .before .before .before .before .before .before .pre .1 .0) (words (c .before .before .before .before .before .before .before .before .before .before .before .before .before .before .before .before .before .before .before .args .hi .now)) (c .before .before .before .before .before .before .before .before .before .before .before .before .before .before .before .before .before .before .before .args .ll) (c .before .before .before .before .before .before .before .before .before .before .before .before .before .before .before .before .before .before .before .args .lh) (c .before .before .before .before .before .before .before .before .before .before .before .before .before .before .before .before .before .before .before .args .k) (c .before .before .before .before .before .before .before .before .before .before .before .before .before .before .before .before .before .before .before .args .lo) (c .before .before .before .before .before .before .before .before .before .before .before .before .before .before .before .before .before .before .before .args .avail)
-      (c .before .before .before .before .before .before .before .before .before .before .before .before .before .get .result) (c .before .before .before .before .before .before .before .before .before .before .before .get2 .result) (c .before .before .before .before .before .before .sides .result) (c .walk .result)
+      (c .before .before .before .before .before .before .before .before .before .before .before .before .before .get .result)
+      (c .before .before .before .before .before .before .before .before .before .before .before .get2 .result)
+      (c .before .before .before .before .before .before .sides .result) (c .walk .result)
   less c =
       let start = c .before .before .before .before .before .before .before .before .before .before .before .before .before .before .before .before .before .before .before in
       let node-at = c .before .before .before .before .before .before .before .before .before .before .before .before .before .before .node-at in
@@ -138,23 +146,32 @@ module _ (t : ℕ) where
   -- it has a tree, so its numbers are known
   one : (c : walk-lts.Else6 (claims t) (walk-at t) walk.Post)
       → One (c .before .before .before .before .before .before .before .before .before .before .before .before .before .before .before .before .before .before .before .before .before .before .before .before .before .before .pre .1 .0) (less (c .before .before .before .before .before .before .before)) (omega (arith, c .if6 .left))
-  one c = one-is (c .before .before .before .before .before .before .before .before .before .before .before .before .before .before .before .before .before .before .before .before .before .before .before .before .before .before .pre .1 .0) (less (c .before .before .before .before .before .before .before)) (omega (arith, c .if6 .left))
+  one c =
+      one-is (c .before .before .before .before .before .before .before .before .before .before .before .before .before .before .before .before .before .before .before .before .before .before .before .before .before .before .pre .1 .0)
+      (less (c .before .before .before .before .before .before .before)) (omega (arith, c .if6 .left))
 
   -- the count that is read again is the same
-  count-same : (c : walk-lts.After-count-at (claims t) (walk-at t) walk.Post) → c .count-at .result ≡ c .before .before .before .before .before .before .before .before .before .before .before .before .before .before .before .before .before .before .before .before .before .before .before .get .result
-  count-same c = c .count-at .ensures ∙ sym (row (c .before .before .before .before .before .before .before .before .before .before .before .before .before .before .before .before .before .before .before .before .before .before .before) .count)
+  count-same : (c : walk-lts.After-count-at (claims t) (walk-at t) walk.Post)
+      → c .count-at .result ≡ c .before .before .before .before .before .before .before .before .before .before .before .before .before .before .before .before .before .before .before .before .before .before .before .get .result
+  count-same c =
+      c .count-at .ensures ∙ sym (row (c .before .before .before .before .before .before .before .before .before .before .before .before .before .before .before .before .before .before .before .before .before .before .before) .count)
 
   -- the other side was walked
   other : (c : walk-lts.After-walk2 (claims t) (walk-at t) walk.Post)
       → Walked (words (c .before .before .before .before .before .before .before .before .before .before .before .before .before .before .before .before .before .before .before .before .before .before .before .before .before .before .before .before .before .before .before .args .image .now)) (c .before .before .before .before .before .before .before .before .before .before .before .before .before .before .before .before .before .before .before .before .before .before .before .before .before .before .before .before .before .before .before .args .s) (words (c .before .before .before .before .before .before .before .before .before .before .before .before .before .before .before .before .before .before .before .before .before .before .before .before .before .before .before .before .before .before .before .args .hi .now)) (c .before .before .before .before .before .before .before .before .before .before .before .before .before .before .before .before .before .before .sides .result .other) (c .before .before .before .before .before .before .before .before .before .before .before .before .before .before .before .before .before .before .before .before .before .before .before .before .before .before .before .before .before .before .before .args .lh)
-      (c .before .before .before .before .before .before .before .before .before .before .before .before .before .before .before .before .before .before .before .before .before .before .before .before .before .before .before .before .before .before .before .args .k + 1 + c .before .before .before .before .before .before .before .before .before .before .before .before .walk .result) (c .before .before .before .before .before .before .before .before .before .before .before .before .before .before .before .before .before .before .before .before .before .before .before .before .before .before .before .before .before .before .before .args .lo + c .before .before .before .before .count-behind .result)
-      (c .before .before .before .before .before .before .before .before .before .before .before .before .before .before .before .before .before .before .before .before .before .before .before .before .before .get .result - c .before .before .before .before .count-behind .result) (c .walk2 .result)
+      (c .before .before .before .before .before .before .before .before .before .before .before .before .before .before .before .before .before .before .before .before .before .before .before .before .before .before .before .before .before .before .before .args .k + 1 + c .before .before .before .before .before .before .before .before .before .before .before .before .walk .result)
+      (c .before .before .before .before .before .before .before .before .before .before .before .before .before .before .before .before .before .before .before .before .before .before .before .before .before .before .before .before .before .before .before .args .lo + c .before .before .before .before .count-behind .result)
+      (c .before .before .before .before .before .before .before .before .before .before .before .before .before .before .before .before .before .before .before .before .before .before .before .before .before .get .result - c .before .before .before .before .count-behind .result)
+      (c .walk2 .result)
   other c = rw (kept (c .before .before .before .before .before .before)) at (rw (count-same (c .before .before)) at (c .walk2 .ensures .0))
 
   two : (c : walk-lts.Else8 (claims t) (walk-at t) walk.Post)
       → Two (c .before .before .before .before .before .before .before .before .before .before .before .before .before .before .before .before .before .before .before .before .before .before .before .before .before .before .before .before .before .before .before .before .before .before .pre .1 .0) (less (c .before .before .before .before .before .before .before .before .before .before .before .before .before .before .before)) (omega (arith, c .before .before .before .before .before .before .before .before .if6 .left)) (c .before .before .before .before .before .before .before .count-behind .ensures) (other (c .before .before .before)) (omega (arith, c .if8 .left))
   two c =
-      two-is (c .before .before .before .before .before .before .before .before .before .before .before .before .before .before .before .before .before .before .before .before .before .before .before .before .before .before .before .before .before .before .before .before .before .before .pre .1 .0) (less (c .before .before .before .before .before .before .before .before .before .before .before .before .before .before .before)) (omega (arith, c .before .before .before .before .before .before .before .before .if6 .left)) (c .before .before .before .before .before .before .before .count-behind .ensures)
+      two-is (c .before .before .before .before .before .before .before .before .before .before .before .before .before .before .before .before .before .before .before .before .before .before .before .before .before .before .before .before .before .before .before .before .before .before .pre .1 .0)
+      (less (c .before .before .before .before .before .before .before .before .before .before .before .before .before .before .before))
+      (omega (arith, c .before .before .before .before .before .before .before .before .if6 .left))
+      (c .before .before .before .before .before .before .before .count-behind .ensures)
       (other (c .before .before .before)) (omega (arith, c .if8 .left))
 
 -- src/lib.rt:425:9
@@ -199,8 +216,11 @@ walk-same-length t c = search needs
 walk-returns-3 : (t : ℕ) → walk-lts.Need-returns-3 (claims t) (walk-at t) walk.Post
 walk-returns-3 t c =
     let node-at = c .before .before .before .before .before .before .before .node-at in
-    let ok = rw (node-at .ensures) at (c .before .leaf-ok .ensures .0 (c .if4 .taken)) in
-    (a-leaf (c .before .before .before .before .before .before .before .before .before .before .before .before .pre .1 .0) (tagged t (c .before .before .before .before)) (c .before .before .before .if3 .taken) ok, refl)
+    let ok = rw (node-at .ensures) at (c .before .leaf-ok .ensures .0 (c .if4 .taken)) in (
+      a-leaf (c .before .before .before .before .before .before .before .before .before .before .before .before .pre .1 .0)
+          (tagged t (c .before .before .before .before)) (c .before .before .before .if3 .taken) ok,
+      refl,
+    )
 
 -- src/lib.rt:436:9
 walk-same-length-2 : (t : ℕ) → walk-lts.Need-same-length-2 (claims t) (walk-at t) walk.Post
@@ -210,21 +230,24 @@ walk-same-length-2 t c = search needs
 walk-returns-4 : (t : ℕ) → walk-lts.Need-returns-4 (claims t) (walk-at t) walk.Post
 walk-returns-4 t c =
     let node-at = c .before .before .before .before .before .before .before .node-at in (
-      no-leaf (c .before .before .before .before .before .before .before .before .before .before .before .before .pre .1 .0) (tagged t (c .before .before .before .before)) (c .before .before .before .if3 .taken)
+      no-leaf (c .before .before .before .before .before .before .before .before .before .before .before .before .pre .1 .0)
+          (tagged t (c .before .before .before .before)) (c .before .before .before .if3 .taken)
           (λ o. never (sym (c .if4 .left) ∙ c .before .leaf-ok .ensures .1 (rw (node-at .ensures) o))),
       refl,
     )
 
 -- src/lib.rt:438:9
 walk-key-ok-requires : (t : ℕ) → walk-lts.Need-key-ok-requires (claims t) (walk-at t) walk.Post
-walk-key-ok-requires t c κs = (c .before .before .before .before .before .before .before .before .before .pre .1 .0 .range, omega (arith, room t (c .before .before .before .before)))
+walk-key-ok-requires t c κs =
+    (c .before .before .before .before .before .before .before .before .before .pre .1 .0 .range, omega (arith, room t (c .before .before .before .before)))
 
 -- src/lib.rt:439:9
 walk-returns-5 : (t : ℕ) → walk-lts.Need-returns-5 (claims t) (walk-at t) walk.Post
 walk-returns-5 t c =
     let node-at = c .before .before .before .before .before .before .node-at in
     let key-ok = c .before .key-ok in (
-      no-key (c .before .before .before .before .before .before .before .before .before .before .before .pre .1 .0) (tagged t (c .before .before .before)) (c .before .before .if3 .left)
+      no-key (c .before .before .before .before .before .before .before .before .before .before .before .pre .1 .0)
+          (tagged t (c .before .before .before)) (c .before .before .if3 .left)
           (λ o. failed (key-ok .result) (key-ok .ensures) (c .if5 .taken) (rw (node-at .ensures) o)),
       refl,
     )
@@ -262,7 +285,15 @@ walk-walk-requires t c κs =
       omega (arith, start .pre .0, if2 .left, keyed t (c .before .before .before .before .before .before .before) .two, get .ensures),
       (
         start .pre .1 .0,
-        (bounds t (c .before .before .before), (omega (arith, c .before .before .before .before .before .before .before .before .before .before .before .before .before .before .if1 .left), omega (arith, start .pre .1 .1 .1 .1, if2 .left))),
+        (
+          bounds t (c .before .before .before),
+          (
+            omega
+                (arith, c .before .before .before .before .before .before .before .before .before .before .before .before .before .before .if1 .left),
+            omega
+                (arith, start .pre .1 .1 .1 .1, if2 .left),
+          ),
+        ),
       ),
     )
 
@@ -279,7 +310,11 @@ walk-same-length-3 t c = ap length (kept t (c .before))
 
 -- src/lib.rt:446:9
 walk-returns-6 : (t : ℕ) → walk-lts.Need-returns-6 (claims t) (walk-at t) walk.Post
-walk-returns-6 t c = (no-first (c .before .before .before .before .before .before .before .before .before .before .before .before .before .before .before .before .before .before .before .before .before .before .before .before .before .before .pre .1 .0) (less t (c .before .before .before .before .before .before .before)) (c .if6 .taken), kept t (c .before))
+walk-returns-6 t c = (
+  no-first (c .before .before .before .before .before .before .before .before .before .before .before .before .before .before .before .before .before .before .before .before .before .before .before .before .before .before .pre .1 .0)
+      (less t (c .before .before .before .before .before .before .before)) (c .if6 .taken),
+  kept t (c .before),
+)
 
 -- src/lib.rt:448:9
 walk-count-behind-requires : (t : ℕ) → walk-lts.Need-count-behind-requires (claims t) (walk-at t) walk.Post
@@ -295,7 +330,8 @@ walk-same-length-4 t c = ap length (kept t (c .before .before .before))
 walk-returns-7 : (t : ℕ) → walk-lts.Need-returns-7 (claims t) (walk-at t) walk.Post
 walk-returns-7 t c =
     let some = c .before .before .if6 .left in
-    let less-entries = no-less (c .before .before .before .before .before .before .before .before .before .before .before .before .before .before .before .before .before .before .before .before .before .before .before .before .before .before .before .before .pre .1 .0) (less t (c .before .before .before .before .before .before .before .before .before)) (omega (arith, some)) (c .before .count-behind .ensures) (c .if7 .taken) in
+    let less-entries = no-less (c .before .before .before .before .before .before .before .before .before .before .before .before .before .before .before .before .before .before .before .before .before .before .before .before .before .before .before .before .pre .1 .0)
+    (less t (c .before .before .before .before .before .before .before .before .before)) (omega (arith, some)) (c .before .count-behind .ensures) (c .if7 .taken) in
     (less-entries, kept t (c .before .before .before))
 
 -- src/lib.rt:453:9
@@ -334,7 +370,16 @@ walk-walk-requires-2 t c κs =
     let if2 = c .before .before .before .before .before .before .before .before .before .before .before .before .before .before .before .before .before .before .before .before .before .before .before .if2 in
     let count-behind = c .before .before .before .count-behind in
     let if7 = c .before .before .if7 in (
-      omega (arith, count-same t (c .before), start .pre .0, if2 .left, keyed t (c .before .before .before .before .before .before .before .before .before .before .before .before .before .before .before .before .before .before .before) .two, c .before .before .before .before .before .before .before .before .before .before .before .before .before .before .before .before .before .before .before .before .before .before .before .before .get .ensures, if7 .left),
+      omega (
+        arith,
+        count-same t (c .before),
+        start .pre .0,
+        if2 .left,
+        keyed t
+            (c .before .before .before .before .before .before .before .before .before .before .before .before .before .before .before .before .before .before .before) .two,
+        c .before .before .before .before .before .before .before .before .before .before .before .before .before .before .before .before .before .before .before .before .before .before .before .before .get .ensures,
+        if7 .left,
+      ),
       (
         start .pre .1 .0,
         (
@@ -357,7 +402,8 @@ walk-returns-8 t c =
     let less-side = less t (c .before .before .before .before .before .before .before .before .before .before .before .before .before .before .before) in
     let some = c .before .before .before .before .before .before .before .before .if6 .left in
     let count-behind = c .before .before .before .before .before .before .before .count-behind in (
-      no-second (c .before .before .before .before .before .before .before .before .before .before .before .before .before .before .before .before .before .before .before .before .before .before .before .before .before .before .before .before .before .before .before .before .before .before .pre .1 .0) less-side (omega (arith, some)) (count-behind .ensures) (other t (c .before .before .before)) (c .if8 .taken),
+      no-second (c .before .before .before .before .before .before .before .before .before .before .before .before .before .before .before .before .before .before .before .before .before .before .before .before .before .before .before .before .before .before .before .before .before .before .pre .1 .0) less-side
+          (omega (arith, some)) (count-behind .ensures) (other t (c .before .before .before)) (c .if8 .taken),
       c .before .before .before .walk2 .ensures .1 ∙ kept t (c .before .before .before .before .before .before .before .before .before),
     )
 
@@ -365,8 +411,13 @@ walk-returns-8 t c =
 walk-over-ok-requires : (t : ℕ) → walk-lts.Need-over-ok-requires (claims t) (walk-at t) walk.Post
 walk-over-ok-requires t c κs =
     let node-at = c .before .before .before .before .before .before .before .before .before .before .before .before .before .before .before .before .before .before .before .before .before .before .before .before .before .before .before .before .before .node-at in
-    let both = two t c in
-    (c .before .before .before .before .before .before .before .before .before .before .before .before .before .before .before .before .before .before .before .before .before .before .before .before .before .before .before .before .before .before .before .before .before .before .pre .1 .0, (omega (arith, both .inside, c .if8 .left), (rw (node-at .ensures) at (keyed t (c .before .before .before .before .before .before .before .before .before .before .before .before .before .before .before .before .before .before .before .before .before .before .before)), both .slots)))
+    let both = two t c in (
+      c .before .before .before .before .before .before .before .before .before .before .before .before .before .before .before .before .before .before .before .before .before .before .before .before .before .before .before .before .before .before .before .before .before .before .pre .1 .0,
+      (
+        omega (arith, both .inside, c .if8 .left),
+        (rw (node-at .ensures) at (keyed t (c .before .before .before .before .before .before .before .before .before .before .before .before .before .before .before .before .before .before .before .before .before .before .before)), both .slots),
+      ),
+    )
 
 -- src/lib.rt:459:16
 walk-add-result : (t : ℕ) → walk-lts.Need-add-result (claims t) (walk-at t) walk.Post
@@ -382,7 +433,8 @@ walk-add-result-2 t c =
 
 -- src/lib.rt:459:9
 walk-same-length-6 : (t : ℕ) → walk-lts.Need-same-length-6 (claims t) (walk-at t) walk.Post
-walk-same-length-6 t c = ap length (c .before .before .before .before .before .walk2 .ensures .1 ∙ kept t (c .before .before .before .before .before .before .before .before .before .before .before))
+walk-same-length-6 t c =
+    ap length (c .before .before .before .before .before .walk2 .ensures .1 ∙ kept t (c .before .before .before .before .before .before .before .before .before .before .before))
 
 -- src/lib.rt:459:9
 walk-returns-9 : (t : ℕ) → walk-lts.Need-returns-9 (claims t) (walk-at t) walk.Post
@@ -391,14 +443,16 @@ walk-returns-9 t c =
     let some = c .before .before .before .before .before .before .before .before .before .before .if6 .left in
     let count-behind = c .before .before .before .before .before .before .before .before .before .count-behind in
     let some-other = c .before .before .if8 .left in (
-      a-branch (c .before .before .before .before .before .before .before .before .before .before .before .before .before .before .before .before .before .before .before .before .before .before .before .before .before .before .before .before .before .before .before .before .before .before .before .before .pre .1 .0) less-side (omega (arith, some)) (count-behind .ensures) (other t (c .before .before .before .before .before)) (omega (arith, some-other))
+      a-branch (c .before .before .before .before .before .before .before .before .before .before .before .before .before .before .before .before .before .before .before .before .before .before .before .before .before .before .before .before .before .before .before .before .before .before .before .before .pre .1 .0) less-side
+          (omega (arith, some)) (count-behind .ensures) (other t (c .before .before .before .before .before)) (omega (arith, some-other))
           (c .before .over-ok .ensures .0 (c .if9 .taken)),
       c .before .before .before .before .before .walk2 .ensures .1 ∙ kept t (c .before .before .before .before .before .before .before .before .before .before .before),
     )
 
 -- src/lib.rt:408:1
 walk-same-length-7 : (t : ℕ) → walk-lts.Need-same-length-7 (claims t) (walk-at t) walk.Post
-walk-same-length-7 t c = ap length (c .before .before .before .before .before .walk2 .ensures .1 ∙ kept t (c .before .before .before .before .before .before .before .before .before .before .before))
+walk-same-length-7 t c =
+    ap length (c .before .before .before .before .before .walk2 .ensures .1 ∙ kept t (c .before .before .before .before .before .before .before .before .before .before .before))
 
 -- src/lib.rt:408:1
 walk-returns-10 : (t : ℕ) → walk-lts.Need-returns-10 (claims t) (walk-at t) walk.Post
@@ -406,7 +460,8 @@ walk-returns-10 t c =
     let less-side = less t (c .before .before .before .before .before .before .before .before .before .before .before .before .before .before .before .before .before) in
     let some = c .before .before .before .before .before .before .before .before .before .before .if6 .left in
     let count-behind = c .before .before .before .before .before .before .before .before .before .count-behind in (
-      no-branch (c .before .before .before .before .before .before .before .before .before .before .before .before .before .before .before .before .before .before .before .before .before .before .before .before .before .before .before .before .before .before .before .before .before .before .before .before .pre .1 .0) less-side (omega (arith, some)) (count-behind .ensures) (other t (c .before .before .before .before .before))
+      no-branch (c .before .before .before .before .before .before .before .before .before .before .before .before .before .before .before .before .before .before .before .before .before .before .before .before .before .before .before .before .before .before .before .before .before .before .before .before .pre .1 .0) less-side
+          (omega (arith, some)) (count-behind .ensures) (other t (c .before .before .before .before .before))
           (λ o. never (sym (c .if9 .left) ∙ c .before .over-ok .ensures .1 o)),
       c .before .before .before .before .before .walk2 .ensures .1 ∙ kept t (c .before .before .before .before .before .before .before .before .before .before .before),
     )

@@ -33,10 +33,12 @@ abbrev two : tie.Start → List ℕ
 two a = monomialIn (words (a .args .image .now)) (a .args .s .variables) (shape.gcdAt (a .args .b))
 
 one-good : (a : tie.Start) → Canonical 1 64 (one a)
-one-good a = canonical-more (omega arith) (a .pre .0 .range .vars-to) (in-canonical (words (a .args .image .now)) (a .args .s .variables) (shape.gcdAt (a .args .a)) (a .pre .1 .1 .0 .one))
+one-good a =
+    canonical-more (omega arith) (a .pre .0 .range .vars-to) (in-canonical (words (a .args .image .now)) (a .args .s .variables) (shape.gcdAt (a .args .a)) (a .pre .1 .1 .0 .one))
 
 two-good : (a : tie.Start) → Canonical 1 64 (two a)
-two-good a = canonical-more (omega arith) (a .pre .0 .range .vars-to) (in-canonical (words (a .args .image .now)) (a .args .s .variables) (shape.gcdAt (a .args .b)) (a .pre .1 .1 .0 .two))
+two-good a =
+    canonical-more (omega arith) (a .pre .0 .range .vars-to) (in-canonical (words (a .args .image .now)) (a .args .s .variables) (shape.gcdAt (a .args .b)) (a .pre .1 .1 .0 .two))
 
 fits : (a : tie.Start) → length (result Gcd (one a) (two a)) ≤ 65
 fits a = gcd-fits (one a) (two a) (one-good a) (two-good a)
@@ -45,12 +47,24 @@ fits a = gcd-fits (one a) (two a) (one-good a) (two-good a)
 made-length : (c : tie.After-gcd) → c .gcd .result ≡ length (result Gcd (one (c .before .before .before .before .before)) (two (c .before .before .before .before .before)))
 made-length c =
     let start = c .before .before .before .before .before in
-    rw (c .before .before .before .monomial-in .ensures .is, c .before .before .monomial-in2 .ensures .is, first-whole (one-good start), first-whole (two-good start)) at (c .gcd .ensures .0)
+    rw (
+      c .before .before .before .monomial-in .ensures .is,
+      c .before .before .monomial-in2 .ensures .is,
+      first-whole (one-good start),
+      first-whole
+          (two-good start),
+    ) at (c .gcd .ensures .0)
 
 made : (c : tie.After-gcd) → words (take (4 * c .gcd .result) (c .gcd .last .1 .1 .0)) ≡ result Gcd (one (c .before .before .before .before .before)) (two (c .before .before .before .before .before))
 made c =
     let start = c .before .before .before .before .before in
-    let written = rw (c .before .before .before .monomial-in .ensures .is, c .before .before .monomial-in2 .ensures .is, first-whole (one-good start), first-whole (two-good start)) at (c .gcd .ensures .1) in
+    let written = rw (
+      c .before .before .before .monomial-in .ensures .is,
+      c .before .before .monomial-in2 .ensures .is,
+      first-whole
+          (one-good start),
+      first-whole (two-good start),
+    ) at (c .gcd .ensures .1) in
     ap (λ (l : List ℕ). words (take (4 * c .gcd .result) l)) written
     ∙ front-pasted _ (result Gcd (one start) (two start)) (c .gcd .result) (gcd-small (one start) (two start) (one-good start) (two-good start)) (made-length c)
 
@@ -97,7 +111,8 @@ array-share-prefix-made c = omega (arith, fits (c .before .before .before .befor
 slice-aggregate-node-ok : tie.Need-slice-aggregate-node-ok
 slice-aggregate-node-ok c =
     let gcd = c .before .before .gcd in
-    sym (length-take-le (4 * gcd .result) (gcd .last .1 .1 .0) (omega (arith, fits (c .before .before .before .before .before .before .before), made-length (c .before .before), gcd .kept .1 .1 .0)))
+    sym (length-take-le (4 * gcd .result) (gcd .last .1 .1 .0)
+    (omega (arith, fits (c .before .before .before .before .before .before .before), made-length (c .before .before), gcd .kept .1 .1 .0)))
 
 -- src/lib.rt:292:5
 node-ok-requires : tie.Need-node-ok-requires

@@ -60,7 +60,8 @@ add-if3 c = search needs
 
 -- src/lib.rt:331:9
 returns-3 : tie.Need-returns-3
-returns-3 c = refuse (λ o. (c .if3 .taken) (omega (arith, o .count, c .before .before .before .before .before .get .ensures, c .before .before .before .get2 .ensures, c .before .get3 .ensures)))
+returns-3 c =
+    refuse (λ o. (c .if3 .taken) (omega (arith, o .count, c .before .before .before .before .before .get .ensures, c .before .before .before .get2 .ensures, c .before .get3 .ensures)))
 
 -- src/lib.rt:333:26
 add-get-4 : tie.Need-add-get-4

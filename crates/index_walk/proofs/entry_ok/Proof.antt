@@ -71,7 +71,8 @@ returns-3 c =
     let monomial-from = c .before .before .before .before .before .before .monomial-from in
     let powers-below = c .before .before .before .before .before .powers-below in
     let label-in = c .before .label-in in
-    too-low _ _ _ _ _ _ _ _ (lm-read _ _ _ _ _ (entry-at .ensures) (monomial-from .ensures .is)) (powers-below .ensures) (omega (arith, start .pre .0 .range .kind-to, c .before .before .if2 .left)) (label-in .result)
+    too-low _ _ _ _ _ _ _ _ (lm-read _ _ _ _ _ (entry-at .ensures) (monomial-from .ensures .is)) (powers-below .ensures)
+    (omega (arith, start .pre .0 .range .kind-to, c .before .before .if2 .left)) (label-in .result)
     (label-in .ensures) (c .if3 .taken)
 
 -- src/lib.rt:69:1
@@ -83,7 +84,8 @@ returns-4 c =
     let powers-below = c .before .before .before .before .before .powers-below in
     let if1 = c .before .before .before .before .if1 in
     let label-in = c .before .label-in in
-    by-label _ _ _ _ _ _ _ _ (lm-read _ _ _ _ _ (entry-at .ensures) (monomial-from .ensures .is)) (powers-below .ensures) (omega (arith, start .pre .0 .range .kind-to, c .before .before .if2 .left)) (label-in .result)
+    by-label _ _ _ _ _ _ _ _ (lm-read _ _ _ _ _ (entry-at .ensures) (monomial-from .ensures .is)) (powers-below .ensures)
+    (omega (arith, start .pre .0 .range .kind-to, c .before .before .if2 .left)) (label-in .result)
     (label-in .ensures) (if1 .left) (c .if3 .left)
 
 pub entry-ok-spec : {M : Type 1} → statement M

@@ -32,7 +32,13 @@ maxima-lent a = range-words (a .args .image .now) (map-at a) (a .args .s .variab
 
 -- the gcd fits in its slot
 short : (a : tie.Start) → length (a .args .gcd .now) / 4 ≤ at.slotWidth (a .args .s .variables)
-short a = omega (arith, length-words (a .args .gcd .now), canonical-length 1 (a .args .s .variables) (words (a .args .gcd .now)) (omega arith) (omega (arith, a .pre .0 .range .vars-to)) (a .pre .1 .1))
+short a =
+    omega (
+      arith,
+      length-words (a .args .gcd .now),
+      canonical-length 1 (a .args .s .variables) (words (a .args .gcd .now)) (omega arith)
+          (omega (arith, a .pre .0 .range .vars-to)) (a .pre .1 .1),
+    )
 
 row-read : (c : tie.After-map) → RowRead (words (c .before .before .before .before .before .args .image .now)) (c .before .before .before .before .before .args .s) (c .before .before .before .before .before .args .at) (words (c .before .before .before .before .before .args .gcd .now)) (c .before .before .get .result) (c .map .result)
 row-read c =
@@ -157,7 +163,8 @@ sub-is-blank c = omega (arith, short (c .before .before .before .before .before 
 
 -- src/lib.rt:169:5
 is-blank-requires : tie.Need-is-blank-requires
-is-blank-requires c κs = omega (arith, short (c .before .before .before .before .before .before .before .before .before), c .before .before .before .before .before .before .before .before .before .pre .1 .0)
+is-blank-requires c κs =
+    omega (arith, short (c .before .before .before .before .before .before .before .before .before), c .before .before .before .before .before .before .before .before .before .pre .1 .0)
 
 -- src/lib.rt:151:1
 returns-3 : tie.Need-returns-3

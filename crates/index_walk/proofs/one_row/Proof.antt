@@ -76,13 +76,15 @@ leaf-ok-requires c κs =
 returns-3 : tie.Need-returns-3
 returns-3 c =
     let node-at = c .before .before .before .before .before .before .before .node-at in
-    a-leaf (c .before .before .before .before .before .before .before .before .before .before .pre .0) (tagged (c .before .before)) (c .before .before .before .before .before .if1 .left) (rw (node-at .ensures) at (c .before .leaf-ok .ensures .0 (c .if3 .taken)))
+    a-leaf (c .before .before .before .before .before .before .before .before .before .before .pre .0) (tagged (c .before .before))
+    (c .before .before .before .before .before .if1 .left) (rw (node-at .ensures) at (c .before .leaf-ok .ensures .0 (c .if3 .taken)))
 
 -- src/lib.rt:455:1
 returns-4 : tie.Need-returns-4
 returns-4 c =
     let node-at = c .before .before .before .before .before .before .before .node-at in
-    no-leaf (c .before .before .before .before .before .before .before .before .before .before .pre .0) (tagged (c .before .before)) (c .before .before .before .before .before .if1 .left)
+    no-leaf (c .before .before .before .before .before .before .before .before .before .before .pre .0) (tagged (c .before .before))
+    (c .before .before .before .before .before .if1 .left)
     (λ o. never (sym (c .if3 .left) ∙ c .before .leaf-ok .ensures .1 (rw (node-at .ensures) o)))
 
 pub one-row-spec : {M : Type 1} → statement M

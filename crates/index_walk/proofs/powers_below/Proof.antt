@@ -27,7 +27,8 @@ abbrev μ-loop : tie.MeasureT-loop
 
 -- helpers
 -- what is known of a variable's word
-variable : (c : tie.Else1 Inv-loop μ-loop) → Here (c .before .before .before .before .before .before .pre .1 .1 .some) (c .before .before .before .loop .inv) (seen _ (c .before .before .before .loop .inv .ra) (c .before .before .get .ensures))
+variable : (c : tie.Else1 Inv-loop μ-loop)
+    → Here (c .before .before .before .before .before .before .pre .1 .1 .some) (c .before .before .before .loop .inv) (seen _ (c .before .before .before .loop .inv .ra) (c .before .before .get .ensures))
 variable c =
     let start = c .before .before .before .before .before .before in
     let loop-here = c .before .before .before .loop in

@@ -27,7 +27,8 @@ use Rattle.words.proofs.is_end.Reads as is-end-reads
 use Rattle.words.proofs.power.Reads as power-reads
 
 abbrev Inv-loop : tie.InvT-loop
-Inv-loop maxima variables monomial whole extra mask₀ vector₀ i₀ mask vector i = (Mapping variables (words maxima) (first 1 (words monomial)) i mask) × (Mapping variables (bitCounts variables) (first 1 (words monomial)) i vector)
+Inv-loop maxima variables monomial whole extra mask₀ vector₀ i₀ mask vector i =
+    (Mapping variables (words maxima) (first 1 (words monomial)) i mask) × (Mapping variables (bitCounts variables) (first 1 (words monomial)) i vector)
 
 abbrev μ-loop : tie.MeasureT-loop
 μ-loop maxima variables monomial whole extra mask₀ vector₀ i₀ mask vector i = length (first 1 (words monomial)) - i
@@ -56,7 +57,8 @@ variable c =
     let loop = c .before .before .before .loop in
     step (loop .inv .0) (seen _ (loop .inv .0 .ra) (c .before .before .get .ensures)) (is-end-false _ (c .before .is-end .ensures) (c .if1 .left))
 
-stepped-at : (c : tie.After-field Inv-loop μ-loop) → Added (c .before .before .before .before .before .before .before .before .before) (c .before .first-bit .result) (c .field .result)
+stepped-at : (c : tie.After-field Inv-loop μ-loop)
+    → Added (c .before .before .before .before .before .before .before .before .before) (c .before .first-bit .result) (c .field .result)
 stepped-at c =
     let id = c .before .before .before .before .before .id in
     let power = c .before .before .before .before .power in
@@ -67,7 +69,8 @@ stepped-at c =
     (is-end-false _ (b .before .is-end .ensures) (b .if1 .left)) (id .ensures) (power .ensures) (get2 .ensures)
     (c .before .before .bits-of .ensures) (c .field .ensures) (c .before .first-bit .ensures)
 
-short-at : (c : tie.After-short-field Inv-loop μ-loop) → AddedShort (c .before .before .before .before .before .before .before .before .before .before) (c .before .before .first-bit .result) (c .short-field .result)
+short-at : (c : tie.After-short-field Inv-loop μ-loop)
+    → AddedShort (c .before .before .before .before .before .before .before .before .before .before) (c .before .before .first-bit .result) (c .short-field .result)
 short-at c =
     let id = c .before .before .before .before .before .before .id in
     let power = c .before .before .before .before .before .power in

@@ -52,7 +52,8 @@ cast-if2 c = omega arith
 
 -- src/table.rt:120:28
 add-t20 : tie.Need-add-t20 Inv-loop μ-loop
-add-t20 c = omega (arith, c .before .before .before .before .before .before .loop .inv .few, c .before .before .before .before .before .before .before .before .before .before .pre .0 .few)
+add-t20 c =
+    omega (arith, c .before .before .before .before .before .before .loop .inv .few, c .before .before .before .before .before .before .before .before .before .before .pre .0 .few)
 
 -- src/table.rt:119:17
 returns : tie.Need-returns Inv-loop μ-loop

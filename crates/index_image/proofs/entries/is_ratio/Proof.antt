@@ -47,7 +47,8 @@ small : (c : tie.Else1 Inv-loop μ-loop)
 small c =
     let loop = c .before .before .before .before .before .loop in
     let start = c .before .before .before .before .before .before .before .before .before in
-    let k = powered (loop .inv) (room start) (seen _ (loop .inv .ra) (c .before .before .before .before .get .ensures)) (seen _ (loop .inv .rb) (c .before .before .before .get2 .ensures))
+    let k = powered (loop .inv) (room start) (seen _ (loop .inv .ra) (c .before .before .before .before .get .ensures))
+    (seen _ (loop .inv .rb) (c .before .before .before .get2 .ensures))
     (c .before .upper .ensures) (c .before .before .get3 .ensures) (c .if1 .left) (first-canonical (omega arith) (start .pre .0))
     (first-canonical (omega arith) (start .pre .1 .0)) in
     (k .a-small, k .b-small)

@@ -113,11 +113,23 @@ add-get-4 c = search needs
 
 -- src/entries.rt:152:30
 add-get-5 : tie.Need-add-get-5
-add-get-5 c = omega (arith, c .before .before .before .before .before .before .before .entry-at .ensures, entry-here (c .before .before .before .before .before .before .before .before .before .before))
+add-get-5 c =
+    omega (
+      arith,
+      c .before .before .before .before .before .before .before .entry-at .ensures,
+      entry-here
+          (c .before .before .before .before .before .before .before .before .before .before),
+    )
 
 -- src/entries.rt:152:12
 get-requires-3 : tie.Need-get-requires-3
-get-requires-3 c κs = omega (arith, c .before .before .before .before .before .before .before .entry-at .ensures, entry-here (c .before .before .before .before .before .before .before .before .before .before))
+get-requires-3 c κs =
+    omega (
+      arith,
+      c .before .before .before .before .before .before .before .entry-at .ensures,
+      entry-here
+          (c .before .before .before .before .before .before .before .before .before .before),
+    )
 
 -- src/entries.rt:154:9
 returns-3 : tie.Need-returns-3

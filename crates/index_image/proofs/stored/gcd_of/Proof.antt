@@ -44,17 +44,22 @@ room : (a : tie.Start Inv-loop μ-loop) → 4 * (from a + a .args .c) ≤ length
 room a = omega (arith, place-room (a .args .image .now) (a .args .s) (a .pre .0) (a .args .lo + a .args .c) (a .pre .1 .0))
 
 -- the first entry, and its lm
-first-entry : (c : tie.After-get Inv-loop μ-loop) → EntryAt (words (c .before .before .before .before .before .args .image .now)) (c .before .before .before .before .before .args .s) (c .before .before .before .before .before .args .lo) 0 (c .get .result)
+first-entry : (c : tie.After-get Inv-loop μ-loop)
+    → EntryAt (words (c .before .before .before .before .before .args .image .now)) (c .before .before .before .before .before .args .s) (c .before .before .before .before .before .args .lo) 0 (c .get .result)
 first-entry c =
     let start = c .before .before .before .before .before in
     entry-at-place (words (start .args .image .now)) (start .args .s) (start .pre .0) (start .args .lo) 0 (c .before .permutation-at .result + start .args .lo) (c .get .result)
     (omega (arith, c .before .permutation-at .ensures)) (omega (arith, start .pre .1 .0, c .before .before .if1 .left)) (c .get .ensures)
 
-first-lm : (c : tie.After-monomial-in Inv-loop μ-loop) → words (c .monomial-in .result .now) ≡ lmIn (words (c .before .before .before .before .before .before .before .args .image .now)) (c .before .before .before .before .before .before .before .args .s) (c .before .before .get .result)
-first-lm c = lm-read _ (c .before .before .before .before .before .before .before .args .s) (c .before .before .get .result) (c .before .entry-at .result) _ (c .before .entry-at .ensures) (c .monomial-in .ensures .is)
+first-lm : (c : tie.After-monomial-in Inv-loop μ-loop)
+    → words (c .monomial-in .result .now) ≡ lmIn (words (c .before .before .before .before .before .before .before .args .image .now)) (c .before .before .before .before .before .before .before .args .s) (c .before .before .get .result)
+first-lm c =
+    lm-read _ (c .before .before .before .before .before .before .before .args .s) (c .before .before .get .result) (c .before .entry-at .result) _
+    (c .before .entry-at .ensures) (c .monomial-in .ensures .is)
 
 -- the next one, and its lm
-next-entry : (c : tie.After-get2 Inv-loop μ-loop) → EntryAt (words (c .before .before .before .before .before .before .before .before .before .before .before .before .before .before .args .image .now)) (c .before .before .before .before .before .before .before .before .before .before .before .before .before .before .args .s) (c .before .before .before .before .before .before .before .before .before .before .before .before .before .before .args .lo) (c .before .before .loop .i) (c .get2 .result)
+next-entry : (c : tie.After-get2 Inv-loop μ-loop)
+    → EntryAt (words (c .before .before .before .before .before .before .before .before .before .before .before .before .before .before .args .image .now)) (c .before .before .before .before .before .before .before .before .before .before .before .before .before .before .args .s) (c .before .before .before .before .before .before .before .before .before .before .before .before .before .before .args .lo) (c .before .before .loop .i) (c .get2 .result)
 next-entry c =
     let start = c .before .before .before .before .before .before .before .before .before .before .before .before .before .before in
     let permutation-at = c .before .before .before .before .before .before .before .before .before .before .permutation-at in
@@ -64,7 +69,9 @@ next-entry c =
 
 next-lm : (c : tie.After-monomial-from Inv-loop μ-loop)
     → first 1 (words (c .monomial-from .result .now)) ≡ lmIn (words (c .before .before .before .before .before .before .before .before .before .before .before .before .before .before .before .before .before .args .image .now)) (c .before .before .before .before .before .before .before .before .before .before .before .before .before .before .before .before .before .args .s) (c .before .before .before .get2 .result)
-next-lm c = lm-read _ (c .before .before .before .before .before .before .before .before .before .before .before .before .before .before .before .before .before .args .s) (c .before .before .before .get2 .result) (c .before .entry-at2 .result) _ (c .before .entry-at2 .ensures) (c .monomial-from .ensures .is)
+next-lm c =
+    lm-read _ (c .before .before .before .before .before .before .before .before .before .before .before .before .before .before .before .before .before .args .s)
+    (c .before .before .before .get2 .result) (c .before .entry-at2 .result) _ (c .before .entry-at2 .ensures) (c .monomial-from .ensures .is)
 
 -- end of helpers
 
@@ -104,7 +111,8 @@ cast-e c = omega arith
 
 -- src/stored.rt:138:39
 entry-at-requires : tie.Need-entry-at-requires Inv-loop μ-loop
-entry-at-requires c κs = (c .before .before .before .before .before .pre .0 .range, omega (arith, first-entry c .small, c .before .before .before .before .before .pre .0 .range .few))
+entry-at-requires c κs =
+    (c .before .before .before .before .before .pre .0 .range, omega (arith, first-entry c .small, c .before .before .before .before .before .pre .0 .range .few))
 
 -- src/stored.rt:138:9
 monomial-in-requires : tie.Need-monomial-in-requires Inv-loop μ-loop
