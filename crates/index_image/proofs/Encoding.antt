@@ -271,7 +271,8 @@ module _ (W : List ℕ) (st : State) (f : Fits st) (room : at.size (shapeOf st) 
   coarse-are =
       let el : length (getD (coarse st) 3 []) ≡ c * w = length-append tabled (zeros ((c - n) * w)) ∙ omega (arith, entries-long, free, entries-whole) in
       let pl : length (getD (coarse st) 4 []) ≡ c = length-append (inorder (st .tree)) (zeros (c - n)) ∙ omega (arith, f .all, free-places, f .few) in
-      let nl : length (getD (coarse st) 6 []) ≡ (2 * c - 1) * x = length-append treed (zeros ((2 * c - 1 - d) * x)) ∙ omega (arith, nodes-long, free-nodes, nodes-whole) in
+      let nl : length (getD (coarse st) 6 []) ≡ (2 * c - 1) * x =
+      length-append treed (zeros ((2 * c - 1 - d) * x)) ∙ omega (arith, nodes-long, free-nodes, nodes-whole) in
       record {
         entries-long = el;
         permutation-long = pl;

@@ -138,8 +138,10 @@ module _ (W : List ℕ) (s : Shape) (few : s .variables ≤ 64) (i : ℕ) where
   sign-iff ratioed l e g fits =
       let row = rowOf l (ratioOf e) in
       let sign = masked m xs (e .sign) (row ∷ []) in
-      let p1 = first W (at.indexAt s i) (at.signAt s i) (maskedWidth m + 2) (maskedWidth m + 1) (indexWord (e .index)) sign (omega arith) (omega arith) (omega arith) in
-      let p2 = slot-first W m xs (at.signAt s i) few (omega arith) (at.rowAt s i) (maskedWidth m + 1) 1 (e .sign) (row ∷ []) (omega arith) (omega arith) (g .sign-canonical) in
+      let p1 = first W (at.indexAt s i) (at.signAt s i) (maskedWidth m + 2) (maskedWidth m + 1) (indexWord (e .index)) sign (omega arith)
+      (omega arith) (omega arith) in
+      let p2 = slot-first W m xs (at.signAt s i) few (omega arith) (at.rowAt s i) (maskedWidth m + 1) 1 (e .sign) (row ∷ []) (omega arith)
+      (omega arith) (g .sign-canonical) in
       let p3 = first W (at.rowAt s i) (at.rowAt s i + 1) 1 0 row [] (omega arith) (omega arith) refl in (
         λ (q : part W (at.indexAt s i) (maskedWidth m + 2) ≡ indexWord (e .index) ∷ sign). λ z.
             let q1 = p1 .0 q in

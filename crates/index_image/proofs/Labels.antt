@@ -77,7 +77,8 @@ module _ (bs : List ℕ) (s : Shape) (R : at.InRange s) (room : 4 * at.size s �
     pub row-at : (j : ℕ) → j < length (l .rows) → images.RowIs (labelsIn W s) (s .variables) (labels.rowAt (s .variables) j) (map.row (l .rows) j)
     row-at j h = ap-row (m .vars) (images.row-is l (m .valid) (labelsIn W s) fits front-is j h)
       where
-        ap-row : {a b : ℕ} → a ≡ b → images.RowIs (labelsIn W s) a (labels.rowAt a j) (map.row (l .rows) j) → images.RowIs (labelsIn W s) b (labels.rowAt b j) (map.row (l .rows) j)
+        ap-row : {a b : ℕ} → a ≡ b → images.RowIs (labelsIn W s) a (labels.rowAt a j) (map.row (l .rows) j)
+            → images.RowIs (labelsIn W s) b (labels.rowAt b j) (map.row (l .rows) j)
         ap-row e r = rw e at r
 
     pub label-at : (j : ℕ) → j < length (l .rows) → getD W (at.labelAt s j) 0 ≡ map.label (l .rows) j

@@ -126,7 +126,8 @@ module _ {A B C : List ℕ} {i j n : ℕ} (s : Merging A B C i j n) (room : leng
                   let o : _≡_ {A = ℕ} 0 1 = cc in omega arith
             ]
 
-        pub again : {n′ : ℕ} → cond (eqb p 32768) true (eqb w (varWord 2 (upperIdent t) p)) ≡ true → n′ ≡ cond (eqb p 32768) n (n + 1) → Merging A B C (past i x t) (past j y t) n′
+        pub again : {n′ : ℕ} → cond (eqb p 32768) true (eqb w (varWord 2 (upperIdent t) p)) ≡ true → n′ ≡ cond (eqb p 32768) n (n + 1)
+            → Merging A B C (past i x t) (past j y t) n′
         again {n′} f en =
             elim (ℕ-discrete p 32768) [
               | yes z ↦ let e : n′ ≡ n = en ∙ rw (eq-eqb p 32768 z) in rw e (record {

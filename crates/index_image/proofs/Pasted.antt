@@ -52,14 +52,16 @@ masked-small m xs ws rest few can r =
     small-append (slot-small m ws (monomial-words m ws few can)) (small-cons (mask-small m xs (pow 1 ws)) (small-cons (vector-small m (pow 1 ws)) r))
 
 -- ---- an entry
-entry-small : (k : Kind) (m : ℕ) (xs : List ℕ) (l : map.State) (e : Entry) → m ≤ 64 → GoodEntry m e → (k ≡ ratioed → rowOf l (ratioOf e) < 4096) → Small (entryWords k m xs l e)
+entry-small : (k : Kind) (m : ℕ) (xs : List ℕ) (l : map.State) (e : Entry) → m ≤ 64 → GoodEntry m e → (k ≡ ratioed → rowOf l (ratioOf e) < 4096)
+    → Small (entryWords k m xs l e)
 unfolding entryWords signWords
 entry-small k m xs l e few g row = masked-small m xs (e .lm) (signWords k m xs l e) few (g .lm-canonical) (sign k row)
   where
     sign : (k : Kind) → (k ≡ ratioed → rowOf l (ratioOf e) < 4096) → Small (signWords k m xs l e)
     sign monomials row = small-nil
     sign ratioed row =
-        small-cons (omega (arith, g .index-small)) (masked-small m xs (e .sign) (rowOf l (ratioOf e) ∷ []) few (g .sign-canonical) (small-cons (omega (arith, row refl)) small-nil))
+        small-cons (omega (arith, g .index-small))
+        (masked-small m xs (e .sign) (rowOf l (ratioOf e) ∷ []) few (g .sign-canonical) (small-cons (omega (arith, row refl)) small-nil))
 
 -- ---- nodes, whose keys are places or at most a power
 module _ (s : Shape) (xs : List ℕ) (pw : ℕ → ℕ → ℕ) (lb : ℕ → ℕ) (R : at.InRange s) (P : Powers (s .variables) pw) where
@@ -73,7 +75,8 @@ module _ (s : Shape) (xs : List ℕ) (pw : ℕ → ℕ → ℕ) (lb : ℕ → �
             omega (arith, P .small (d - s .kind) (x .0))
       ]
 
-  node-small : (tag key skip : ℕ) (es : List ℕ) → tag < 2 ^ 32 → key < 2 ^ 32 → length es < 2 ^ 32 → skip < 2 ^ 32 → Small (nodeWords (s .variables) xs pw tag key skip es)
+  node-small : (tag key skip : ℕ) (es : List ℕ) → tag < 2 ^ 32 → key < 2 ^ 32 → length es < 2 ^ 32 → skip < 2 ^ 32
+      → Small (nodeWords (s .variables) xs pw tag key skip es)
   unfolding nodeWords
   node-small tag key skip es a b c d =
       small-cons a (small-cons b (small-cons c
@@ -140,7 +143,8 @@ module _ (st : State) (val : Valid st) where
       (small-append (small-table (length es) _
       (λ i h. entry-small (st .kind) (st .variables) (st .mapMaxima) (st .labels) (entryAt es i) (val .map-good .few) (val .canonical i h) (row-small i h)))
       (small-append (small-zeros _)
-      (small-append (small-each (inorder (st .tree)) (λ i h. omega (arith, once-below (inorder (st .tree)) (length es) (val .once) _ (get-in (inorder (st .tree)) i h))))
+      (small-append (small-each (inorder (st .tree))
+      (λ i h. omega (arith, once-below (inorder (st .tree)) (length es) (val .once) _ (get-in (inorder (st .tree)) i h))))
       (small-append (small-zeros _)
       (small-append (labels-small (st .kind) (st .labels) (val .labels-valid))
       (small-append (tree-small s (st .mapMaxima) (powerIn es) (λ e. labelOf (st .labels) (ratioOf (entryAt es e))) range (state-powers st val)

@@ -40,7 +40,8 @@ pub record EntryAt (W : List ℕ) (s : Shape) (lo i x : ℕ) : Type 0 where
   pub is : x ≡ getD W (at.permutationAt s + lo + i) 0
   pub small : x < s .entries
 
-pub entry-at-place : (W : List ℕ) (s : Shape) → Ready W s → (lo i p x : ℕ) → p ≡ at.permutationAt s + (lo + i) → lo + i < s .entries → x ≡ getD W p 0 → EntryAt W s lo i x
+pub entry-at-place : (W : List ℕ) (s : Shape) → Ready W s → (lo i p x : ℕ) → p ≡ at.permutationAt s + (lo + i) → lo + i < s .entries → x ≡ getD W p 0
+    → EntryAt W s lo i x
 entry-at-place W s R lo i p x ep h ex =
     let e : at.permutationAt s + (lo + i) ≡ at.permutationAt s + lo + i = omega arith in
     record { is = ex ∙ rw (ep, e); small = rw (ex, ep) (R .places (lo + i) h) }

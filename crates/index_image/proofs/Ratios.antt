@@ -31,7 +31,8 @@ pub record Lent (bs ws : List ℕ) : Type 0 where
   pub starts : Starts 1 4096 (words bs)
   pub is : first 1 (words bs) ≡ ws
 
-lent-slot : (bs : List ℕ) (m g x : ℕ) → x ≡ 4 * g → (front 1 m 0 (drop g (words bs)) ≡ 0 → ⊥) → Lent (rest bs x) (part (words bs) g (front 1 m 0 (drop g (words bs))))
+lent-slot : (bs : List ℕ) (m g x : ℕ) → x ≡ 4 * g → (front 1 m 0 (drop g (words bs)) ≡ 0 → ⊥)
+    → Lent (rest bs x) (part (words bs) g (front 1 m 0 (drop g (words bs))))
 lent-slot bs m g x e h =
     let st : Starts 1 m (drop g (words bs)) = record { some = h } in
     let w : words (rest bs x) ≡ drop g (words bs) = rest-words bs x g e in
@@ -56,7 +57,8 @@ row-value W s j r e =
     rw (getD-drop (at.labelsAt s) W a 0, drop-drop (a + 1) (at.labelsAt s) W, q, ← e)
 
 -- the signature monomial and lm of an entry are canonical
-pub parts-canonical : (W : List ℕ) (s : Shape) (i : ℕ) → s .variables ≤ 64 → RatioReady W s i → Canonical 1 (s .variables) (signIn W s i) × Canonical 1 (s .variables) (lmIn W s i)
+pub parts-canonical : (W : List ℕ) (s : Shape) (i : ℕ) → s .variables ≤ 64 → RatioReady W s i
+    → Canonical 1 (s .variables) (signIn W s i) × Canonical 1 (s .variables) (lmIn W s i)
 unfolding signIn lmIn slotIn
 parts-canonical W s i few n = (
   slot-canonical W (s .variables) (at.signAt s i) (omega arith) (n .sign),

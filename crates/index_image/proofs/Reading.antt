@@ -133,7 +133,8 @@ module _ (W : List ℕ) (s : Shape) (R : Ready W s) where
         }
 
     -- one more
-    pub fold-more : (acc : List ℕ) (n i : ℕ) → Folding W s q c acc n i → i < c → e ≡ getD W (q + i) 0 → (acc′ ws : List ℕ) (n′ : ℕ) → length acc′ ≡ 260 → ws ≡ lmIn W s e
+    pub fold-more : (acc : List ℕ) (n i : ℕ) → Folding W s q c acc n i → i < c → e ≡ getD W (q + i) 0 → (acc′ ws : List ℕ) (n′ : ℕ)
+        → length acc′ ≡ 260 → ws ≡ lmIn W s e
         → n′ ≡ length (result Gcd (part (words acc) 0 n) ws) → acc′ ≡ pasteW acc 0 (result Gcd (part (words acc) 0 n) ws) → Folding W s q c acc′ n′ (i + 1)
     fold-more acc n i f h ee acc′ ws n′ l′ ew en ea =
         let A = part (words acc) 0 n in
@@ -142,7 +143,8 @@ module _ (W : List ℕ) (s : Shape) (R : Ready W s) where
         let li : length (part W q i) ≡ i = length-part W q i (omega (arith, f .to)) in
         let pa : part (words acc′) 0 n′ ≡ result Gcd A ws = rw ea (pasted acc (result Gcd A ws) n′ (gcd-small A ws ca cb) en) in
         let ga : result Gcd A ws ≡ gcdOf (power W s) (part W q i ++ e ∷ []) =
-        rw (f .is, ew) (gcd-more (s .variables) (power W s) P (part W q i) e (lmIn W s e) (omega (arith, f .from)) (lm-canonical W s e some) (λ v. lm-powers W s v e)) in
+        rw (f .is, ew) (gcd-more (s .variables) (power W s) P (part W q i) e (lmIn W s e) (omega (arith, f .from)) (lm-canonical W s e some)
+        (λ v. lm-powers W s v e)) in
         let sn : part W q (i + 1) ≡ part W q i ++ (e ∷ []) = part-snoc W q i (omega arith) ∙ rw ee in
         record {
           from = omega arith;

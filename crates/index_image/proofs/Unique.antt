@@ -91,7 +91,8 @@ entry-eq : (x y : Entry) → x .number ≡ y .number → x .index ≡ y .index �
 entry-eq x y a b c d = λ i. record { number = a i; index = b i; sign = c i; lm = d i }
 
 -- index and signature monomial of an entry, by its kind
-signs-eq : (k : Kind) (x y : Entry) → OfKind k x → OfKind k y → (k ≡ ratioed → (x .index ≡ y .index) × (x .sign ≡ y .sign)) → (x .index ≡ y .index) × (x .sign ≡ y .sign)
+signs-eq : (k : Kind) (x y : Entry) → OfKind k x → OfKind k y → (k ≡ ratioed → (x .index ≡ y .index) × (x .sign ≡ y .sign))
+    → (x .index ≡ y .index) × (x .sign ≡ y .sign)
 signs-eq monomials x y a b h = (a .0 ∙ sym (b .0), a .1 ∙ sym (b .1))
 signs-eq ratioed x y a b h = h refl
 

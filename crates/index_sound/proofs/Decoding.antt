@@ -58,7 +58,8 @@ empty-valid s R = record {
   labelled = record { distinct = λ i j h. absurd (omega arith); rising = λ i j h. absurd (omega arith); small = λ i h. absurd (omega arith) };
 }
 
-labels-are : (bs : List ℕ) (s : Shape) → at.InRange s → 4 * at.size s ≤ length bs → (k : Kind) → s .kind ≡ code k → LabelsOk bs s → (l : map.State) × LabelsAre (words bs) s k l
+labels-are : (bs : List ℕ) (s : Shape) → at.InRange s → 4 * at.size s ≤ length bs → (k : Kind) → s .kind ≡ code k → LabelsOk bs s
+    → (l : map.State) × LabelsAre (words bs) s k l
 unfolding labelWords
 labels-are bs s R room monomials e ok =
     let z : at.labelsSize s ≡ 0 = rw e (zero-mul (labels.size (s .variables) (s .capacity))) in (
@@ -141,7 +142,8 @@ module _ (bs : List ℕ) (s : Shape) (R : at.InRange s) (room : 4 * at.size s �
   of-kind monomials i = (refl, refl)
   of-kind ratioed i = tt
 
-  label-is : (k : Kind) → s .kind ≡ code k → (l : map.State) → LabelsAre W s k l → k ≡ ratioed → (i : ℕ) → i < n → label W s i ≡ labelOf l (ratioOf (readEntry W s k i))
+  label-is : (k : Kind) → s .kind ≡ code k → (l : map.State) → LabelsAre W s k l → k ≡ ratioed → (i : ℕ) → i < n
+      → label W s i ≡ labelOf l (ratioOf (readEntry W s k i))
   label-is monomials e l L z i h = no-ratio z
   label-is ratioed e l L z i h =
       let r = ratio-row e l L i h in

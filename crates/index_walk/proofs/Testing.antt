@@ -56,7 +56,8 @@ module _ (W : List ℕ) (s : Shape) (H : List ℕ) (ll lh e : ℕ) (ws : List �
 -- ---- the gcd of two rows
 pub slots-gcd : (W : List ℕ) (m a b : ℕ) → m ≤ 64 → Slots W m a b → Canonical 1 m (result Gcd (monomialIn W m (gcdAt a)) (monomialIn W m (gcdAt b)))
 slots-gcd W m a b h s =
-    canonical-result m (monomialIn W m (gcdAt a)) (monomialIn W m (gcdAt b)) (in-canonical W m (gcdAt a) (s .one)) (in-canonical W m (gcdAt b) (s .two)) Gcd (omega arith)
+    canonical-result m (monomialIn W m (gcdAt a)) (monomialIn W m (gcdAt b)) (in-canonical W m (gcdAt a) (s .one))
+    (in-canonical W m (gcdAt b) (s .two)) Gcd (omega arith)
     (λ e. absurd (let z : _≡_ {A = ℕ} 0 1 = cc in omega arith))
 
 -- ---- the gcd and mask of a row

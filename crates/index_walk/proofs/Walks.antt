@@ -78,12 +78,19 @@ module _ {W : List ℕ} {s : Shape} (R : Ready W s) where
     unfolding Ordered
     apart t =
         let p = take-apart W s (R .range) (R .room) xs pw P k lo d key l r (rows-in hk) (places-in hlo) (t .stands) in
-        record { here = p .here; sides = t .ordered .0; one = record { stands = p .one; ordered = t .ordered .1 .0 }; two = record { stands = p .two; ordered = t .ordered .1 .1 } }
+        record {
+          here =
+              p .here;
+          sides = t .ordered .0;
+          one = record { stands = p .one; ordered = t .ordered .1 .0 };
+          two = record { stands = p .two; ordered = t .ordered .1 .1 };
+        }
 
     together : Apart → TreeAt W s k lo (branch d key l r)
     unfolding Ordered
     together a = record {
-      stands = put-together W s (R .range) (R .room) xs pw P k lo d key l r (rows-in hk) (places-in hlo) (record { here = a .here; one = a .one .stands; two = a .two .stands });
+      stands = put-together W s (R .range) (R .room) xs pw P k lo d key l r (rows-in hk) (places-in hlo)
+          (record { here = a .here; one = a .one .stands; two = a .two .stands });
       ordered = (a .sides, (a .one .ordered, a .two .ordered));
     }
 

@@ -75,7 +75,8 @@ module _ (t : ℕ) where
 
   -- the row lies within the image
   room : (c : walk-lts.After-node-at (claims t) (walk-at t) walk.Post)
-      → 4 * (c .node-at .result + at.nodeWidth (c .before .before .before .before .before .args .s .variables)) ≤ length (c .before .before .before .before .before .args .image .now)
+      → let start = c .before .before .before .before .before in
+      4 * (c .node-at .result + at.nodeWidth (start .args .s .variables)) ≤ length (start .args .image .now)
   room c =
       let start = c .before .before .before .before .before in
       let fits = node-room (start .args .image .now) (start .args .s) (start .pre .1 .0) (start .args .k) (omega (arith, c .before .if1 .left)) in
@@ -83,11 +84,17 @@ module _ (t : ℕ) where
 
   -- its number of entries, its tag and its key
   row : (c : walk-lts.After-get (claims t) (walk-at t) walk.Post)
-      → Row (c .before .before .before .before .before .before .pre .1 .0) (words (c .before .before .before .before .before .before .args .hi .now)) (c .before .before .before .before .before .before .args .ll) (c .before .before .before .before .before .before .args .lh) (c .before .before .before .before .before .before .args .k) (c .before .before .before .before .before .before .args .lo) (c .before .before .before .before .before .before .args .avail) (c .get .result)
-  row c = record { places = c .before .before .before .before .before .before .pre .1 .1 .1 .1; count = rw (c .before .node-at .ensures) at (c .get .ensures) }
+      → let start = c .before .before .before .before .before .before in
+      Row (start .pre .1 .0) (words (start .args .hi .now)) (start .args .ll) (start .args .lh) (start .args .k) (start .args .lo)
+      (start .args .avail) (c .get .result)
+  row c =
+      let start = c .before .before .before .before .before .before in
+      record { places = start .pre .1 .1 .1 .1; count = rw (c .before .node-at .ensures) at (c .get .ensures) }
 
   tagged : (c : walk-lts.After-get2 (claims t) (walk-at t) walk.Post)
-      → Tagged (c .before .before .before .before .before .before .before .before .pre .1 .0) (words (c .before .before .before .before .before .before .before .before .args .hi .now)) (c .before .before .before .before .before .before .before .before .args .ll) (c .before .before .before .before .before .before .before .before .args .lh) (c .before .before .before .before .before .before .before .before .args .k) (c .before .before .before .before .before .before .before .before .args .lo) (c .before .before .before .before .before .before .before .before .args .avail) (c .before .before .get .result) (c .get2 .result)
+      → let start = c .before .before .before .before .before .before .before .before in
+      Tagged (start .pre .1 .0) (words (start .args .hi .now)) (start .args .ll) (start .args .lh) (start .args .k) (start .args .lo)
+      (start .args .avail) (c .before .before .get .result) (c .get2 .result)
   tagged c = record {
     row = row (c .before .before);
     used = omega (arith, c .before .before .before .before .if1 .left);
@@ -96,91 +103,129 @@ module _ (t : ℕ) where
   }
 
   keyed : (c : walk-lts.Else5 (claims t) (walk-at t) walk.Post)
-      → KeyIn (words (c .before .before .before .before .before .before .before .before .before .before .before .args .image .now)) (c .before .before .before .before .before .before .before .before .before .before .before .args .s) (c .before .before .before .before .before .before .node-at .result)
+      → let start = c .before .before .before .before .before .before .before .before .before .before .before in
+      KeyIn (words (start .args .image .now)) (start .args .s) (c .before .before .before .before .before .before .node-at .result)
   keyed c = passed (c .before .key-ok .result) (c .before .key-ok .ensures) (c .if5 .left)
 
   -- the bounds of the less side, which are put back behind it
   bounds : (c : walk-lts.After-exchange (claims t) (walk-at t) walk.Post)
-      → Uppers (c .before .before .before .before .before .before .before .before .before .before .before .before .before .before .before .args .s .variables) (c .exchange .last .0)
+      → let key = c .before .before .before .before in
+      let start = key .before .before .before .before .before .before .before .before .before .before .before in
+      Uppers (start .args .s .variables) (c .exchange .last .0)
   bounds c =
-      let start = c .before .before .before .before .before .before .before .before .before .before .before .before .before .before .before in
+      let key = c .before .before .before .before in
+      let start = key .before .before .before .before .before .before .before .before .before .before .before in
       let sides = c .before .before .sides in
       uppers-put (start .args .s .variables) (start .args .hi .now) (start .pre .1 .1 .0) (sides .result .variable) (sides .result .power)
       (sides .ensures .known) (sides .ensures .small) (sides .ensures .some) (c .exchange .last .0) (c .exchange .ensures .1)
 
   kept : (c : walk-lts.After-slice-known4 (claims t) (walk-at t) walk.Post)
-      → c .before .before .put .last .0 ≡ c .before .before .before .before .before .before .before .before .before .before .before .before .before .before .before .before .before .before .before .before .before .before .before .before .before .args .hi .now
+      → let first = c .before .before .before .before .before .before in
+      let key = first .before .before .before .before .before .before .before .before in
+      let start = key .before .before .before .before .before .before .before .before .before .before .before in
+      c .before .before .put .last .0 ≡ start .args .hi .now
   kept c =
-      let start = c .before .before .before .before .before .before .before .before .before .before .before .before .before .before .before .before .before .before .before .before .before .before .before .before .before in
-      let sides = c .before .before .before .before .before .before .before .before .before .before .before .before .sides in
-      let exchange = c .before .before .before .before .before .before .before .before .before .before .exchange in
-      let walk = c .before .before .before .before .before .before .walk in
+      let first = c .before .before .before .before .before .before in
+      let key = first .before .before .before .before .before .before .before .before in
+      let start = key .before .before .before .before .before .before .before .before .before .before .before in
+      let sides = first .before .before .before .before .before .before .sides in
+      let exchange = first .before .before .before .before .exchange in
+      let walk = first .walk in
       let put = c .before .before .put in
       put-back (start .args .s .variables) (start .args .hi .now) (start .pre .1 .1 .0) (sides .result .variable) (sides .result .power)
       (sides .ensures .known) (sides .ensures .small)
-      (λ i. omega (arith, c .before .before .before .before .before .before .before .before .before .before .before .before .before .before .before .before .before .before .before .before .before .before .before .slice-known .given i))
-      (walk .last .1 .1 .0) (put .last .0)
+      (λ i. omega (arith, key .before .before .before .before .before .before .before .before .before .slice-known .given i)) (walk .last .1 .1 .0) (put .last .0)
       (exchange .result) (λ i. omega (arith, c .slice-known4 .given i)) (walk .ensures .1 ∙ exchange .ensures .1) (exchange .ensures .0) (put .ensures)
 
   -- the less side was walked
   less : (c : walk-lts.After-walk (claims t) (walk-at t) walk.Post)
-      → Less (c .before .before .before .before .before .before .before .before .before .before .before .before .before .before .before .before .before .before .before .pre .1 .0) (words (c .before .before .before .before .before .before .before .before .before .before .before .before .before .before .before .before .before .before .before .args .hi .now)) (c .before .before .before .before .before .before .before .before .before .before .before .before .before .before .before .before .before .before .before .args .ll) (c .before .before .before .before .before .before .before .before .before .before .before .before .before .before .before .before .before .before .before .args .lh) (c .before .before .before .before .before .before .before .before .before .before .before .before .before .before .before .before .before .before .before .args .k) (c .before .before .before .before .before .before .before .before .before .before .before .before .before .before .before .before .before .before .before .args .lo) (c .before .before .before .before .before .before .before .before .before .before .before .before .before .before .before .before .before .before .before .args .avail)
-      (c .before .before .before .before .before .before .before .before .before .before .before .before .before .get .result)
-      (c .before .before .before .before .before .before .before .before .before .before .before .get2 .result)
+      → let key = c .before .before .before .before .before .before .before .before in
+      let start = key .before .before .before .before .before .before .before .before .before .before .before in
+      Less (start .pre .1 .0) (words (start .args .hi .now)) (start .args .ll) (start .args .lh) (start .args .k) (start .args .lo) (start .args .avail)
+      (key .before .before .before .before .before .get .result) (key .before .before .before .get2 .result)
       (c .before .before .before .before .before .before .sides .result) (c .walk .result)
   less c =
-      let start = c .before .before .before .before .before .before .before .before .before .before .before .before .before .before .before .before .before .before .before in
-      let node-at = c .before .before .before .before .before .before .before .before .before .before .before .before .before .before .node-at in
+      let key = c .before .before .before .before .before .before .before .before in
+      let start = key .before .before .before .before .before .before .before .before .before .before .before in
+      let node-at = key .before .before .before .before .before .before .node-at in
       let sides = c .before .before .before .before .before .before .sides in
       let exchange = c .before .before .before .before .exchange in
       let put = words-put (start .args .s .variables) (start .args .hi .now) (start .pre .1 .1 .0) (sides .result .variable) (sides .result .power)
       (sides .ensures .known) (sides .ensures .small) (exchange .last .0) (exchange .ensures .1) in
       record {
-        tagged = tagged (c .before .before .before .before .before .before .before .before .before .before .before);
-        no-leaf = c .before .before .before .before .before .before .before .before .before .before .if3 .left;
-        key = rw (node-at .ensures) at (keyed (c .before .before .before .before .before .before .before .before));
+        tagged = tagged (key .before .before .before);
+        no-leaf = key .before .before .if3 .left;
+        key = rw (node-at .ensures) at (keyed key);
         cut = rw (node-at .ensures) at (sides .ensures);
         walked = rw put at (c .walk .ensures .0);
       }
 
   -- it has a tree, so its numbers are known
   one : (c : walk-lts.Else6 (claims t) (walk-at t) walk.Post)
-      → One (c .before .before .before .before .before .before .before .before .before .before .before .before .before .before .before .before .before .before .before .before .before .before .before .before .before .before .pre .1 .0) (less (c .before .before .before .before .before .before .before)) (omega (arith, c .if6 .left))
+      → let first = c .before .before .before .before .before .before .before in
+      let key = first .before .before .before .before .before .before .before .before in
+      let start = key .before .before .before .before .before .before .before .before .before .before .before in
+      One (start .pre .1 .0) (less first) (omega (arith, c .if6 .left))
   one c =
-      one-is (c .before .before .before .before .before .before .before .before .before .before .before .before .before .before .before .before .before .before .before .before .before .before .before .before .before .before .pre .1 .0)
-      (less (c .before .before .before .before .before .before .before)) (omega (arith, c .if6 .left))
+      let first = c .before .before .before .before .before .before .before in
+      let key = first .before .before .before .before .before .before .before .before in
+      let start = key .before .before .before .before .before .before .before .before .before .before .before in
+      one-is (start .pre .1 .0) (less first) (omega (arith, c .if6 .left))
 
   -- the count that is read again is the same
   count-same : (c : walk-lts.After-count-at (claims t) (walk-at t) walk.Post)
-      → c .count-at .result ≡ c .before .before .before .before .before .before .before .before .before .before .before .before .before .before .before .before .before .before .before .before .before .before .before .get .result
+      → let less-side = c .before .before .before in
+      let first = less-side .before .before .before .before .before .before .before in
+      let key = first .before .before .before .before .before .before .before .before in
+      c .count-at .result ≡ key .before .before .before .before .before .get .result
   count-same c =
-      c .count-at .ensures ∙ sym (row (c .before .before .before .before .before .before .before .before .before .before .before .before .before .before .before .before .before .before .before .before .before .before .before) .count)
+      let less-side = c .before .before .before in
+      let first = less-side .before .before .before .before .before .before .before in
+      let key = first .before .before .before .before .before .before .before .before in
+      c .count-at .ensures ∙ sym (row (key .before .before .before .before .before) .count)
 
   -- the other side was walked
   other : (c : walk-lts.After-walk2 (claims t) (walk-at t) walk.Post)
-      → Walked (words (c .before .before .before .before .before .before .before .before .before .before .before .before .before .before .before .before .before .before .before .before .before .before .before .before .before .before .before .before .before .before .before .args .image .now)) (c .before .before .before .before .before .before .before .before .before .before .before .before .before .before .before .before .before .before .before .before .before .before .before .before .before .before .before .before .before .before .before .args .s) (words (c .before .before .before .before .before .before .before .before .before .before .before .before .before .before .before .before .before .before .before .before .before .before .before .before .before .before .before .before .before .before .before .args .hi .now)) (c .before .before .before .before .before .before .before .before .before .before .before .before .before .before .before .before .before .before .sides .result .other) (c .before .before .before .before .before .before .before .before .before .before .before .before .before .before .before .before .before .before .before .before .before .before .before .before .before .before .before .before .before .before .before .args .lh)
-      (c .before .before .before .before .before .before .before .before .before .before .before .before .before .before .before .before .before .before .before .before .before .before .before .before .before .before .before .before .before .before .before .args .k + 1 + c .before .before .before .before .before .before .before .before .before .before .before .before .walk .result)
-      (c .before .before .before .before .before .before .before .before .before .before .before .before .before .before .before .before .before .before .before .before .before .before .before .before .before .before .before .before .before .before .before .args .lo + c .before .before .before .before .count-behind .result)
-      (c .before .before .before .before .before .before .before .before .before .before .before .before .before .before .before .before .before .before .before .before .before .before .before .before .before .get .result - c .before .before .before .before .count-behind .result)
-      (c .walk2 .result)
-  other c = rw (kept (c .before .before .before .before .before .before)) at (rw (count-same (c .before .before)) at (c .walk2 .ensures .0))
+      → let less-side = c .before .before .before .before .before in
+      let first = less-side .before .before .before .before .before .before .before in
+      let key = first .before .before .before .before .before .before .before .before in
+      let start = key .before .before .before .before .before .before .before .before .before .before .before in
+      Walked (words (start .args .image .now)) (start .args .s) (words (start .args .hi .now))
+      (first .before .before .before .before .before .before .sides .result .other) (start .args .lh)
+      (start .args .k + 1 + first .walk .result) (start .args .lo + c .before .before .before .before .count-behind .result)
+      (key .before .before .before .before .before .get .result - c .before .before .before .before .count-behind .result) (c .walk2 .result)
+  other c =
+      let less-side = c .before .before .before .before .before in
+      rw (kept (less-side .before)) at (rw (count-same (c .before .before)) at (c .walk2 .ensures .0))
 
   two : (c : walk-lts.Else8 (claims t) (walk-at t) walk.Post)
-      → Two (c .before .before .before .before .before .before .before .before .before .before .before .before .before .before .before .before .before .before .before .before .before .before .before .before .before .before .before .before .before .before .before .before .before .before .pre .1 .0) (less (c .before .before .before .before .before .before .before .before .before .before .before .before .before .before .before)) (omega (arith, c .before .before .before .before .before .before .before .before .if6 .left)) (c .before .before .before .before .before .before .before .count-behind .ensures) (other (c .before .before .before)) (omega (arith, c .if8 .left))
+      → let second = c .before .before .before in
+      let less-side = second .before .before .before .before .before in
+      let first = less-side .before .before .before .before .before .before .before in
+      let key = first .before .before .before .before .before .before .before .before in
+      let start = key .before .before .before .before .before .before .before .before .before .before .before in
+      Two (start .pre .1 .0) (less first) (omega (arith, less-side .if6 .left)) (second .before .before .before .before .count-behind .ensures)
+      (other (c .before .before .before)) (omega (arith, c .if8 .left))
   two c =
-      two-is (c .before .before .before .before .before .before .before .before .before .before .before .before .before .before .before .before .before .before .before .before .before .before .before .before .before .before .before .before .before .before .before .before .before .before .pre .1 .0)
-      (less (c .before .before .before .before .before .before .before .before .before .before .before .before .before .before .before))
-      (omega (arith, c .before .before .before .before .before .before .before .before .if6 .left))
-      (c .before .before .before .before .before .before .before .count-behind .ensures)
+      let second = c .before .before .before in
+      let less-side = second .before .before .before .before .before in
+      let first = less-side .before .before .before .before .before .before .before in
+      let key = first .before .before .before .before .before .before .before .before in
+      let start = key .before .before .before .before .before .before .before .before .before .before .before in
+      two-is (start .pre .1 .0) (less first) (omega (arith, less-side .if6 .left)) (second .before .before .before .before .count-behind .ensures)
       (other (c .before .before .before)) (omega (arith, c .if8 .left))
 
 -- src/lib.rt:425:9
 walk-returns : (t : ℕ) → walk-lts.Need-returns (claims t) (walk-at t) walk.Post
-walk-returns t c = (no-row (c .before .before .before .before .pre .1 .0) (c .if1 .taken), refl)
+walk-returns t c =
+    let start = c .before .before .before .before in
+    (no-row (start .pre .1 .0) (c .if1 .taken), refl)
 
 -- src/lib.rt:427:9
 walk-node-at-requires : (t : ℕ) → walk-lts.Need-node-at-requires (claims t) (walk-at t) walk.Post
-walk-node-at-requires t c κs = (c .before .before .before .before .pre .1 .0 .range, omega (arith, c .if1 .left, numbers t (c .before .before .before .before)))
+walk-node-at-requires t c κs =
+    let start = c .before .before .before .before in
+    (start .pre .1 .0 .range, omega (arith, c .if1 .left, numbers t start))
 
 -- src/lib.rt:428:31
 walk-add-get : (t : ℕ) → walk-lts.Need-add-get (claims t) (walk-at t) walk.Post
@@ -196,7 +241,9 @@ walk-cast-c t c = search needs
 
 -- src/lib.rt:430:9
 walk-returns-2 : (t : ℕ) → walk-lts.Need-returns-2 (claims t) (walk-at t) walk.Post
-walk-returns-2 t c = (too-many (c .before .before .before .before .before .before .before .pre .1 .0) (row t (c .before)) (c .if2 .taken), refl)
+walk-returns-2 t c =
+    let start = c .before .before .before .before .before .before .before in
+    (too-many (start .pre .1 .0) (row t (c .before)) (c .if2 .taken), refl)
 
 -- src/lib.rt:432:8
 walk-get-requires-2 : (t : ℕ) → walk-lts.Need-get-requires-2 (claims t) (walk-at t) walk.Post
@@ -205,8 +252,13 @@ walk-get-requires-2 t c κs = omega (arith, room t (c .before .before))
 -- src/lib.rt:433:12
 walk-leaf-ok-requires : (t : ℕ) → walk-lts.Need-leaf-ok-requires (claims t) (walk-at t) walk.Post
 walk-leaf-ok-requires t c κs =
-    let start = c .before .before .before .before .before .before .before .before .before .before in
-    (start .pre .1 .0, (start .pre .1 .1 .0, (room t (c .before .before .before .before .before), omega (arith, start .pre .1 .1 .1 .1, c .before .before .before .if2 .left))))
+    let start = c .before .before .before .before .before .before .before .before .before .before in (
+      start .pre .1 .0,
+      (
+        start .pre .1 .1 .0,
+        (room t (c .before .before .before .before .before), omega (arith, start .pre .1 .1 .1 .1, c .before .before .before .if2 .left)),
+      ),
+    )
 
 -- src/lib.rt:434:13
 walk-same-length : (t : ℕ) → walk-lts.Need-same-length (claims t) (walk-at t) walk.Post
@@ -215,12 +267,11 @@ walk-same-length t c = search needs
 -- src/lib.rt:434:13
 walk-returns-3 : (t : ℕ) → walk-lts.Need-returns-3 (claims t) (walk-at t) walk.Post
 walk-returns-3 t c =
-    let node-at = c .before .before .before .before .before .before .before .node-at in
-    let ok = rw (node-at .ensures) at (c .before .leaf-ok .ensures .0 (c .if4 .taken)) in (
-      a-leaf (c .before .before .before .before .before .before .before .before .before .before .before .before .pre .1 .0)
-          (tagged t (c .before .before .before .before)) (c .before .before .before .if3 .taken) ok,
-      refl,
-    )
+    let leaf = c .before in
+    let start = leaf .before .before .before .before .before .before .before .before .before .before .before in
+    let node-at = leaf .before .before .before .before .before .before .node-at in
+    let ok = rw (node-at .ensures) at (c .before .leaf-ok .ensures .0 (c .if4 .taken)) in
+    (a-leaf (start .pre .1 .0) (tagged t (c .before .before .before .before)) (c .before .before .before .if3 .taken) ok, refl)
 
 -- src/lib.rt:436:9
 walk-same-length-2 : (t : ℕ) → walk-lts.Need-same-length-2 (claims t) (walk-at t) walk.Post
@@ -229,9 +280,10 @@ walk-same-length-2 t c = search needs
 -- src/lib.rt:436:9
 walk-returns-4 : (t : ℕ) → walk-lts.Need-returns-4 (claims t) (walk-at t) walk.Post
 walk-returns-4 t c =
-    let node-at = c .before .before .before .before .before .before .before .node-at in (
-      no-leaf (c .before .before .before .before .before .before .before .before .before .before .before .before .pre .1 .0)
-          (tagged t (c .before .before .before .before)) (c .before .before .before .if3 .taken)
+    let leaf = c .before in
+    let start = leaf .before .before .before .before .before .before .before .before .before .before .before in
+    let node-at = leaf .before .before .before .before .before .before .node-at in (
+      no-leaf (start .pre .1 .0) (tagged t (c .before .before .before .before)) (c .before .before .before .if3 .taken)
           (λ o. never (sym (c .if4 .left) ∙ c .before .leaf-ok .ensures .1 (rw (node-at .ensures) o))),
       refl,
     )
@@ -239,15 +291,16 @@ walk-returns-4 t c =
 -- src/lib.rt:438:9
 walk-key-ok-requires : (t : ℕ) → walk-lts.Need-key-ok-requires (claims t) (walk-at t) walk.Post
 walk-key-ok-requires t c κs =
-    (c .before .before .before .before .before .before .before .before .before .pre .1 .0 .range, omega (arith, room t (c .before .before .before .before)))
+    let start = c .before .before .before .before .before .before .before .before .before in
+    (start .pre .1 .0 .range, omega (arith, room t (c .before .before .before .before)))
 
 -- src/lib.rt:439:9
 walk-returns-5 : (t : ℕ) → walk-lts.Need-returns-5 (claims t) (walk-at t) walk.Post
 walk-returns-5 t c =
+    let start = c .before .before .before .before .before .before .before .before .before .before .before in
     let node-at = c .before .before .before .before .before .before .node-at in
     let key-ok = c .before .key-ok in (
-      no-key (c .before .before .before .before .before .before .before .before .before .before .before .pre .1 .0)
-          (tagged t (c .before .before .before)) (c .before .before .if3 .left)
+      no-key (start .pre .1 .0) (tagged t (c .before .before .before)) (c .before .before .if3 .left)
           (λ o. failed (key-ok .result) (key-ok .ensures) (c .if5 .taken) (rw (node-at .ensures) o)),
       refl,
     )
@@ -255,41 +308,45 @@ walk-returns-5 t c =
 -- src/lib.rt:441:9
 walk-sides-requires : (t : ℕ) → walk-lts.Need-sides-requires (claims t) (walk-at t) walk.Post
 walk-sides-requires t c κs =
-    let start = c .before .before .before .before .before .before .before .before .before .before .before .before in
-    (start .pre .1 .0, (start .pre .1 .1 .0, (omega (arith, room t (c .before .before .before .before .before .before .before)), keyed t (c .before))))
+    let key = c .before in
+    let start = key .before .before .before .before .before .before .before .before .before .before .before in
+    (start .pre .1 .0, (start .pre .1 .1 .0, (omega (arith, room t (key .before .before .before .before .before .before)), keyed t (c .before))))
 
 -- src/lib.rt:442:9
 walk-exchange-requires : (t : ℕ) → walk-lts.Need-exchange-requires (claims t) (walk-at t) walk.Post
 walk-exchange-requires t c κs =
-    let start = c .before .before .before .before .before .before .before .before .before .before .before .before .before .before in
+    let key = c .before .before .before in
+    let start = key .before .before .before .before .before .before .before .before .before .before .before in
     omega (arith, c .before .sides .ensures .known, start .pre .1 .1 .0 .one-each)
 
 -- src/lib.rt:443:44
 walk-add-walk : (t : ℕ) → walk-lts.Need-add-walk (claims t) (walk-at t) walk.Post
 walk-add-walk t c =
-    let start = c .before .before .before .before .before .before .before .before .before .before .before .before .before .before .before .before .before .before in
-    omega (arith, c .before .before .before .before .before .before .before .before .before .before .before .before .before .before .if1 .left, numbers t start)
+    let key = c .before .before .before .before .before .before .before in
+    let start = key .before .before .before .before .before .before .before .before .before .before .before in
+    omega (arith, key .before .before .before .before .before .before .before .if1 .left, numbers t start)
 
 -- src/lib.rt:443:55
 walk-sub-walk : (t : ℕ) → walk-lts.Need-sub-walk (claims t) (walk-at t) walk.Post
 walk-sub-walk t c =
-    let get = c .before .before .before .before .before .before .before .before .before .before .before .before .get in
-    omega (arith, keyed t (c .before .before .before .before .before .before .before) .two, get .ensures)
+    let key = c .before .before .before .before .before .before .before in
+    let get = key .before .before .before .before .before .get in
+    omega (arith, keyed t key .two, get .ensures)
 
 -- src/lib.rt:443:9
 walk-walk-requires : (t : ℕ) → walk-lts.Need-walk-requires (claims t) (walk-at t) walk.Post
 walk-walk-requires t c κs =
-    let start = c .before .before .before .before .before .before .before .before .before .before .before .before .before .before .before .before .before .before in
-    let get = c .before .before .before .before .before .before .before .before .before .before .before .before .get in
-    let if2 = c .before .before .before .before .before .before .before .before .before .before .before .if2 in (
-      omega (arith, start .pre .0, if2 .left, keyed t (c .before .before .before .before .before .before .before) .two, get .ensures),
+    let key = c .before .before .before .before .before .before .before in
+    let start = key .before .before .before .before .before .before .before .before .before .before .before in
+    let get = key .before .before .before .before .before .get in
+    let if2 = key .before .before .before .before .if2 in (
+      omega (arith, start .pre .0, if2 .left, keyed t key .two, get .ensures),
       (
         start .pre .1 .0,
         (
           bounds t (c .before .before .before),
           (
-            omega
-                (arith, c .before .before .before .before .before .before .before .before .before .before .before .before .before .before .if1 .left),
+            omega (arith, key .before .before .before .before .before .before .before .if1 .left),
             omega
                 (arith, start .pre .1 .1 .1 .1, if2 .left),
           ),
@@ -300,9 +357,10 @@ walk-walk-requires t c κs =
 -- src/lib.rt:444:5
 walk-put-requires : (t : ℕ) → walk-lts.Need-put-requires (claims t) (walk-at t) walk.Post
 walk-put-requires t c κs =
+    let first = c .before .before .before in
     let walk = c .before .before .before .walk in
-    let sides = c .before .before .before .before .before .before .before .before .before .sides in
-    omega (arith, sides .ensures .known, bounds t (c .before .before .before .before .before .before .before) .one-each, ap length (walk .ensures .1))
+    let sides = first .before .before .before .before .before .before .sides in
+    omega (arith, sides .ensures .known, bounds t (first .before .before .before .before) .one-each, ap length (walk .ensures .1))
 
 -- src/lib.rt:446:9
 walk-same-length-3 : (t : ℕ) → walk-lts.Need-same-length-3 (claims t) (walk-at t) walk.Post
@@ -310,17 +368,19 @@ walk-same-length-3 t c = ap length (kept t (c .before))
 
 -- src/lib.rt:446:9
 walk-returns-6 : (t : ℕ) → walk-lts.Need-returns-6 (claims t) (walk-at t) walk.Post
-walk-returns-6 t c = (
-  no-first (c .before .before .before .before .before .before .before .before .before .before .before .before .before .before .before .before .before .before .before .before .before .before .before .before .before .before .pre .1 .0)
-      (less t (c .before .before .before .before .before .before .before)) (c .if6 .taken),
-  kept t (c .before),
-)
+walk-returns-6 t c =
+    let first = c .before .before .before .before .before .before .before in
+    let key = first .before .before .before .before .before .before .before .before in
+    let start = key .before .before .before .before .before .before .before .before .before .before .before in
+    (no-first (start .pre .1 .0) (less t first) (c .if6 .taken), kept t (c .before))
 
 -- src/lib.rt:448:9
 walk-count-behind-requires : (t : ℕ) → walk-lts.Need-count-behind-requires (claims t) (walk-at t) walk.Post
 walk-count-behind-requires t c κs =
-    let start = c .before .before .before .before .before .before .before .before .before .before .before .before .before .before .before .before .before .before .before .before .before .before .before .before .before .before in
-    (start .pre .1 .0, (omega (arith, one t c .inside, c .if6 .left), c .before .before .before .before .before .before .before .before .before .before .before .before .before .before .before .before .before .before .before .before .before .node-at .ensures))
+    let first = c .before .before .before .before .before .before .before in
+    let key = first .before .before .before .before .before .before .before .before in
+    let start = key .before .before .before .before .before .before .before .before .before .before .before in
+    (start .pre .1 .0, (omega (arith, one t c .inside, c .if6 .left), key .before .before .before .before .before .before .node-at .ensures))
 
 -- src/lib.rt:450:9
 walk-same-length-4 : (t : ℕ) → walk-lts.Need-same-length-4 (claims t) (walk-at t) walk.Post
@@ -329,34 +389,49 @@ walk-same-length-4 t c = ap length (kept t (c .before .before .before))
 -- src/lib.rt:450:9
 walk-returns-7 : (t : ℕ) → walk-lts.Need-returns-7 (claims t) (walk-at t) walk.Post
 walk-returns-7 t c =
+    let less-side = c .before .before in
+    let first = less-side .before .before .before .before .before .before .before in
+    let key = first .before .before .before .before .before .before .before .before in
+    let start = key .before .before .before .before .before .before .before .before .before .before .before in
     let some = c .before .before .if6 .left in
-    let less-entries = no-less (c .before .before .before .before .before .before .before .before .before .before .before .before .before .before .before .before .before .before .before .before .before .before .before .before .before .before .before .before .pre .1 .0)
-    (less t (c .before .before .before .before .before .before .before .before .before)) (omega (arith, some)) (c .before .count-behind .ensures) (c .if7 .taken) in
+    let less-entries = no-less (start .pre .1 .0) (less t first) (omega (arith, some)) (c .before .count-behind .ensures) (c .if7 .taken) in
     (less-entries, kept t (c .before .before .before))
 
 -- src/lib.rt:453:9
 walk-count-at-requires : (t : ℕ) → walk-lts.Need-count-at-requires (claims t) (walk-at t) walk.Post
 walk-count-at-requires t c κs =
-    let start = c .before .before .before .before .before .before .before .before .before .before .before .before .before .before .before .before .before .before .before .before .before .before .before .before .before .before .before .before in
-    (start .pre .1 .0, omega (arith, c .before .before .before .before .before .before .before .before .before .before .before .before .before .before .before .before .before .before .before .before .before .before .before .before .if1 .left))
+    let less-side = c .before .before in
+    let first = less-side .before .before .before .before .before .before .before in
+    let key = first .before .before .before .before .before .before .before .before in
+    let start = key .before .before .before .before .before .before .before .before .before .before .before in
+    (start .pre .1 .0, omega (arith, key .before .before .before .before .before .before .before .if1 .left))
 
 -- src/lib.rt:454:45
 walk-add-walk-2 : (t : ℕ) → walk-lts.Need-add-walk-2 (claims t) (walk-at t) walk.Post
 walk-add-walk-2 t c =
-    let start = c .before .before .before .before .before .before .before .before .before .before .before .before .before .before .before .before .before .before .before .before .before .before .before .before .before .before .before .before .before .before in
-    omega (arith, c .before .before .before .before .before .before .before .before .before .before .before .before .before .before .before .before .before .before .before .before .before .before .before .before .before .before .if1 .left, numbers t start)
+    let less-side = c .before .before .before .before in
+    let first = less-side .before .before .before .before .before .before .before in
+    let key = first .before .before .before .before .before .before .before .before in
+    let start = key .before .before .before .before .before .before .before .before .before .before .before in
+    omega (arith, key .before .before .before .before .before .before .before .if1 .left, numbers t start)
 
 -- src/lib.rt:454:45
 walk-add-walk-3 : (t : ℕ) → walk-lts.Need-add-walk-3 (claims t) (walk-at t) walk.Post
 walk-add-walk-3 t c =
-    let start = c .before .before .before .before .before .before .before .before .before .before .before .before .before .before .before .before .before .before .before .before .before .before .before .before .before .before .before .before .before .before in
+    let less-side = c .before .before .before .before in
+    let first = less-side .before .before .before .before .before .before .before in
+    let key = first .before .before .before .before .before .before .before .before in
+    let start = key .before .before .before .before .before .before .before .before .before .before .before in
     omega (arith, one t (c .before .before .before .before) .inside, numbers t start)
 
 -- src/lib.rt:454:56
 walk-add-walk-4 : (t : ℕ) → walk-lts.Need-add-walk-4 (claims t) (walk-at t) walk.Post
 walk-add-walk-4 t c =
-    let start = c .before .before .before .before .before .before .before .before .before .before .before .before .before .before .before .before .before .before .before .before .before .before .before .before .before .before .before .before .before .before in
-    omega (arith, one t (c .before .before .before .before) .few, c .before .before .before .count-behind .ensures, start .pre .1 .1 .1 .1, c .before .before .before .before .before .before .before .before .before .before .before .before .before .before .before .before .before .before .before .before .before .before .before .if2 .left, numbers t start)
+    let less-side = c .before .before .before .before in
+    let first = less-side .before .before .before .before .before .before .before in
+    let key = first .before .before .before .before .before .before .before .before in
+    let start = key .before .before .before .before .before .before .before .before .before .before .before in
+    omega (arith, one t (c .before .before .before .before) .few, c .before .before .before .count-behind .ensures, start .pre .1 .1 .1 .1, key .before .before .before .before .if2 .left, numbers t start)
 
 -- src/lib.rt:454:65
 walk-sub-walk-2 : (t : ℕ) → walk-lts.Need-sub-walk-2 (claims t) (walk-at t) walk.Post
@@ -365,28 +440,22 @@ walk-sub-walk-2 t c = omega (arith, count-same t (c .before), one t (c .before .
 -- src/lib.rt:454:9
 walk-walk-requires-2 : (t : ℕ) → walk-lts.Need-walk-requires-2 (claims t) (walk-at t) walk.Post
 walk-walk-requires-2 t c κs =
-    let start = c .before .before .before .before .before .before .before .before .before .before .before .before .before .before .before .before .before .before .before .before .before .before .before .before .before .before .before .before .before .before in
-    let less-side = one t (c .before .before .before .before) in
-    let if2 = c .before .before .before .before .before .before .before .before .before .before .before .before .before .before .before .before .before .before .before .before .before .before .before .if2 in
+    let less-side = c .before .before .before .before in
+    let first = less-side .before .before .before .before .before .before .before in
+    let key = first .before .before .before .before .before .before .before .before in
+    let start = key .before .before .before .before .before .before .before .before .before .before .before in
+    let numbers-of = one t (c .before .before .before .before) in
+    let if2 = key .before .before .before .before .if2 in
     let count-behind = c .before .before .before .count-behind in
     let if7 = c .before .before .if7 in (
-      omega (
-        arith,
-        count-same t (c .before),
-        start .pre .0,
-        if2 .left,
-        keyed t
-            (c .before .before .before .before .before .before .before .before .before .before .before .before .before .before .before .before .before .before .before) .two,
-        c .before .before .before .before .before .before .before .before .before .before .before .before .before .before .before .before .before .before .before .before .before .before .before .before .get .ensures,
-        if7 .left,
-      ),
+      omega (arith, count-same t (c .before), start .pre .0, if2 .left, keyed t key .two, key .before .before .before .before .before .get .ensures, if7 .left),
       (
         start .pre .1 .0,
         (
-          rw (kept t (c .before .before .before .before .before)) (start .pre .1 .1 .0),
+          rw (kept t (less-side .before)) (start .pre .1 .1 .0),
           (
-            less-side .inside,
-            omega (arith, count-same t (c .before), less-side .few, count-behind .ensures, start .pre .1 .1 .1 .1, if2 .left),
+            numbers-of .inside,
+            omega (arith, count-same t (c .before), numbers-of .few, count-behind .ensures, start .pre .1 .1 .1 .1, if2 .left),
           ),
         ),
       ),
@@ -394,76 +463,102 @@ walk-walk-requires-2 t c κs =
 
 -- src/lib.rt:456:9
 walk-same-length-5 : (t : ℕ) → walk-lts.Need-same-length-5 (claims t) (walk-at t) walk.Post
-walk-same-length-5 t c = ap length (c .before .before .before .walk2 .ensures .1 ∙ kept t (c .before .before .before .before .before .before .before .before .before))
+walk-same-length-5 t c =
+    let less-side = c .before .before .before .before .before .before .before .before in
+    ap length (c .before .before .before .walk2 .ensures .1 ∙ kept t (less-side .before))
 
 -- src/lib.rt:456:9
 walk-returns-8 : (t : ℕ) → walk-lts.Need-returns-8 (claims t) (walk-at t) walk.Post
 walk-returns-8 t c =
-    let less-side = less t (c .before .before .before .before .before .before .before .before .before .before .before .before .before .before .before) in
-    let some = c .before .before .before .before .before .before .before .before .if6 .left in
-    let count-behind = c .before .before .before .before .before .before .before .count-behind in (
-      no-second (c .before .before .before .before .before .before .before .before .before .before .before .before .before .before .before .before .before .before .before .before .before .before .before .before .before .before .before .before .before .before .before .before .before .before .pre .1 .0) less-side
-          (omega (arith, some)) (count-behind .ensures) (other t (c .before .before .before)) (c .if8 .taken),
-      c .before .before .before .walk2 .ensures .1 ∙ kept t (c .before .before .before .before .before .before .before .before .before),
+    let second = c .before .before .before in
+    let less-side = second .before .before .before .before .before in
+    let first = less-side .before .before .before .before .before .before .before in
+    let key = first .before .before .before .before .before .before .before .before in
+    let start = key .before .before .before .before .before .before .before .before .before .before .before in
+    let found = less t first in
+    let some = less-side .if6 .left in
+    let count-behind = second .before .before .before .before .count-behind in (
+      no-second (start .pre .1 .0) found (omega (arith, some)) (count-behind .ensures) (other t (c .before .before .before)) (c .if8 .taken),
+      c .before .before .before .walk2 .ensures .1 ∙ kept t (less-side .before),
     )
 
 -- src/lib.rt:458:8
 walk-over-ok-requires : (t : ℕ) → walk-lts.Need-over-ok-requires (claims t) (walk-at t) walk.Post
 walk-over-ok-requires t c κs =
-    let node-at = c .before .before .before .before .before .before .before .before .before .before .before .before .before .before .before .before .before .before .before .before .before .before .before .before .before .before .before .before .before .node-at in
-    let both = two t c in (
-      c .before .before .before .before .before .before .before .before .before .before .before .before .before .before .before .before .before .before .before .before .before .before .before .before .before .before .before .before .before .before .before .before .before .before .pre .1 .0,
-      (
-        omega (arith, both .inside, c .if8 .left),
-        (rw (node-at .ensures) at (keyed t (c .before .before .before .before .before .before .before .before .before .before .before .before .before .before .before .before .before .before .before .before .before .before .before)), both .slots),
-      ),
-    )
+    let second = c .before .before .before in
+    let less-side = second .before .before .before .before .before in
+    let first = less-side .before .before .before .before .before .before .before in
+    let key = first .before .before .before .before .before .before .before .before in
+    let start = key .before .before .before .before .before .before .before .before .before .before .before in
+    let node-at = key .before .before .before .before .before .before .node-at in
+    let both = two t c in
+    (start .pre .1 .0, (omega (arith, both .inside, c .if8 .left), (rw (node-at .ensures) at (keyed t key), both .slots)))
 
 -- src/lib.rt:459:16
 walk-add-result : (t : ℕ) → walk-lts.Need-add-result (claims t) (walk-at t) walk.Post
 walk-add-result t c =
-    let start = c .before .before .before .before .before .before .before .before .before .before .before .before .before .before .before .before .before .before .before .before .before .before .before .before .before .before .before .before .before .before .before .before .before .before .before .before in
+    let second = c .before .before .before .before .before in
+    let less-side = second .before .before .before .before .before in
+    let first = less-side .before .before .before .before .before .before .before in
+    let key = first .before .before .before .before .before .before .before .before in
+    let start = key .before .before .before .before .before .before .before .before .before .before .before in
     omega (arith, two t (c .before .before) .inside, numbers t start)
 
 -- src/lib.rt:459:16
 walk-add-result-2 : (t : ℕ) → walk-lts.Need-add-result-2 (claims t) (walk-at t) walk.Post
 walk-add-result-2 t c =
-    let start = c .before .before .before .before .before .before .before .before .before .before .before .before .before .before .before .before .before .before .before .before .before .before .before .before .before .before .before .before .before .before .before .before .before .before .before .before in
+    let second = c .before .before .before .before .before in
+    let less-side = second .before .before .before .before .before in
+    let first = less-side .before .before .before .before .before .before .before in
+    let key = first .before .before .before .before .before .before .before .before in
+    let start = key .before .before .before .before .before .before .before .before .before .before .before in
     omega (arith, two t (c .before .before) .inside, numbers t start)
 
 -- src/lib.rt:459:9
 walk-same-length-6 : (t : ℕ) → walk-lts.Need-same-length-6 (claims t) (walk-at t) walk.Post
 walk-same-length-6 t c =
-    ap length (c .before .before .before .before .before .walk2 .ensures .1 ∙ kept t (c .before .before .before .before .before .before .before .before .before .before .before))
+    let second = c .before .before .before .before .before in
+    let less-side = second .before .before .before .before .before in
+    ap length (second .walk2 .ensures .1 ∙ kept t (less-side .before))
 
 -- src/lib.rt:459:9
 walk-returns-9 : (t : ℕ) → walk-lts.Need-returns-9 (claims t) (walk-at t) walk.Post
 walk-returns-9 t c =
-    let less-side = less t (c .before .before .before .before .before .before .before .before .before .before .before .before .before .before .before .before .before) in
-    let some = c .before .before .before .before .before .before .before .before .before .before .if6 .left in
-    let count-behind = c .before .before .before .before .before .before .before .before .before .count-behind in
+    let second = c .before .before .before .before .before in
+    let less-side = second .before .before .before .before .before in
+    let first = less-side .before .before .before .before .before .before .before in
+    let key = first .before .before .before .before .before .before .before .before in
+    let start = key .before .before .before .before .before .before .before .before .before .before .before in
+    let found = less t first in
+    let some = less-side .if6 .left in
+    let count-behind = second .before .before .before .before .count-behind in
     let some-other = c .before .before .if8 .left in (
-      a-branch (c .before .before .before .before .before .before .before .before .before .before .before .before .before .before .before .before .before .before .before .before .before .before .before .before .before .before .before .before .before .before .before .before .before .before .before .before .pre .1 .0) less-side
-          (omega (arith, some)) (count-behind .ensures) (other t (c .before .before .before .before .before)) (omega (arith, some-other))
+      a-branch (start .pre .1 .0) found (omega (arith, some)) (count-behind .ensures) (other t second) (omega (arith, some-other))
           (c .before .over-ok .ensures .0 (c .if9 .taken)),
-      c .before .before .before .before .before .walk2 .ensures .1 ∙ kept t (c .before .before .before .before .before .before .before .before .before .before .before),
+      second .walk2 .ensures .1 ∙ kept t (less-side .before),
     )
 
 -- src/lib.rt:408:1
 walk-same-length-7 : (t : ℕ) → walk-lts.Need-same-length-7 (claims t) (walk-at t) walk.Post
 walk-same-length-7 t c =
-    ap length (c .before .before .before .before .before .walk2 .ensures .1 ∙ kept t (c .before .before .before .before .before .before .before .before .before .before .before))
+    let second = c .before .before .before .before .before in
+    let less-side = second .before .before .before .before .before in
+    ap length (second .walk2 .ensures .1 ∙ kept t (less-side .before))
 
 -- src/lib.rt:408:1
 walk-returns-10 : (t : ℕ) → walk-lts.Need-returns-10 (claims t) (walk-at t) walk.Post
 walk-returns-10 t c =
-    let less-side = less t (c .before .before .before .before .before .before .before .before .before .before .before .before .before .before .before .before .before) in
-    let some = c .before .before .before .before .before .before .before .before .before .before .if6 .left in
-    let count-behind = c .before .before .before .before .before .before .before .before .before .count-behind in (
-      no-branch (c .before .before .before .before .before .before .before .before .before .before .before .before .before .before .before .before .before .before .before .before .before .before .before .before .before .before .before .before .before .before .before .before .before .before .before .before .pre .1 .0) less-side
-          (omega (arith, some)) (count-behind .ensures) (other t (c .before .before .before .before .before))
+    let second = c .before .before .before .before .before in
+    let less-side = second .before .before .before .before .before in
+    let first = less-side .before .before .before .before .before .before .before in
+    let key = first .before .before .before .before .before .before .before .before in
+    let start = key .before .before .before .before .before .before .before .before .before .before .before in
+    let found = less t first in
+    let some = less-side .if6 .left in
+    let count-behind = second .before .before .before .before .count-behind in (
+      no-branch (start .pre .1 .0) found (omega (arith, some)) (count-behind .ensures) (other t second)
           (λ o. never (sym (c .if9 .left) ∙ c .before .over-ok .ensures .1 o)),
-      c .before .before .before .before .before .walk2 .ensures .1 ∙ kept t (c .before .before .before .before .before .before .before .before .before .before .before),
+      second .walk2 .ensures .1 ∙ kept t (less-side .before),
     )
 
 pub +walk-spec : {M : Type 1} → statement M

@@ -34,17 +34,20 @@ two a = monomialIn (words (a .args .image .now)) (a .args .s .variables) (shape.
 
 one-good : (a : tie.Start) → Canonical 1 64 (one a)
 one-good a =
-    canonical-more (omega arith) (a .pre .0 .range .vars-to) (in-canonical (words (a .args .image .now)) (a .args .s .variables) (shape.gcdAt (a .args .a)) (a .pre .1 .1 .0 .one))
+    canonical-more (omega arith) (a .pre .0 .range .vars-to)
+    (in-canonical (words (a .args .image .now)) (a .args .s .variables) (shape.gcdAt (a .args .a)) (a .pre .1 .1 .0 .one))
 
 two-good : (a : tie.Start) → Canonical 1 64 (two a)
 two-good a =
-    canonical-more (omega arith) (a .pre .0 .range .vars-to) (in-canonical (words (a .args .image .now)) (a .args .s .variables) (shape.gcdAt (a .args .b)) (a .pre .1 .1 .0 .two))
+    canonical-more (omega arith) (a .pre .0 .range .vars-to)
+    (in-canonical (words (a .args .image .now)) (a .args .s .variables) (shape.gcdAt (a .args .b)) (a .pre .1 .1 .0 .two))
 
 fits : (a : tie.Start) → length (result Gcd (one a) (two a)) ≤ 65
 fits a = gcd-fits (one a) (two a) (one-good a) (two-good a)
 
 -- what the call made of them
-made-length : (c : tie.After-gcd) → c .gcd .result ≡ length (result Gcd (one (c .before .before .before .before .before)) (two (c .before .before .before .before .before)))
+made-length : (c : tie.After-gcd)
+    → c .gcd .result ≡ length (result Gcd (one (c .before .before .before .before .before)) (two (c .before .before .before .before .before)))
 made-length c =
     let start = c .before .before .before .before .before in
     rw (
@@ -55,7 +58,9 @@ made-length c =
           (two-good start),
     ) at (c .gcd .ensures .0)
 
-made : (c : tie.After-gcd) → words (take (4 * c .gcd .result) (c .gcd .last .1 .1 .0)) ≡ result Gcd (one (c .before .before .before .before .before)) (two (c .before .before .before .before .before))
+made : (c : tie.After-gcd)
+    → words (take (4 * c .gcd .result) (c .gcd .last .1 .1 .0)) ≡ result Gcd (one (c .before .before .before .before .before))
+    (two (c .before .before .before .before .before))
 made c =
     let start = c .before .before .before .before .before in
     let written = rw (
@@ -118,7 +123,8 @@ slice-aggregate-node-ok c =
 node-ok-requires : tie.Need-node-ok-requires
 node-ok-requires c κs =
     let start = c .before .before .before .before .before .before .before in
-    let good = slots-gcd (words (start .args .image .now)) (start .args .s .variables) (start .args .a) (start .args .b) (start .pre .0 .range .vars-to) (start .pre .1 .1 .0) in
+    let good = slots-gcd (words (start .args .image .now)) (start .args .s .variables) (start .args .a) (start .args .b)
+    (start .pre .0 .range .vars-to) (start .pre .1 .1 .0) in
     (start .pre .0, (start .pre .1 .0, rw (made (c .before .before)) good))
 
 -- src/lib.rt:278:1

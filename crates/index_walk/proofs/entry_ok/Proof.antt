@@ -23,7 +23,11 @@ entry-at-requires c κs = search needs
 monomial-from-requires : tie.Need-monomial-from-requires
 monomial-from-requires c κs =
     let o = c .before .before .before in
-    rw (c .entry-at .ensures) (o .pre .0 .lms (o .args .e) (o .pre .1 .1), omega (arith, entry-room (o .args .image .now) (o .args .s) (o .pre .0) (o .args .e) (o .pre .1 .1)))
+    rw (c .entry-at .ensures) (
+      o .pre .0 .lms (o .args .e) (o .pre .1 .1),
+      omega
+          (arith, entry-room (o .args .image .now) (o .args .s) (o .pre .0) (o .args .e) (o .pre .1 .1)),
+    )
 
 -- src/lib.rt:76:9
 powers-below-requires : tie.Need-powers-below-requires
@@ -47,7 +51,8 @@ returns-2 c =
     let entry-at = c .before .before .before .before .before .entry-at in
     let monomial-from = c .before .before .before .before .monomial-from in
     let powers-below = c .before .before .before .powers-below in
-    no-labels _ _ _ _ _ _ _ _ (lm-read _ _ _ _ _ (entry-at .ensures) (monomial-from .ensures .is)) (powers-below .ensures) (c .before .before .if1 .left) (c .if2 .taken)
+    no-labels _ _ _ _ _ _ _ _ (lm-read _ _ _ _ _ (entry-at .ensures) (monomial-from .ensures .is)) (powers-below .ensures)
+    (c .before .before .if1 .left) (c .if2 .taken)
 
 -- src/lib.rt:82:9
 label-in-requires : tie.Need-label-in-requires

@@ -40,7 +40,10 @@ short a =
           (omega (arith, a .pre .0 .range .vars-to)) (a .pre .1 .1),
     )
 
-row-read : (c : tie.After-map) → RowRead (words (c .before .before .before .before .before .args .image .now)) (c .before .before .before .before .before .args .s) (c .before .before .before .before .before .args .at) (words (c .before .before .before .before .before .args .gcd .now)) (c .before .before .get .result) (c .map .result)
+row-read : (c : tie.After-map)
+    → let start = c .before .before .before .before .before in
+    RowRead (words (start .args .image .now)) (start .args .s) (start .args .at) (words (start .args .gcd .now))
+    (c .before .before .get .result) (c .map .result)
 row-read c =
     let start = c .before .before .before .before .before in
     record {
@@ -48,7 +51,8 @@ row-read c =
       canonical = start .pre .1 .1;
       fits = omega (arith, length-words (start .args .image .now), start .pre .1 .0);
       mask-read = c .before .before .get .ensures;
-      mask-made = rw (maxima-lent start) at (c .map .ensures) ∙ mask-whole (part (words (start .args .image .now)) (map-at start) (start .args .s .variables)) (start .pre .1 .1);
+      mask-made = rw (maxima-lent start) at (c .map .ensures) ∙ mask-whole
+          (part (words (start .args .image .now)) (map-at start) (start .args .s .variables)) (start .pre .1 .1);
     }
 
 -- end of helpers

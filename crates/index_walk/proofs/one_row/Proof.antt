@@ -17,15 +17,23 @@ use Rattle.index_walk.proofs.leaf_ok.Reads as leaf-ok-reads
 use Rattle.words.proofs.get.Reads as get-reads
 
 -- helpers
-room : (c : tie.After-node-at) → 4 * (c .node-at .result + at.nodeWidth (c .before .before .before .args .s .variables)) ≤ length (c .before .before .before .args .image .now)
+room : (c : tie.After-node-at)
+    → let start = c .before .before .before in
+    4 * (c .node-at .result + at.nodeWidth (start .args .s .variables)) ≤ length (start .args .image .now)
 room c =
     let start = c .before .before .before in
     omega (arith, c .node-at .ensures, node-room (start .args .image .now) (start .args .s) (start .pre .0) 0 (omega (arith, start .pre .1 .1)))
 
-row : (c : tie.After-get2) → Row (c .before .before .before .before .before .before .pre .0) (words (c .before .before .before .before .before .before .args .hi .now)) 0 4294967296 0 0 (c .before .before .before .before .before .before .args .s .entries) (c .get2 .result)
+row : (c : tie.After-get2)
+    → let start = c .before .before .before .before .before .before in
+    Row (start .pre .0) (words (start .args .hi .now)) 0 4294967296 0 0 (start .args .s .entries) (c .get2 .result)
 row c = record { places = omega arith; count = rw (c .before .before .before .node-at .ensures) at (c .get2 .ensures) }
 
-tagged : (c : tie.Else2) → Tagged (c .before .before .before .before .before .before .before .before .pre .0) (words (c .before .before .before .before .before .before .before .before .args .hi .now)) 0 4294967296 0 0 (c .before .before .before .before .before .before .before .before .args .s .entries) (c .before .before .get2 .result) (c .before .before .before .before .get .result)
+tagged : (c : tie.Else2)
+    → let start = c .before .before .before .before .before .before .before .before in
+    let get = c .before .before .before .before .get in
+    Tagged (start .pre .0) (words (start .args .hi .now)) 0 4294967296 0 0 (start .args .s .entries) (c .before .before .get2 .result)
+    (get .result)
 tagged c = record {
   row = row (c .before .before);
   used = omega (arith, c .before .before .before .before .before .before .before .before .pre .1 .1);
@@ -47,7 +55,8 @@ get-requires c κs = omega (arith, room c)
 returns : tie.Need-returns
 returns c =
     let start = c .before .before .before .before .before in
-    not-one (start .pre .0) (omega (arith, start .pre .1 .1)) (omega (arith, start .pre .1 .1)) (rw (c .before .before .node-at .ensures) at (c .before .get .ensures))
+    not-one (start .pre .0) (omega (arith, start .pre .1 .1)) (omega (arith, start .pre .1 .1))
+    (rw (c .before .before .node-at .ensures) at (c .before .get .ensures))
     (c .if1 .taken)
 
 -- src/lib.rt:465:31

@@ -19,8 +19,11 @@ add-node-at c = search needs
 
 -- src/lib.rt:363:9
 node-at-requires-2 : tie.Need-node-at-requires-2
-node-at-requires-2 c κs =
-    (c .before .before .pre .0 .range, omega (arith, c .before .before .pre .1 .0, c .before .before .pre .0 .range .nodes-to, c .before .before .pre .0 .range .cap-to))
+node-at-requires-2 c κs = (
+  c .before .before .pre .0 .range,
+  omega
+      (arith, c .before .before .pre .1 .0, c .before .before .pre .0 .range .nodes-to, c .before .before .pre .0 .range .cap-to),
+)
 
 -- src/lib.rt:364:19
 add-node-at-2 : tie.Need-add-node-at-2

@@ -28,7 +28,9 @@ abbrev μ-loop : tie.MeasureT-loop
 -- helpers
 -- what is known of a variable's word
 variable : (c : tie.Else1 Inv-loop μ-loop)
-    → Here (c .before .before .before .before .before .before .pre .1 .1 .some) (c .before .before .before .loop .inv) (seen _ (c .before .before .before .loop .inv .ra) (c .before .before .get .ensures))
+    → let start = c .before .before .before .before .before .before in
+    let loop = c .before .before .before .loop in
+    Here (start .pre .1 .1 .some) (loop .inv) (seen _ (loop .inv .ra) (c .before .before .get .ensures))
 variable c =
     let start = c .before .before .before .before .before .before in
     let loop-here = c .before .before .before .loop in
@@ -84,7 +86,15 @@ returns-2 c =
     let id = c .before .before .before .id in
     let k = variable (c .before .before .before .before) in
     let upper = rw (id .ensures) at (c .before .before .get2 .ensures) in
-    refuse (λ h. omega (arith, h (ident (c .before .before .before .before .before .before .get .result)) (k .known), k .is, upper, c .before .power .ensures, c .if2 .taken))
+    refuse (λ h. omega (
+      arith,
+      h (ident (c .before .before .before .before .before .before .get .result))
+          (k .known),
+      k .is,
+      upper,
+      c .before .power .ensures,
+      c .if2 .taken,
+    ))
 
 -- src/lib.rt:53:9
 add-i : tie.Need-add-i Inv-loop μ-loop
@@ -104,7 +114,8 @@ loop-less c =
 loop-again : tie.Need-loop-again Inv-loop μ-loop
 loop-again c =
     let id = c .before .before .before .id in
-    variable (c .before .before .before .before) .next (omega (arith, rw (id .ensures) at (c .before .before .get2 .ensures), c .before .power .ensures, c .if2 .left))
+    variable (c .before .before .before .before) .next
+    (omega (arith, rw (id .ensures) at (c .before .before .get2 .ensures), c .before .power .ensures, c .if2 .left))
 
 pub powers-below-spec : {M : Type 1} → statement M
 powers-below-spec =

@@ -35,7 +35,11 @@ add-result-2 c = search needs
 -- src/lib.rt:60:49
 mul-result : tie.Need-mul-result
 mul-result c =
-    omega (arith, nodes-small (c .before .before .before .args .self) (c .before .before .before .pre .0) (c .before .before .before .args .k) (c .before .before .before .pre .1))
+    omega (
+      arith,
+      nodes-small (c .before .before .before .args .self) (c .before .before .before .pre .0) (c .before .before .before .args .k)
+          (c .before .before .before .pre .1),
+    )
 
 -- src/lib.rt:60:9
 add-result-3 : tie.Need-add-result-3

@@ -32,7 +32,8 @@ entry-ok-requires c κs =
 -- src/entries.rt:194:13
 returns : tie.Need-returns Inv-loop μ-loop
 returns c =
-    refuse (λ q. never (sym (not-true _ (c .if1 .taken)) ∙ (c .before .entry-ok .ensures .1) (q (c .before .before .before .loop .i) (c .before .before .loop-test .taken))))
+    refuse (λ q. never (sym (not-true _ (c .if1 .taken)) ∙ (c .before .entry-ok .ensures .1)
+    (q (c .before .before .before .loop .i) (c .before .before .loop-test .taken))))
 
 -- src/entries.rt:196:9
 add-i : tie.Need-add-i Inv-loop μ-loop

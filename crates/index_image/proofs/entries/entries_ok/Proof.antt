@@ -35,7 +35,8 @@ entry-at-requires c κs = ((c .before .before .pre .0), (c .before .before .pre 
 
 -- src/entries.rt:211:9
 is-blank-requires : tie.Need-is-blank-requires
-is-blank-requires c κs = rw (c .before .entry-width .ensures, c .entry-at .ensures) (omega (arith, rest (c .before .before .before .args .s) (c .before .before .before .pre .0)))
+is-blank-requires c κs =
+    rw (c .before .entry-width .ensures, c .entry-at .ensures) (omega (arith, rest (c .before .before .before .args .s) (c .before .before .before .pre .0)))
 
 -- src/entries.rt:212:9
 returns : tie.Need-returns

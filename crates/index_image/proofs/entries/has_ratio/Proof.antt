@@ -21,7 +21,9 @@ entry-here : (a : tie.Start) → Spots (a .args .s) (a .pre .0) (a .args .i) 0
 entry-here a =
     spots (a .args .s) (a .pre .0) (a .pre .1 .1 .0 .0) (a .args .i) 0 (omega (arith, a .pre .1 .1 .0 .1, a .pre .0 .few)) (a .pre .0 .cap-from)
 
-row-here : (c : tie.After-get) → Spots (c .before .before .before .args .s) (c .before .before .before .pre .0) (c .before .before .before .args .i) (c .get .result)
+row-here : (c : tie.After-get)
+    → let start = c .before .before .before in
+    Spots (start .args .s) (start .pre .0) (start .args .i) (c .get .result)
 row-here c =
     let start = c .before .before .before in
     spots (start .args .s) (start .pre .0) (start .pre .1 .1 .0 .0) (start .args .i) (c .get .result)
@@ -31,7 +33,11 @@ row-here c =
 abbrev row-at : tie.After-labels-at → ℕ
 row-at c = c .labels-at .result + labels.rowAt (c .before .before .before .before .args .s .variables) (c .before .get .result)
 
-all-read : (c : tie.After-get3) → Read (c .before .before .before .before .before .before .args .image .now) (c .before .before .before .before .before .before .args .s) (c .before .before .before .before .before .before .args .i) (c .before .before .before .before .entry-at .result) (row-at (c .before .before)) (c .before .get2 .result) (c .get3 .result)
+all-read : (c : tie.After-get3)
+    → let start = c .before .before .before .before .before .before in
+    let entry-at = c .before .before .before .before .entry-at in
+    Read (start .args .image .now) (start .args .s) (start .args .i) (entry-at .result) (row-at (c .before .before))
+    (c .before .get2 .result) (c .get3 .result)
 all-read c =
     let start = c .before .before .before .before .before .before in
     let entry-at = c .before .before .before .before .entry-at in

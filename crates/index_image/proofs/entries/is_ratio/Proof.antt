@@ -43,7 +43,10 @@ fitting c = fits (c .loop .inv) (room (c .before .before .before .before))
 
 -- where a variable is left, the powers that both monomials have of it
 small : (c : tie.Else1 Inv-loop μ-loop)
-    → (powerAt (c .before .before .before .before .get .result) (c .before .upper .result) 0 ≤ 32767) × (powerAt (c .before .before .before .get2 .result) (c .before .upper .result) 0 ≤ 32767)
+    → let get = c .before .before .before .before .get in
+    let get2 = c .before .before .before .get2 in
+    let upper = c .before .upper in
+    (powerAt (get .result) (upper .result) 0 ≤ 32767) × (powerAt (get2 .result) (upper .result) 0 ≤ 32767)
 small c =
     let loop = c .before .before .before .before .before .loop in
     let start = c .before .before .before .before .before .before .before .before .before in

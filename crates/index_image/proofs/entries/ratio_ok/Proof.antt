@@ -30,14 +30,20 @@ entry-here a =
     spots (a .args .s) (a .pre .0) (a .pre .1 .1 .0 .0) (a .args .i) 0 (omega (arith, a .pre .1 .1 .0 .1, a .pre .0 .few)) (omega (arith, a .pre .0 .cap-from))
 
 -- the kind that was read is that of the entry's index word
-kind-read : (c : tie.After-kind) → c .kind .result ≡ kind (getD (words (c .before .before .before .before .before .args .image .now)) (at.indexAt (c .before .before .before .before .before .args .s) (c .before .before .before .before .before .args .i)) 0)
+kind-read : (c : tie.After-kind)
+    → let start = c .before .before .before .before .before in
+    c .kind .result ≡ kind (getD (words (start .args .image .now)) (at.indexAt (start .args .s) (start .args .i)) 0)
 kind-read c = c .kind .ensures ∙ ap kind (rw (c .before .before .entry-at .ensures) at (c .before .get .ensures))
 
 -- the row that the entry names, and how many rows there are
-row-read : (c : tie.After-get3) → c .get3 .result ≡ rowIn (words (c .before .before .before .before .before .before .before .before .before .before .before .args .image .now)) (c .before .before .before .before .before .before .before .before .before .before .before .args .s) (c .before .before .before .before .before .before .before .before .before .before .before .args .i)
+row-read : (c : tie.After-get3)
+    → let start = c .before .before .before .before .before .before .before .before .before .before .before in
+    c .get3 .result ≡ rowIn (words (start .args .image .now)) (start .args .s) (start .args .i)
 row-read c = rw (c .before .before .before .before .before .before .before .before .entry-at .ensures) at (c .get3 .ensures)
 
-rows-read : (c : tie.After-get2) → c .get2 .result ≡ door.rowsIn (words (c .before .before .before .before .before .before .before .before .before .before .args .image .now)) (c .before .before .before .before .before .before .before .before .before .before .args .s)
+rows-read : (c : tie.After-get2)
+    → let start = c .before .before .before .before .before .before .before .before .before .before in
+    c .get2 .result ≡ door.rowsIn (words (start .args .image .now)) (start .args .s)
 rows-read c = rw (c .before .labels-at .ensures) at (c .get2 .ensures)
 
 -- end of helpers
@@ -167,7 +173,8 @@ returns-4 c =
     let entry-at = c .before .before .before .before .before .before .before .before .before .before .entry-at in
     let masked-slot = c .before .before .before .before .before .before .masked-slot in (
       λ q. record {
-        kinded = sym (kind-read (c .before .before .before .before .before .before .before .before)) ∙ c .before .before .before .before .before .before .before .if1 .left;
+        kinded = sym (kind-read (c .before .before .before .before .before .before .before .before))
+            ∙ c .before .before .before .before .before .before .before .if1 .left;
         sign = (rw (entry-at .ensures) at (masked-slot .ensures)) .0 (not-false _ (c .before .before .before .before .before .if2 .left));
         row = omega (arith, rows-read (c .before .before .before), row-read (c .before .before), c .before .if3 .left);
         ratio = c .has-ratio .ensures .0 q;

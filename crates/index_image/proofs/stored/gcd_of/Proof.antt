@@ -45,30 +45,37 @@ room a = omega (arith, place-room (a .args .image .now) (a .args .s) (a .pre .0)
 
 -- the first entry, and its lm
 first-entry : (c : tie.After-get Inv-loop μ-loop)
-    → EntryAt (words (c .before .before .before .before .before .args .image .now)) (c .before .before .before .before .before .args .s) (c .before .before .before .before .before .args .lo) 0 (c .get .result)
+    → let start = c .before .before .before .before .before in
+    EntryAt (words (start .args .image .now)) (start .args .s) (start .args .lo) 0 (c .get .result)
 first-entry c =
     let start = c .before .before .before .before .before in
-    entry-at-place (words (start .args .image .now)) (start .args .s) (start .pre .0) (start .args .lo) 0 (c .before .permutation-at .result + start .args .lo) (c .get .result)
+    entry-at-place (words (start .args .image .now)) (start .args .s) (start .pre .0) (start .args .lo) 0
+    (c .before .permutation-at .result + start .args .lo) (c .get .result)
     (omega (arith, c .before .permutation-at .ensures)) (omega (arith, start .pre .1 .0, c .before .before .if1 .left)) (c .get .ensures)
 
 first-lm : (c : tie.After-monomial-in Inv-loop μ-loop)
-    → words (c .monomial-in .result .now) ≡ lmIn (words (c .before .before .before .before .before .before .before .args .image .now)) (c .before .before .before .before .before .before .before .args .s) (c .before .before .get .result)
+    → let start = c .before .before .before .before .before .before .before in
+    words (c .monomial-in .result .now) ≡ lmIn (words (start .args .image .now)) (start .args .s) (c .before .before .get .result)
 first-lm c =
     lm-read _ (c .before .before .before .before .before .before .before .args .s) (c .before .before .get .result) (c .before .entry-at .result) _
     (c .before .entry-at .ensures) (c .monomial-in .ensures .is)
 
 -- the next one, and its lm
 next-entry : (c : tie.After-get2 Inv-loop μ-loop)
-    → EntryAt (words (c .before .before .before .before .before .before .before .before .before .before .before .before .before .before .args .image .now)) (c .before .before .before .before .before .before .before .before .before .before .before .before .before .before .args .s) (c .before .before .before .before .before .before .before .before .before .before .before .before .before .before .args .lo) (c .before .before .loop .i) (c .get2 .result)
+    → let start = c .before .before .before .before .before .before .before .before .before .before .before .before .before .before in
+    EntryAt (words (start .args .image .now)) (start .args .s) (start .args .lo) (c .before .before .loop .i) (c .get2 .result)
 next-entry c =
     let start = c .before .before .before .before .before .before .before .before .before .before .before .before .before .before in
     let permutation-at = c .before .before .before .before .before .before .before .before .before .before .permutation-at in
     let i = c .before .before .loop .i in
-    entry-at-place (words (start .args .image .now)) (start .args .s) (start .pre .0) (start .args .lo) i (permutation-at .result + start .args .lo + i) (c .get2 .result)
+    entry-at-place (words (start .args .image .now)) (start .args .s) (start .pre .0) (start .args .lo) i
+    (permutation-at .result + start .args .lo + i) (c .get2 .result)
     (omega (arith, permutation-at .ensures)) (omega (arith, start .pre .1 .0, c .before .loop-test .taken)) (c .get2 .ensures)
 
 next-lm : (c : tie.After-monomial-from Inv-loop μ-loop)
-    → first 1 (words (c .monomial-from .result .now)) ≡ lmIn (words (c .before .before .before .before .before .before .before .before .before .before .before .before .before .before .before .before .before .args .image .now)) (c .before .before .before .before .before .before .before .before .before .before .before .before .before .before .before .before .before .args .s) (c .before .before .before .get2 .result)
+    → let start = c .before .before .before .before .before .before .before .before .before .before .before .before .before .before .before .before .before in
+    let get2 = c .before .before .before .get2 in
+    first 1 (words (c .monomial-from .result .now)) ≡ lmIn (words (start .args .image .now)) (start .args .s) (get2 .result)
 next-lm c =
     lm-read _ (c .before .before .before .before .before .before .before .before .before .before .before .before .before .before .before .before .before .args .s)
     (c .before .before .before .get2 .result) (c .before .entry-at2 .result) _ (c .before .entry-at2 .ensures) (c .monomial-from .ensures .is)
@@ -116,7 +123,8 @@ entry-at-requires c κs =
 
 -- src/stored.rt:138:9
 monomial-in-requires : tie.Need-monomial-in-requires Inv-loop μ-loop
-monomial-in-requires c κs = rw (c .entry-at .ensures) (c .before .before .before .before .before .before .pre .0 .lms (c .before .get .result) (first-entry (c .before) .small))
+monomial-in-requires c κs =
+    rw (c .entry-at .ensures) (c .before .before .before .before .before .before .pre .0 .lms (c .before .get .result) (first-entry (c .before) .small))
 
 -- src/stored.rt:139:5
 paste-requires : tie.Need-paste-requires Inv-loop μ-loop
@@ -124,7 +132,8 @@ paste-requires c κs =
     let start = c .before .before .before .before .before .before .before .before in
     let get = c .before .before .before .get in
     let monomial-in = c .before .monomial-in in
-    let lm = lm-canonical (words (start .args .image .now)) (start .args .s) (get .result) (start .pre .0 .lms (get .result) (first-entry (c .before .before .before) .small)) in
+    let lm = lm-canonical (words (start .args .image .now)) (start .args .s) (get .result)
+    (start .pre .0 .lms (get .result) (first-entry (c .before .before .before) .small)) in
     omega (
       arith,
       monomial-in .ensures .long,
