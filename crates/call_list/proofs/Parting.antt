@@ -70,7 +70,8 @@ body-rest ws zero h = refl
 body-rest [] (suc i) h = refl
 body-rest (w ∷ ws) (suc i) h = go (eqb (kind w) 6) h (body-rest ws i)
   where
-    go : (t : Bool) → suc i ≤ length (cond t [] (w ∷ bodyOf ws)) → (i ≤ length (bodyOf ws) → drop i (bodyOf ws) ≡ bodyOf (drop i ws)) → drop (suc i) (cond t [] (w ∷ bodyOf ws)) ≡ bodyOf (drop i ws)
+    go : (t : Bool) → suc i ≤ length (cond t [] (w ∷ bodyOf ws)) → (i ≤ length (bodyOf ws) → drop i (bodyOf ws) ≡ bodyOf (drop i ws))
+        → drop (suc i) (cond t [] (w ∷ bodyOf ws)) ≡ bodyOf (drop i ws)
     go true l r = absurd (omega arith)
     go false l r = r (omega arith)
 
@@ -116,7 +117,8 @@ body-take ws zero h = refl
 body-take [] (suc n) h = refl
 body-take (w ∷ ws) (suc n) h = go (eqb (kind w) 6) h (body-take ws n)
   where
-    go : (t : Bool) → suc n ≤ length (cond t [] (w ∷ bodyOf ws)) → (n ≤ length (bodyOf ws) → take n (bodyOf ws) ≡ take n ws) → take (suc n) (cond t [] (w ∷ bodyOf ws)) ≡ w ∷ take n ws
+    go : (t : Bool) → suc n ≤ length (cond t [] (w ∷ bodyOf ws)) → (n ≤ length (bodyOf ws) → take n (bodyOf ws) ≡ take n ws)
+        → take (suc n) (cond t [] (w ∷ bodyOf ws)) ≡ w ∷ take n ws
     go true l r = absurd (omega arith)
     go false l r = ap (λ (l : List ℕ). w ∷ l) (r (omega arith))
 
@@ -199,7 +201,8 @@ module _ (L : List ℕ) (at end : ℕ) (inside : at ≤ length (words L)) (ends 
     paired-none m x h = record { asked = λ f. l .asked _ ∙ rw h; index-small = l .index-small; canonical = λ t. no-true (sym h ∙ t) }
 
     pub tripled-none : (k m : ℕ) (x y : List ℕ) → p .good ≡ false → Tripled k m B x y p
-    tripled-none k m x y h = record { asked = λ f. l .asked _ ∙ rw h; index-small = l .index-small; first-canonical = λ t. no-true (sym h ∙ t); second-canonical = λ t. no-true (sym h ∙ t) }
+    tripled-none k m x y h =
+        record { asked = λ f. l .asked _ ∙ rw h; index-small = l .index-small; first-canonical = λ t. no-true (sym h ∙ t); second-canonical = λ t. no-true (sym h ∙ t) }
 
     module _ (h : p .good ≡ true) where
       -- where the rest of the body stands

@@ -133,7 +133,8 @@ within-halves a b = (to, from)
     from w =
         within-by a b (λ i.
         elim (decLe 32 i) [
-          | yes l ↦ let e : 32 + (i - 32) ≡ i = omega arith in rw e at (let z : bit a (32 + (i - 32)) ≤ bit b (32 + (i - 32)) = omega (arith, high-half a (i - 32), high-half b (i - 32), within-at _ _ (w .1) (i - 32)) in z)
+          | yes l ↦ let e : 32 + (i - 32) ≡ i = omega arith in rw e at
+              (let z : bit a (32 + (i - 32)) ≤ bit b (32 + (i - 32)) = omega (arith, high-half a (i - 32), high-half b (i - 32), within-at _ _ (w .1) (i - 32)) in z)
           | no l ↦ omega (arith, low-half a i (omega arith), low-half b i (omega arith), within-at _ _ (w .0) i)
         ])
 

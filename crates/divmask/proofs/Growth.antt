@@ -177,7 +177,11 @@ updated-words m A bs c g =
     let us = updated A (words bs) in
     let h = updated-good m A (words bs) c g in
     let l : length us ≡ length (words bs) = updated-length A (words bs) in
-    let small : Words us = λ k. elim (decLe m k) [ yes z ↦ omega (arith, List·getD-eq-default us 0 {n = k} (omega (arith, h .one-each))) | no z ↦ omega (arith, h .high k (omega arith)) ] in
+    let small : Words us = λ k. elim (decLe m k) [
+      | yes z ↦ omega
+          (arith, List·getD-eq-default us 0 {n = k} (omega (arith, h .one-each)))
+      | no z ↦ omega (arith, h .high k (omega arith))
+    ] in
     words-pasteW bs 0 us small (omega (arith, length-words bs))
     ∙ rw (drop-of-length-le (words bs) {i = 0 + length us} (omega arith)) (append-nil us)
 
@@ -264,7 +268,8 @@ pub total-nil : total [] ≡ 0
 unfolding total
 total-nil = refl
 
-total-range : (xs : List ℕ) → ((v : ℕ) → v < length xs → 1 ≤ getD xs v 0) → ((v : ℕ) → v < length xs → getD xs v 0 ≤ 32767) → (length xs ≤ total xs) × (total xs ≤ 32767 * length xs)
+total-range : (xs : List ℕ) → ((v : ℕ) → v < length xs → 1 ≤ getD xs v 0) → ((v : ℕ) → v < length xs → getD xs v 0 ≤ 32767)
+    → (length xs ≤ total xs) × (total xs ≤ 32767 * length xs)
 total-range [] l h = rw total-nil (omega arith, omega arith)
 total-range (x ∷ xs) l h =
     let t = total-range xs (λ v k. l (suc v) (omega arith)) (λ v k. h (suc v) (omega arith)) in

@@ -4,7 +4,6 @@ ghost use mathlib.Core.Path.{_≡_};
 ghost use Prim.Native.Nat.{_+_, _*_, _/_, _%_, _≤_, _<_};
 ghost use lib.ListN.{length};
 ghost use Rattle.words.specs.Words.{words, putW};
-ghost use Rattle.monomial.specs.Monomial.{isVar};
 ghost use Rattle.divmask.specs.Table.{both, Tabled, Judged};
 ghost use Rattle.divmask.specs.Tracker.{Maxima};
 
@@ -77,26 +76,6 @@ fn look_up(maxima: &[u8], variables: u32, table: &[u8], limit: u32, v: u32, powe
     words::pairs::get(table, 2 * (16 * v + (power - 1)) as usize)
 }
 
-// Whether w is a variable's word of a monomial, its id below the bound.
-fn is_power(w: u32, bound: u32) -> bool
-    ensures { λ r. ⌜ r ≡ isVar 1 bound w ⌝ }
-{
-    if words::kind(w) != 1 {
-        return false;
-    }
-    if bound <= words::id(w) {
-        return false;
-    }
-    let p = words::power(w);
-    if p == 0 {
-        return false;
-    }
-    if 32767 < p {
-        return false;
-    }
-    true
-}
-
 // A monomial in a longer list: how many words it has, 0 where none is canonical, and its mask, with its short exponent vector in the upper half.
 pub struct Slot {
     pub words: usize,
@@ -126,7 +105,7 @@ pub fn judge(maxima: &[u8], variables: u32, table: &[u8], limit: u32, s: &[u8], 
             }
             return Slot { words: 0, masks: 0 };
         }
-        if !is_power(w, bound) {
+        if !monomial::is_variable(w, 1, bound) {
             return Slot { words: 0, masks: 0 };
         }
         bound = words::id(w);

@@ -271,7 +271,8 @@ module _ (W : List ℕ) (st : State) (f : Fits st) (room : at.size (shapeOf st) 
   coarse-are =
       let el : length (getD (coarse st) 3 []) ≡ c * w = length-append tabled (zeros ((c - n) * w)) ∙ omega (arith, entries-long, free, entries-whole) in
       let pl : length (getD (coarse st) 4 []) ≡ c = length-append (inorder (st .tree)) (zeros (c - n)) ∙ omega (arith, f .all, free-places, f .few) in
-      let nl : length (getD (coarse st) 6 []) ≡ (2 * c - 1) * x = length-append treed (zeros ((2 * c - 1 - d) * x)) ∙ omega (arith, nodes-long, free-nodes, nodes-whole) in
+      let nl : length (getD (coarse st) 6 []) ≡ (2 * c - 1) * x =
+      length-append treed (zeros ((2 * c - 1 - d) * x)) ∙ omega (arith, nodes-long, free-nodes, nodes-whole) in
       record {
         entries-long = el;
         permutation-long = pl;
@@ -306,5 +307,26 @@ module _ (W : List ℕ) (st : State) (f : Fits st) (room : at.size (shapeOf st) 
 
   pub of-pieces : Pieces W st → part W 0 (at.size (shapeOf st)) ≡ encode st
   of-pieces p =
-      let s : Stand W 0 (tables st) = (moved-back W (p .head) refl (header-length st), (moved-back W (p .maxima) at1 (f .maxima), (moved-back W (p .map) at2 (f .map), (moved-back W (p .entries) at3 entries-long, (moved-back W (p .entries-rest) at4 free, (moved-back W (p .permutation) at5 (f .all), (moved-back W (p .permutation-rest) at6 free-places, (moved-back W (p .labels) at7 (f .label-words), (moved-back W (p .nodes-are) at8 nodes-long, moved-back W (p .nodes-rest) at9 free-nodes))))))))) in
+      let s : Stand W 0 (tables st) = (
+        moved-back W (p .head) refl (header-length st),
+        (
+          moved-back W (p .maxima) at1 (f .maxima),
+          (
+            moved-back W (p .map) at2 (f .map),
+            (
+              moved-back W (p .entries) at3 entries-long,
+              (
+                moved-back W (p .entries-rest) at4 free,
+                (
+                  moved-back W (p .permutation) at5 (f .all),
+                  (
+                    moved-back W (p .permutation-rest) at6 free-places,
+                    (moved-back W (p .labels) at7 (f .label-words), (moved-back W (p .nodes-are) at8 nodes-long, moved-back W (p .nodes-rest) at9 free-nodes)),
+                  ),
+                ),
+              ),
+            ),
+          ),
+        ),
+      ) in
       rw (whole st, image-length) at (together W 0 (tables st) (omega arith) fits s)

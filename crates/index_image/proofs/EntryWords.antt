@@ -44,7 +44,8 @@ module _ (W : List ℕ) (m : ℕ) (xs : List ℕ) (i : ℕ) (few : m ≤ 64) (fi
       rw e at (part-append W i (length ws) (m + 1 - length ws) ws (zeros (m + 1 - length ws)) (omega arith) refl)
 
   -- the words of a canonical monomial's slot, mask and vector are read back as that monomial
-  pub slot-read : (ws : List ℕ) → Canonical 1 m ws → part W i (slotWidth m) ≡ slot m ws → getD W (maskAt m i) 0 ≡ mask m xs (pow 1 ws) → getD W (vectorAt m i) 0 ≡ vector m (pow 1 ws)
+  pub slot-read : (ws : List ℕ) → Canonical 1 m ws → part W i (slotWidth m) ≡ slot m ws → getD W (maskAt m i) 0 ≡ mask m xs (pow 1 ws)
+      → getD W (vectorAt m i) 0 ≡ vector m (pow 1 ws)
       → MaskedSlot W m xs i × (slotIn W m i ≡ ws)
   unfolding slotIn
   slot-read ws can e em ev =
@@ -107,7 +108,7 @@ pub record EntryIs (W : List ℕ) (s : Shape) (k : Kind) (l : map.State) (i : �
 -- the words behind the masked lm
 abbrev signWidth : Kind → ℕ → ℕ
 signWidth monomials m = 0
-signWidth ratioed m = m + 5
+signWidth ratioed m = maskedWidth m + 2
 
 width-sign : (k : Kind) (m : ℕ) → widthOf (code k) m ≡ maskedWidth m + signWidth k m
 width-sign monomials m = omega arith
@@ -137,10 +138,12 @@ module _ (W : List ℕ) (s : Shape) (few : s .variables ≤ 64) (i : ℕ) where
   sign-iff ratioed l e g fits =
       let row = rowOf l (ratioOf e) in
       let sign = masked m xs (e .sign) (row ∷ []) in
-      let p1 = first W (at.indexAt s i) (at.signAt s i) (m + 5) (m + 4) (indexWord (e .index)) sign (omega arith) (omega arith) (omega arith) in
-      let p2 = slot-first W m xs (at.signAt s i) few (omega arith) (at.rowAt s i) (m + 4) 1 (e .sign) (row ∷ []) (omega arith) (omega arith) (g .sign-canonical) in
+      let p1 = first W (at.indexAt s i) (at.signAt s i) (maskedWidth m + 2) (maskedWidth m + 1) (indexWord (e .index)) sign (omega arith)
+      (omega arith) (omega arith) in
+      let p2 = slot-first W m xs (at.signAt s i) few (omega arith) (at.rowAt s i) (maskedWidth m + 1) 1 (e .sign) (row ∷ []) (omega arith)
+      (omega arith) (g .sign-canonical) in
       let p3 = first W (at.rowAt s i) (at.rowAt s i + 1) 1 0 row [] (omega arith) (omega arith) refl in (
-        λ (q : part W (at.indexAt s i) (m + 5) ≡ indexWord (e .index) ∷ sign). λ z.
+        λ (q : part W (at.indexAt s i) (maskedWidth m + 2) ≡ indexWord (e .index) ∷ sign). λ z.
             let q1 = p1 .0 q in
             let q2 = p2 .0 (q1 .1) in
             record {
@@ -180,7 +183,8 @@ module _ (W : List ℕ) (s : Shape) (k : Kind) (ek : s .kind ≡ code k) (few : 
       let n = s .variables in
       let w : at.entryWidth s ≡ maskedWidth n + signWidth k n = ap (λ (x : ℕ). widthOf x n) ek ∙ width-sign k n in
       let b = at.indexAt s i in
-      let p = slot-first W n (mapMaxima W s) (at.entryAt s i) few (omega arith) b (at.entryWidth s) (signWidth k n) (e .lm) (signWords k n (mapMaxima W s) l e) refl w (g .lm-canonical) in
+      let p = slot-first W n (mapMaxima W s) (at.entryAt s i) few (omega arith) b (at.entryWidth s) (signWidth k n) (e .lm)
+      (signWords k n (mapMaxima W s) l e) refl w (g .lm-canonical) in
       let q = sign-iff W s few i k l e g (omega arith) in
       let lm = lm-in W s few i in (
         λ h. let r = p .0 h in record { lm-slot = r .0 .0; lm-is = lm ∙ r .0 .1; ratio = q .0 (r .1) },

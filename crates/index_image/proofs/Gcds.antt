@@ -126,5 +126,6 @@ module _ (m : ℕ) (pw : ℕ → ℕ → ℕ) (P : Powers m pw) where
       monomial-ext 1 (λ v. min (pow 1 (gcdOf pw xs) v) (pow 1 (gcdOf pw ys) v)) (λ v. least (pw v) (xs ++ ys))
       (λ v. omega (arith, gcd-pow xs v, gcd-pow ys v, least-append (pw v) xs ys h k))
 
-  pub gcd-more : (xs : List ℕ) (e : ℕ) (ws : List ℕ) → 0 < length xs → Canonical 1 m ws → ((v : ℕ) → pw v e ≡ pow 1 ws v) → result Gcd (gcdOf pw xs) ws ≡ gcdOf pw (xs ++ e ∷ [])
+  pub gcd-more : (xs : List ℕ) (e : ℕ) (ws : List ℕ) → 0 < length xs → Canonical 1 m ws → ((v : ℕ) → pw v e ≡ pow 1 ws v)
+      → result Gcd (gcdOf pw xs) ws ≡ gcdOf pw (xs ++ e ∷ [])
   gcd-more xs e ws h can ep = rw (← gcd-one e ws can ep) (gcd-both xs (e ∷ []) h (omega arith))

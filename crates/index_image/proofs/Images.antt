@@ -149,7 +149,8 @@ module _ (bs : List ℕ) (st : State) (I : Is st bs) where
     count-rows = rows-count bs s range (I .room) kind-1 l (map-is e)
 
     -- an entry names the row of its ratio
-    pub names : (i : ℕ) → i < length (st .entries) → (j : ℕ) → j < length (st .labels .rows) → map.value (st .labels .rows) j ≡ ratioOf (entryAt (st .entries) i) → rowIn (words bs) (shapeOf st) i ≡ j
+    pub names : (i : ℕ) → i < length (st .entries) → (j : ℕ) → j < length (st .labels .rows)
+        → map.value (st .labels .rows) j ≡ ratioOf (entryAt (st .entries) i) → rowIn (words bs) (shapeOf st) i ≡ j
     names i h j b v = entry-is i h .ratio e .row-is ∙ row-of l (val .labels-valid) (ratioOf (entryAt es i)) j b v
 
     pub ratio-ok : (i : ℕ) → i < length (st .entries) → RatioOk (words bs) (shapeOf st) i
@@ -196,7 +197,8 @@ module _ (bs : List ℕ) (st : State) (I : Is st bs) where
   pub tree-is : TreeAt (words bs) (shapeOf st) 0 0 (st .tree)
   tree-is = record {
     stands = record {
-      rows = stands .rows ∙ rw (pieces .map) (sym (tree-words-ext m (st .mapMaxima) (power W s) (powerIn es) (st .tree) (λ v e i. powers v e (once-below (inorder (st .tree)) n (val .once) e i))));
+      rows = stands .rows ∙ rw (pieces .map) (sym
+          (tree-words-ext m (st .mapMaxima) (power W s) (powerIn es) (st .tree) (λ v e i. powers v e (once-below (inorder (st .tree)) n (val .once) e i))));
       perm = stands .perm;
     };
     ordered = by-numbers (st .kind) es l s (power W s) (label W s) refl refl powers label-is

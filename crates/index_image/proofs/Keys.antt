@@ -36,7 +36,8 @@ least-ext f g [] h = refl
 least-ext f g (x ∷ xs) h = leastOf-ext f g x xs h
 
 module _ (m : ℕ) (xs : List ℕ) (pw pw′ : ℕ → ℕ → ℕ) where
-  node-words-ext : (tag key skip : ℕ) (es : List ℕ) → ((v e : ℕ) → e ∈ es → pw v e ≡ pw′ v e) → nodeWords m xs pw tag key skip es ≡ nodeWords m xs pw′ tag key skip es
+  node-words-ext : (tag key skip : ℕ) (es : List ℕ) → ((v e : ℕ) → e ∈ es → pw v e ≡ pw′ v e)
+      → nodeWords m xs pw tag key skip es ≡ nodeWords m xs pw′ tag key skip es
   unfolding nodeWords gcdPowers
   node-words-ext tag key skip es h =
       let same : (v : ℕ) → gcdPowers pw es v ≡ gcdPowers pw′ es v = λ v. least-ext (pw v) (pw′ v) es (h v) in

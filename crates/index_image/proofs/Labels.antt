@@ -15,7 +15,7 @@ use Rattle.index_image.specs.Shape as at
 use Rattle.index_image.specs.Door.{labelsIn, rowsIn}
 use Rattle.index_image.specs.declared.Shape.{Shape}
 use Rattle.index_image.proofs.Bounds.{ratio-labels}
-use Rattle.index_image.proofs.Slots.{part-words}
+use Rattle.words.proofs.Drafts.{part-of}
 use Rattle.index_image.specs.Door.{labelBytes}
 
 -- the image of the map l stands in its place
@@ -42,7 +42,7 @@ module _ (bs : List ℕ) (s : Shape) (R : at.InRange s) (room : 4 * at.size s �
   size-is l v c = rw (v, c) (sym (ratio-labels s R k))
 
   map-words : words (labelBytes bs s) ≡ part W (at.labelsAt s) (at.labelsSize s)
-  map-words = part-words bs (at.labelsAt s) (at.labelsSize s) (4 * at.labelsSize s) refl
+  map-words = part-of bs (at.labelsAt s) (at.labelsSize s) (4 * at.labelsSize s) refl
 
   front-words : part (words (labelBytes bs s)) 0 (at.labelsSize s) ≡ part W (at.labelsAt s) (at.labelsSize s)
   front-words = rw map-words (part-front W (at.labelsAt s) (at.labelsSize s))
@@ -77,8 +77,9 @@ module _ (bs : List ℕ) (s : Shape) (R : at.InRange s) (room : 4 * at.size s �
     pub row-at : (j : ℕ) → j < length (l .rows) → images.RowIs (labelsIn W s) (s .variables) (labels.rowAt (s .variables) j) (map.row (l .rows) j)
     row-at j h = ap-row (m .vars) (images.row-is l (m .valid) (labelsIn W s) fits front-is j h)
       where
-        ap-row : {a b : ℕ} → a ≡ b → images.RowIs (labelsIn W s) a (labels.rowAt a j) (map.row (l .rows) j) → images.RowIs (labelsIn W s) b (labels.rowAt b j) (map.row (l .rows) j)
+        ap-row : {a b : ℕ} → a ≡ b → images.RowIs (labelsIn W s) a (labels.rowAt a j) (map.row (l .rows) j)
+            → images.RowIs (labelsIn W s) b (labels.rowAt b j) (map.row (l .rows) j)
         ap-row e r = rw e at r
 
     pub label-at : (j : ℕ) → j < length (l .rows) → getD W (at.labelAt s j) 0 ≡ map.label (l .rows) j
-    label-at j h = sym (getD-drop (at.labelsAt s) W (labels.rowAt (s .variables) j + (s .variables + 2)) 0) ∙ row-at j h .label-is
+    label-at j h = sym (getD-drop (at.labelsAt s) W (labels.rowAt (s .variables) j + at.labelIn (s .variables)) 0) ∙ row-at j h .label-is

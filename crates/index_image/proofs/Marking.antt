@@ -14,7 +14,8 @@ none-marked W at w seen blank = record {
   only = λ j e. absurd (omega (arith, blank j));
 }
 
-pub one-more : (W : List ℕ) (at w n : ℕ) (seen : List ℕ) (x : ℕ) → x ≡ nameAt W at w n → x < length seen → Marked W at w n seen → Marked W at w (n + 1) (set seen x 1)
+pub one-more : (W : List ℕ) (at w n : ℕ) (seen : List ℕ) (x : ℕ) → x ≡ nameAt W at w n → x < length seen → Marked W at w n seen
+    → Marked W at w (n + 1) (set seen x 1)
 one-more W at w n seen x e h m = record {
   named = λ i l. elim (ℕ-discrete (nameAt W at w i) x) [
     | yes q ↦ rw q (getD-set-same seen x 1 0 h)

@@ -3,14 +3,14 @@ use mathlib.Core.Path.{_≡_, refl, sym, ap, _∙_}
 use mathlib.Core.Bool.{Bool, true, false, cond}
 use mathlib.Core.List.{List, [], _∷_, _++_, append-assoc, append-nil}
 use mathlib.Core.Logic.{_↔_}
-use Prim.Native.Nat.{ℕ, suc, max, _+_, _-_, _*_, _/_, _%_, _≤_, _<_}
+use Prim.Native.Nat.{ℕ, suc, max, _+_, _-_, _≤_, _<_}
 use native.Mathlib.Omega.{arith}
 use native.Mathlib.Decide.{ℕ-discrete}
 use lib.Dec.{eqb}
 use lib.ListN.{length, getD, length-append, List·getD-append}
 use lib.Seq.{getD-append-seam}
 use borrow.Author.Tests.{eq-eqb, ne-eqb, eqb-true}
-use Rattle.words.specs.Kinds.{varWord}
+use Rattle.words.specs.Kinds.{upperHalf, upperIdent, varWord}
 use Rattle.words.specs.Tables.{part}
 use Rattle.words.proofs.Tables.{part-nil, part-snoc, part-get, same-right}
 use Rattle.words.proofs.Answers.{test}
@@ -52,7 +52,7 @@ module _ {A B C : List ℕ} {i j n : ℕ} (s : Merging A B C i j n) (room : leng
       let r : length (varsOf 2 4096 P) + 1 ≤ length C = simp length-append at room in
       record { ia = within (s .ra); jb = within (s .rb); few = omega (arith, vars-length 2 4096 P); free = omega arith }
 
-  module _ {x y t w : ℕ} (ex : x ≡ getD A i 0) (ey : y ≡ getD B j 0) (et : t ≡ max (x / 65536) (y / 65536)) (ew : w ≡ getD C n 0) where
+  module _ {x y t w : ℕ} (ex : x ≡ getD A i 0) (ey : y ≡ getD B j 0) (et : t ≡ max (upperHalf x) (upperHalf y)) (ew : w ≡ getD C n 0) where
     grown : part C 0 (n + 1) ≡ s .done ++ (w ∷ [])
     grown = let z : 0 + n ≡ n = omega arith in part-snoc C 0 n (omega (arith, fits .free)) ∙ rw (s .same, z, ew)
 
@@ -98,30 +98,36 @@ module _ {A B C : List ℕ} {i j n : ℕ} (s : Merging A B C i j n) (room : leng
         unfolding powers
         skipped = vars-skip 2 (suc (next .u)) (s .b) P (next .below) (λ v l r. rw (ta .gap v l r, tb .gap v l r))
 
-        more : (p ≡ 32768 → ⊥) → varsOf 2 4096 P ≡ s .done ++ (varWord 2 (t % 4096) p ∷ varsOf 2 (next .u) P)
+        more : (p ≡ 32768 → ⊥) → varsOf 2 4096 P ≡ s .done ++ (varWord 2 (upperIdent t) p ∷ varsOf 2 (next .u) P)
         more z =
-            let ids : t % 4096 ≡ next .u = omega (arith, next .is, next .below, s .ra .few) in
+            let ids : upperIdent t ≡ next .u = omega (arith, next .is, next .below, s .ra .few) in
             s .split ∙ rw (skipped, vars-some 2 (next .u) P (λ y. z (sym here ∙ y)), here, ids)
 
         -- a word that is not the ratio's
-        pub stopped : cond (eqb p 32768) true (eqb w (varWord 2 (t % 4096) p)) ≡ false → HasRatio A B C → ⊥
+        pub stopped : cond (eqb p 32768) true (eqb w (varWord 2 (upperIdent t) p)) ≡ false → HasRatio A B C → ⊥
         unfolding result monomialOf
         stopped f q =
             elim (ℕ-discrete p 32768) [
               | yes z ↦ let g = rw (eq-eqb p 32768 z) at f in let o : _≡_ {A = ℕ} 0 1 = cc in omega arith
               | no z ↦
-                  let g : eqb w (varWord 2 (t % 4096) p) ≡ false = rw (ne-eqb p 32768 z) at f in
+                  let g : eqb w (varWord 2 (upperIdent t) p) ≡ false = rw (ne-eqb p 32768 z) at f in
                   let rest = varsOf 2 (next .u) P in
-                  let r : result Op.Ratio A B ≡ s .done ++ (varWord 2 (t % 4096) p ∷ (rest ++ (length (varsOf 2 4096 P) ∷ []))) = rw (more z) (append-assoc (s .done) (varWord 2 (t % 4096) p ∷ rest) _) in
-                  let k : n < length (result Op.Ratio A B) = rw r (omega (arith, length-append (s .done) (varWord 2 (t % 4096) p ∷ (rest ++ (length (varsOf 2 4096 P) ∷ []))), s .count)) in
+                  let r : result Op.Ratio A B ≡ s .done ++ (varWord 2 (upperIdent t) p ∷ (rest ++ (length (varsOf 2 4096 P) ∷ []))) =
+                  rw (more z) (append-assoc (s .done) (varWord 2 (upperIdent t) p ∷ rest) _) in
+                  let k : n < length (result Op.Ratio A B) = rw r
+                  (omega (arith, length-append (s .done) (varWord 2 (upperIdent t) p ∷ (rest ++ (length (varsOf 2 4096 P) ∷ []))), s .count)) in
                   let zn : 0 + n ≡ n = omega arith in
-                  let at : getD C n 0 ≡ getD (result Op.Ratio A B) n 0 = ap (λ (k : ℕ). getD C k 0) (sym zn) ∙ sym (part-get C 0 (length (result Op.Ratio A B)) n k) ∙ ap (λ (l : List ℕ). getD l n 0) q in
-                  let is : w ≡ varWord 2 (t % 4096) p = ew ∙ at ∙ ap (λ (l : List ℕ). getD l n 0) r ∙ ap (λ (m : ℕ). getD (s .done ++ (varWord 2 (t % 4096) p ∷ (rest ++ (length (varsOf 2 4096 P) ∷ [])))) m 0) (sym (s .count)) ∙ getD-append-seam (s .done) (varWord 2 (t % 4096) p) (rest ++ (length (varsOf 2 4096 P) ∷ [])) 0 in
-                  let y = sym (eq-eqb w (varWord 2 (t % 4096) p) is) ∙ g in
+                  let at : getD C n 0 ≡ getD (result Op.Ratio A B) n 0 =
+                  ap (λ (k : ℕ). getD C k 0) (sym zn) ∙ sym (part-get C 0 (length (result Op.Ratio A B)) n k) ∙ ap (λ (l : List ℕ). getD l n 0) q in
+                  let is : w ≡ varWord 2 (upperIdent t) p = ew ∙ at ∙ ap (λ (l : List ℕ). getD l n 0) r ∙ ap
+                  (λ (m : ℕ). getD (s .done ++ (varWord 2 (upperIdent t) p ∷ (rest ++ (length (varsOf 2 4096 P) ∷ [])))) m 0) (sym (s .count))
+                  ∙ getD-append-seam (s .done) (varWord 2 (upperIdent t) p) (rest ++ (length (varsOf 2 4096 P) ∷ [])) 0 in
+                  let y = sym (eq-eqb w (varWord 2 (upperIdent t) p) is) ∙ g in
                   let o : _≡_ {A = ℕ} 0 1 = cc in omega arith
             ]
 
-        pub again : {n′ : ℕ} → cond (eqb p 32768) true (eqb w (varWord 2 (t % 4096) p)) ≡ true → n′ ≡ cond (eqb p 32768) n (n + 1) → Merging A B C (past i x t) (past j y t) n′
+        pub again : {n′ : ℕ} → cond (eqb p 32768) true (eqb w (varWord 2 (upperIdent t) p)) ≡ true → n′ ≡ cond (eqb p 32768) n (n + 1)
+            → Merging A B C (past i x t) (past j y t) n′
         again {n′} f en =
             elim (ℕ-discrete p 32768) [
               | yes z ↦ let e : n′ ≡ n = en ∙ rw (eq-eqb p 32768 z) in rw e (record {
@@ -134,16 +140,16 @@ module _ {A B C : List ℕ} {i j n : ℕ} (s : Merging A B C i j n) (room : leng
                 split = s .split ∙ rw skipped (rw (vars-none 2 (next .u) P (here ∙ z)));
               })
               | no z ↦
-                  let g : eqb w (varWord 2 (t % 4096) p) ≡ true = rw (ne-eqb p 32768 z) at f in
-                  let is : w ≡ varWord 2 (t % 4096) p = eqb-true w (varWord 2 (t % 4096) p) g in
+                  let g : eqb w (varWord 2 (upperIdent t) p) ≡ true = rw (ne-eqb p 32768 z) at f in
+                  let is : w ≡ varWord 2 (upperIdent t) p = eqb-true w (varWord 2 (upperIdent t) p) g in
                   let e : n′ ≡ n + 1 = en ∙ rw (ne-eqb p 32768 z) in
                   rw e (record {
                     b = next .u;
                     ra = ta .rest;
                     rb = tb .rest;
-                    done = s .done ++ (varWord 2 (t % 4096) p ∷ []);
+                    done = s .done ++ (varWord 2 (upperIdent t) p ∷ []);
                     count = length-append (s .done) _ ∙ rw (s .count);
                     same = grown ∙ rw is;
-                    split = more z ∙ sym (append-assoc (s .done) (varWord 2 (t % 4096) p ∷ []) (varsOf 2 (next .u) P));
+                    split = more z ∙ sym (append-assoc (s .done) (varWord 2 (upperIdent t) p ∷ []) (varsOf 2 (next .u) P));
                   })
             ]

@@ -52,13 +52,16 @@ masked-small m xs ws rest few can r =
     small-append (slot-small m ws (monomial-words m ws few can)) (small-cons (mask-small m xs (pow 1 ws)) (small-cons (vector-small m (pow 1 ws)) r))
 
 -- ---- an entry
-entry-small : (k : Kind) (m : ℕ) (xs : List ℕ) (l : map.State) (e : Entry) → m ≤ 64 → GoodEntry m e → (k ≡ ratioed → rowOf l (ratioOf e) < 4096) → Small (entryWords k m xs l e)
+entry-small : (k : Kind) (m : ℕ) (xs : List ℕ) (l : map.State) (e : Entry) → m ≤ 64 → GoodEntry m e → (k ≡ ratioed → rowOf l (ratioOf e) < 4096)
+    → Small (entryWords k m xs l e)
 unfolding entryWords signWords
 entry-small k m xs l e few g row = masked-small m xs (e .lm) (signWords k m xs l e) few (g .lm-canonical) (sign k row)
   where
     sign : (k : Kind) → (k ≡ ratioed → rowOf l (ratioOf e) < 4096) → Small (signWords k m xs l e)
     sign monomials row = small-nil
-    sign ratioed row = small-cons (omega (arith, g .index-small)) (masked-small m xs (e .sign) (rowOf l (ratioOf e) ∷ []) few (g .sign-canonical) (small-cons (omega (arith, row refl)) small-nil))
+    sign ratioed row =
+        small-cons (omega (arith, g .index-small))
+        (masked-small m xs (e .sign) (rowOf l (ratioOf e) ∷ []) few (g .sign-canonical) (small-cons (omega (arith, row refl)) small-nil))
 
 -- ---- nodes, whose keys are places or at most a power
 module _ (s : Shape) (xs : List ℕ) (pw : ℕ → ℕ → ℕ) (lb : ℕ → ℕ) (R : at.InRange s) (P : Powers (s .variables) pw) where
@@ -72,10 +75,12 @@ module _ (s : Shape) (xs : List ℕ) (pw : ℕ → ℕ → ℕ) (lb : ℕ → �
             omega (arith, P .small (d - s .kind) (x .0))
       ]
 
-  node-small : (tag key skip : ℕ) (es : List ℕ) → tag < 2 ^ 32 → key < 2 ^ 32 → length es < 2 ^ 32 → skip < 2 ^ 32 → Small (nodeWords (s .variables) xs pw tag key skip es)
+  node-small : (tag key skip : ℕ) (es : List ℕ) → tag < 2 ^ 32 → key < 2 ^ 32 → length es < 2 ^ 32 → skip < 2 ^ 32
+      → Small (nodeWords (s .variables) xs pw tag key skip es)
   unfolding nodeWords
   node-small tag key skip es a b c d =
-      small-cons a (small-cons b (small-cons c (small-cons d (small-cons (mask-small (s .variables) xs (gcdPowers pw es)) (slot-small (s .variables) (gcdOf pw es) (gcd-words (s .variables) pw P es))))))
+      small-cons a (small-cons b (small-cons c
+      (small-cons d (small-cons (mask-small (s .variables) xs (gcdPowers pw es)) (slot-small (s .variables) (gcdOf pw es) (gcd-words (s .variables) pw P es))))))
 
   tree-small : (t : Tree) → walk.Ordered s pw lb t → nodes t < 2 ^ 32 → length (inorder t) < 2 ^ 32 → Small (treeWords (s .variables) xs pw t)
   unfolding treeWords walk.Ordered
@@ -83,7 +88,8 @@ module _ (s : Shape) (xs : List ℕ) (pw : ℕ → ℕ → ℕ) (lb : ℕ → �
   tree-small (branch d key l r) o n c =
       let nb = nodes-branch d key l r in
       let la = length-append (inorder l) (inorder r) in
-      small-append (node-small (suc d) key (nodes l) (inorder l ++ inorder r) (omega (arith, o .0 .dim, R .kind-to, R .vars-to)) (key-small d key (inorder l) (inorder r) (o .0)) c (omega arith))
+      small-append (node-small (suc d) key (nodes l) (inorder l ++ inorder r) (omega (arith, o .0 .dim, R .kind-to, R .vars-to))
+      (key-small d key (inorder l) (inorder r) (o .0)) c (omega arith))
       (small-append (tree-small l (o .1 .0) (omega arith) (omega arith)) (tree-small r (o .1 .1) (omega arith) (omega arith)))
 
 maxima-small : (m : ℕ) (xs : List ℕ) → Maxima m xs → Small xs
@@ -130,15 +136,19 @@ module _ (st : State) (val : Valid st) where
       let f = valid-fits st val in
       let n : length es ≤ 4096 = omega (arith, val .few, val .cap-to) in
       let d : nodes (st .tree) < 2 ^ 32 = omega (arith, f .nodes-to, val .cap-to) in
-      small-append (small-cons (omega arith) (small-cons (omega (arith, code-small (st .kind))) (small-cons (omega (arith, val .map-good .few)) (small-cons (omega (arith, val .cap-to)) (small-cons (omega arith) (small-cons d (small-zeros at.kept)))))))
+      small-append (small-cons (omega arith) (small-cons (omega (arith, code-small (st .kind)))
+      (small-cons (omega (arith, val .map-good .few)) (small-cons (omega (arith, val .cap-to)) (small-cons (omega arith) (small-cons d (small-zeros at.kept)))))))
       (small-append (maxima-small (st .variables) (st .maxima) (val .maxima-good))
       (small-append (maxima-small (st .variables) (st .mapMaxima) (val .map-good))
-      (small-append (small-table (length es) _ (λ i h. entry-small (st .kind) (st .variables) (st .mapMaxima) (st .labels) (entryAt es i) (val .map-good .few) (val .canonical i h) (row-small i h)))
+      (small-append (small-table (length es) _
+      (λ i h. entry-small (st .kind) (st .variables) (st .mapMaxima) (st .labels) (entryAt es i) (val .map-good .few) (val .canonical i h) (row-small i h)))
       (small-append (small-zeros _)
-      (small-append (small-each (inorder (st .tree)) (λ i h. omega (arith, once-below (inorder (st .tree)) (length es) (val .once) _ (get-in (inorder (st .tree)) i h))))
+      (small-append (small-each (inorder (st .tree))
+      (λ i h. omega (arith, once-below (inorder (st .tree)) (length es) (val .once) _ (get-in (inorder (st .tree)) i h))))
       (small-append (small-zeros _)
       (small-append (labels-small (st .kind) (st .labels) (val .labels-valid))
-      (small-append (tree-small s (st .mapMaxima) (powerIn es) (λ e. labelOf (st .labels) (ratioOf (entryAt es e))) range (state-powers st val) (st .tree) ordered d (omega (arith, val .size)))
+      (small-append (tree-small s (st .mapMaxima) (powerIn es) (λ e. labelOf (st .labels) (ratioOf (entryAt es e))) range (state-powers st val)
+      (st .tree) ordered d (omega (arith, val .size)))
       (small-zeros _)))))))))
 
   pub encode-small : Words (encode st)
@@ -155,5 +165,6 @@ module _ (st : State) (val : Valid st) where
       }
 
 -- the image of an opening's state is sound
-pub opened-sound : (k : Kind) (m c : ℕ) (xs bs : List ℕ) → Maxima m xs → 1 ≤ c → c ≤ 4096 → 4 * at.size (shapeOf (opened k m c xs)) ≤ length bs → Sound (pasteW bs 0 (encode (opened k m c xs)))
+pub opened-sound : (k : Kind) (m c : ℕ) (xs bs : List ℕ) → Maxima m xs → 1 ≤ c → c ≤ 4096 → 4 * at.size (shapeOf (opened k m c xs)) ≤ length bs
+    → Sound (pasteW bs 0 (encode (opened k m c xs)))
 opened-sound k m c xs bs good one few h = record { state = opened k m c xs; is = pasted (opened k m c xs) (opening-valid k m c xs good one few) bs h }

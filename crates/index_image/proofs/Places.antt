@@ -25,8 +25,8 @@ module _ (W : List ℕ) (s : Shape) (R : Ready W s) where
 
   pub label-fits : s .kind ≡ 1 → (x : ℕ) → x < s .capacity → at.labelAt s x < length W
   label-fits k x h =
-      let e : s .kind * (4 + s .capacity * (s .variables + 3) + s .capacity) ≡ 4 + s .capacity * (s .variables + 3) + s .capacity = rw k (one-mul _) in
-      omega (arith, R .room, row-fits x (s .capacity) (s .variables + 3) h)
+      let e : at.labelsSize s ≡ labels.size (s .variables) (s .capacity) = rw k (one-mul _) in
+      omega (arith, R .room, row-fits x (s .capacity) (at.labelRowWidth (s .variables)) h)
 
   pub node-fits : (k : ℕ) → k < s .nodes → at.nodeAt s k + at.nodeWidth (s .variables) ≤ length W
   node-fits k h = omega (arith, R .room, row-fits k (2 * s .capacity - 1) (at.nodeWidth (s .variables)) (omega (arith, r .nodes-to)))
@@ -40,7 +40,8 @@ pub record EntryAt (W : List ℕ) (s : Shape) (lo i x : ℕ) : Type 0 where
   pub is : x ≡ getD W (at.permutationAt s + lo + i) 0
   pub small : x < s .entries
 
-pub entry-at-place : (W : List ℕ) (s : Shape) → Ready W s → (lo i p x : ℕ) → p ≡ at.permutationAt s + (lo + i) → lo + i < s .entries → x ≡ getD W p 0 → EntryAt W s lo i x
+pub entry-at-place : (W : List ℕ) (s : Shape) → Ready W s → (lo i p x : ℕ) → p ≡ at.permutationAt s + (lo + i) → lo + i < s .entries → x ≡ getD W p 0
+    → EntryAt W s lo i x
 entry-at-place W s R lo i p x ep h ex =
     let e : at.permutationAt s + (lo + i) ≡ at.permutationAt s + lo + i = omega arith in
     record { is = ex ∙ rw (ep, e); small = rw (ex, ep) (R .places (lo + i) h) }

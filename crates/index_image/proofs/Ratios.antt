@@ -3,7 +3,7 @@ use mathlib.Core.Path.{_≡_, refl, sym, ap, _∙_}
 use mathlib.Core.Bool.{Bool, true}
 use mathlib.Core.List.{List, _++_}
 use mathlib.Core.Logic.{_↔_}
-use Prim.Native.Nat.{ℕ, _+_, _-_, _*_, _%_, _≤_}
+use Prim.Native.Nat.{ℕ, _+_, _-_, _*_, _≤_}
 use native.Mathlib.Omega.{arith}
 use lib.ListN.{length, getD, take, drop, take-append-drop, length-drop}
 use lib.Seq.{getD-drop, drop-drop, length-take-le}
@@ -31,7 +31,8 @@ pub record Lent (bs ws : List ℕ) : Type 0 where
   pub starts : Starts 1 4096 (words bs)
   pub is : first 1 (words bs) ≡ ws
 
-lent-slot : (bs : List ℕ) (m g x : ℕ) → x ≡ 4 * g → (front 1 m 0 (drop g (words bs)) ≡ 0 → ⊥) → Lent (rest bs x) (part (words bs) g (front 1 m 0 (drop g (words bs))))
+lent-slot : (bs : List ℕ) (m g x : ℕ) → x ≡ 4 * g → (front 1 m 0 (drop g (words bs)) ≡ 0 → ⊥)
+    → Lent (rest bs x) (part (words bs) g (front 1 m 0 (drop g (words bs))))
 lent-slot bs m g x e h =
     let st : Starts 1 m (drop g (words bs)) = record { some = h } in
     let w : words (rest bs x) ≡ drop g (words bs) = rest-words bs x g e in
@@ -56,7 +57,8 @@ row-value W s j r e =
     rw (getD-drop (at.labelsAt s) W a 0, drop-drop (a + 1) (at.labelsAt s) W, q, ← e)
 
 -- the signature monomial and lm of an entry are canonical
-pub parts-canonical : (W : List ℕ) (s : Shape) (i : ℕ) → s .variables ≤ 64 → RatioReady W s i → Canonical 1 (s .variables) (signIn W s i) × Canonical 1 (s .variables) (lmIn W s i)
+pub parts-canonical : (W : List ℕ) (s : Shape) (i : ℕ) → s .variables ≤ 64 → RatioReady W s i
+    → Canonical 1 (s .variables) (signIn W s i) × Canonical 1 (s .variables) (lmIn W s i)
 unfolding signIn lmIn slotIn
 parts-canonical W s i few n = (
   slot-canonical W (s .variables) (at.signAt s i) (omega arith) (n .sign),
@@ -85,77 +87,103 @@ module _ (m : ℕ) (A B : List ℕ) (few : m ≤ 64) (ca : Canonical 1 m A) (cb 
           let l : length (result Op.Ratio A B) ≡ front 2 m 0 D = ap length (sym e) ∙ length-take-le (front 2 m 0 D) D (omega (arith, front-short 2 m 0 D)) in
           rw l e
 
-module _ (bs : List ℕ) (s : Shape) (i r x y : ℕ) (few : s .variables ≤ 64) (n : RatioReady (words bs) s i)
-    (er : r ≡ at.labelsAt s + labels.rowAt (s .variables) (rowIn (words bs) s i))
-    (ex : x ≡ getD (words bs) (at.indexAt s i) 0) (ey : y ≡ getD (words bs) r 0) where
+-- what is read of entry i before its ratio is compared: the word e that it starts at, the row r of the label map that it names, and both index words
+pub record Read (bs : List ℕ) (s : Shape) (i e r x y : ℕ) : Type 0 where
+  pub few : s .variables ≤ 64
+  pub ready : RatioReady (words bs) s i
+  pub entry : e ≡ at.entryAt s i
+  pub row : r ≡ at.labelsAt s + labels.rowAt (s .variables) (rowIn (words bs) s i)
+  pub index : x ≡ getD (words bs) (at.indexAt s i) 0
+  pub index-of-row : y ≡ getD (words bs) r 0
+
+module _ {bs : List ℕ} {s : Shape} {i e r x y : ℕ} (k : Read bs s i e r x y) where
+  abbrev W : List ℕ
+  W = words bs
+
+  abbrev m : ℕ
+  m = s .variables
+
+  abbrev sign : List ℕ
+  sign = signIn W s i
+
+  abbrev lm : List ℕ
+  lm = lmIn W s i
+
+  abbrev place : ℕ
+  place = labels.rowAt m (rowIn W s i)
+
+  -- the row's ratio, and whether the row has the entry's
+  abbrev ratio : List ℕ
+  ratio = part W (r + 1) (front 2 m 0 (drop (r + 1) W))
+
+  abbrev Same : Type 0
+  Same = rowValue W s (rowIn W s i) ≡ quotientOf (indexIn W s i) sign lm
+
+  can : Canonical 1 m sign × Canonical 1 m lm
+  can = parts-canonical W s i (k .few) (k .ready)
+
+  value : rowValue W s (rowIn W s i) ≡ record { index = payload (getD W r 0); ratio = ratio }
+  value = row-value W s (rowIn W s i) r (k .row)
+
   -- both index words are of kind 3, so they are the same where their payloads are
   kinds : (kind x ≡ 3) × (kind y ≡ 3)
-  kinds = (
-    rw ex (n .kinded),
-    rw (ey, er) (rw (getD-drop (at.labelsAt s) (words bs) (labels.rowAt (s .variables) (rowIn (words bs) s i)) 0) at (n .row-ok .kinded)),
-  )
+  kinds = (rw (k .index) (k .ready .kinded), rw (k .index-of-row, k .row) (rw (getD-drop (at.labelsAt s) W place 0) at (k .ready .row-ok .kinded)))
 
-  pub other-index : (x ≡ y → ⊥) → rowValue (words bs) s (rowIn (words bs) s i) ≡ quotientOf (indexIn (words bs) s i) (signIn (words bs) s i) (lmIn (words bs) s i) → ⊥
+  pub other-index : (x ≡ y → ⊥) → Same → ⊥
   unfolding quotientOf
-  other-index h e =
-      let p = ap (λ (v : map.Value). v .index) (sym (row-value (words bs) s (rowIn (words bs) s i) r er) ∙ e) in
-      h (omega (arith, kinds .0, kinds .1, ap (λ (w : ℕ). w % 268435456) ex, ap (λ (w : ℕ). w % 268435456) ey))
+  other-index h q =
+      let p = ap (λ (v : map.Value). v .index) (sym value ∙ q) in
+      h (omega (arith, kinds .0, kinds .1, ap payload (k .index), ap payload (k .index-of-row)))
 
-  pub same-ratio : x ≡ y → (equal (result Op.Ratio (signIn (words bs) s i) (lmIn (words bs) s i)) (part (words bs) (r + 1) (front 2 (s .variables) 0 (drop (r + 1) (words bs)))) ≡ true)
-      ↔ (rowValue (words bs) s (rowIn (words bs) s i) ≡ quotientOf (indexIn (words bs) s i) (signIn (words bs) s i) (lmIn (words bs) s i))
+  same-ratio : x ≡ y → (equal (result Op.Ratio sign lm) ratio ≡ true) ↔ Same
   unfolding quotientOf
   same-ratio h =
-      let v = row-value (words bs) s (rowIn (words bs) s i) r er in
-      let p : payload (getD (words bs) r 0) ≡ indexIn (words bs) s i = ap (λ (w : ℕ). w % 268435456) (sym ey ∙ sym h ∙ ex) in
-      let R = part (words bs) (r + 1) (front 2 (s .variables) 0 (drop (r + 1) (words bs))) in (
-        λ (e : equal (result Op.Ratio (signIn (words bs) s i) (lmIn (words bs) s i)) R ≡ true).
-            v ∙ (λ j. record { index = p j; ratio = sym (equal-iff _ R .0 e) j }),
-        λ (e : rowValue (words bs) s (rowIn (words bs) s i) ≡ record { index = indexIn (words bs) s i; ratio = result Op.Ratio (signIn (words bs) s i) (lmIn (words bs) s i) }).
-            equal-iff _ R .1 (sym (ap (λ (v : map.Value). v .ratio) (sym v ∙ e))),
+      let p : payload (getD W r 0) ≡ indexIn W s i = ap payload (sym (k .index-of-row) ∙ sym h ∙ k .index) in (
+        λ (q : equal (result Op.Ratio sign lm) ratio ≡ true). value ∙ (λ j. record { index = p j; ratio = sym (equal-iff _ ratio .0 q) j }),
+        λ (q : rowValue W s (rowIn W s i) ≡ record { index = indexIn W s i; ratio = result Op.Ratio sign lm }).
+            equal-iff _ ratio .1 (sym (ap (λ (v : map.Value). v .ratio) (sym value ∙ q))),
       )
 
   -- as it is compared while it is merged
-  pub by-merge : x ≡ y → (t : Bool) → (t ≡ true) ↔ HasRatio (signIn (words bs) s i) (lmIn (words bs) s i) (drop (r + 1) (words bs))
-      → (t ≡ true) ↔ (rowValue (words bs) s (rowIn (words bs) s i) ≡ quotientOf (indexIn (words bs) s i) (signIn (words bs) s i) (lmIn (words bs) s i))
+  by-merge : x ≡ y → (t : Bool) → (t ≡ true) ↔ HasRatio sign lm (drop (r + 1) W) → (t ≡ true) ↔ Same
   unfolding part
-  by-merge h t e =
-      let q : at.labelsAt s + (labels.rowAt (s .variables) (rowIn (words bs) s i) + 1) ≡ r + 1 = omega (arith, er) in
-      let some : front 2 (s .variables) 0 (drop (r + 1) (words bs)) ≡ 0 → ⊥ =
-      rw (drop-drop (labels.rowAt (s .variables) (rowIn (words bs) s i) + 1) (at.labelsAt s) (words bs), q) at (n .row-ok .some) in
-      let can = parts-canonical (words bs) s i few n in
-      let f = front-ratio (s .variables) (signIn (words bs) s i) (lmIn (words bs) s i) few (can .0) (can .1) (drop (r + 1) (words bs)) some in
+  by-merge h t q =
+      let next : at.labelsAt s + (place + 1) ≡ r + 1 = omega (arith, k .row) in
+      let some : front 2 m 0 (drop (r + 1) W) ≡ 0 → ⊥ = rw (drop-drop (place + 1) (at.labelsAt s) W, next) at (k .ready .row-ok .some) in
+      let f = front-ratio m sign lm (k .few) (can .0) (can .1) (drop (r + 1) W) some in
       let g = same-ratio h in
-      let k = equal-iff (result Op.Ratio (signIn (words bs) s i) (lmIn (words bs) s i)) (part (words bs) (r + 1) (front 2 (s .variables) 0 (drop (r + 1) (words bs)))) in (
-        λ (z : t ≡ true). g .0 (k .1 (sym (f .0 (e .0 z)))),
-        λ z. e .1 (f .1 (sym (k .0 (g .1 z)))),
-      )
+      let eq = equal-iff (result Op.Ratio sign lm) ratio in
+      (λ (z : t ≡ true). g .0 (eq .1 (sym (f .0 (q .0 z)))), λ z. q .1 (f .1 (sym (eq .0 (g .1 z)))))
 
   -- what is lent to the comparison, and what its answer says
-  module _ (e : ℕ) (ee : e ≡ at.entryAt s i) where
-    abbrev m : ℕ
-    m = s .variables
+  abbrev sign-lent-at : List ℕ
+  sign-lent-at = rest bs (4 * at.signFrom m e)
 
-    sl : Lent (rest bs (4 * (e + (m + 4)))) (signIn (words bs) s i)
-    sl = sign-lent bs s i n (4 * (e + (m + 4))) (omega arith)
+  abbrev lm-lent-at : List ℕ
+  lm-lent-at = rest bs (4 * e)
 
-    ll : Lent (rest bs (4 * e)) (lmIn (words bs) s i)
-    ll = lm-lent bs s i n (4 * e) (omega arith)
+  abbrev row-lent-at : List ℕ
+  row-lent-at = rest bs (4 * (r + 1))
 
-    pub record Asks : Type 0 where
-      pub sign-starts : Starts 1 4096 (words (rest bs (4 * (e + (s .variables + 4)))))
-      pub lm-starts : Starts 1 4096 (words (rest bs (4 * e)))
-      pub fits : 4 * length (result Op.Ratio (first 1 (words (rest bs (4 * (e + (s .variables + 4)))))) (first 1 (words (rest bs (4 * e))))) ≤ length (rest bs (4 * (r + 1)))
+  sl : Lent sign-lent-at sign
+  sl = sign-lent bs s i (k .ready) (4 * at.signFrom m e) (omega (arith, k .entry))
 
-    pub asks : 4 * at.labelAt s (rowIn (words bs) s i) ≤ length bs → Asks
-    asks room =
-        let can = parts-canonical (words bs) s i few n in
-        let l : length (rest bs (4 * (r + 1))) ≡ length bs - 4 * (r + 1) = ap length (rest-is bs (4 * (r + 1))) ∙ length-drop (4 * (r + 1)) bs in
-        record {
-          sign-starts = sl .starts;
-          lm-starts = ll .starts;
-          fits = rw (sl .is, ll .is) (omega (arith, l, er, ratio-short m (signIn (words bs) s i) (lmIn (words bs) s i) few (can .0) (can .1)));
-        }
+  ll : Lent lm-lent-at lm
+  ll = lm-lent bs s i (k .ready) (4 * e) (omega (arith, k .entry))
 
-    pub answered : x ≡ y → (t : Bool) → (t ≡ true) ↔ HasRatio (first 1 (words (rest bs (4 * (e + (s .variables + 4)))))) (first 1 (words (rest bs (4 * e)))) (words (rest bs (4 * (r + 1))))
-        → (t ≡ true) ↔ (rowValue (words bs) s (rowIn (words bs) s i) ≡ quotientOf (indexIn (words bs) s i) (signIn (words bs) s i) (lmIn (words bs) s i))
-    answered h t q = by-merge h t (rw (sl .is, ll .is, rest-words bs (4 * (r + 1)) (r + 1) refl) at q)
+  pub record Asks : Type 0 where
+    pub sign-starts : Starts 1 4096 (words sign-lent-at)
+    pub lm-starts : Starts 1 4096 (words lm-lent-at)
+    pub fits : 4 * length (result Op.Ratio (first 1 (words sign-lent-at)) (first 1 (words lm-lent-at))) ≤ length row-lent-at
+
+  pub asks : 4 * at.labelAt s (rowIn W s i) ≤ length bs → Asks
+  asks room =
+      let l : length row-lent-at ≡ length bs - 4 * (r + 1) = ap length (rest-is bs (4 * (r + 1))) ∙ length-drop (4 * (r + 1)) bs in
+      record {
+        sign-starts = sl .starts;
+        lm-starts = ll .starts;
+        fits = rw (sl .is, ll .is) (omega (arith, l, k .row, ratio-short m sign lm (k .few) (can .0) (can .1)));
+      }
+
+  pub answered : x ≡ y → (t : Bool) → (t ≡ true) ↔ HasRatio (first 1 (words sign-lent-at)) (first 1 (words lm-lent-at)) (words row-lent-at) → (t ≡ true) ↔ Same
+  answered h t q = by-merge h t (rw (sl .is, ll .is, rest-words bs (4 * (r + 1)) (r + 1) refl) at q)

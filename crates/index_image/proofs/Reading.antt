@@ -16,6 +16,7 @@ use Rattle.monomial.specs.declared.ordered_ops.Op.the-variants.{Gcd}
 use Rattle.monomial.proofs.Canon.{front-short}
 use Rattle.monomial.proofs.Powers.{canonical-length}
 use Rattle.monomial.proofs.Laws.{canonical-more, result-small, length-result, gcd-divided}
+use Rattle.fast_compare.specs.Layout as labels
 use Rattle.index_image.specs.declared.Shape.{Shape}
 use Rattle.index_image.specs.Shape as at
 use Rattle.index_image.specs.Layout.{gcdOf}
@@ -55,10 +56,6 @@ pub front-words : (bs : List ℕ) (n : ℕ) → words (take (4 * n) bs) ≡ part
 unfolding part
 front-words bs n = words-take bs n
 
-pub part-words : (bs : List ℕ) (a m k : ℕ) → k ≡ 4 * m → words (take k (drop (4 * a) bs)) ≡ part (words bs) a m
-unfolding part
-part-words bs a m k e = words-part bs a m k e
-
 -- ---- the gcd of two monomials in at most 64 variables
 module _ (a b : List ℕ) (ca : Canonical 1 64 a) (cb : Canonical 1 64 b) where
   pub gcd-fits : length (result Gcd a b) ≤ 65
@@ -79,8 +76,8 @@ gcd-held acc n b by room ca cb d =
     rw e (record { long = sym (length-part (words acc) 0 n (omega (arith, length-words acc))); kept = sym (paste-own acc n by room) })
 
 -- ---- one entry
-pub label-at : (W : List ℕ) (s : Shape) (e a r l x : ℕ) → a ≡ at.entryAt s e → r ≡ getD W (a + (2 * s .variables + 7)) 0 → l ≡ at.labelsAt s
-    → x ≡ getD W (l + (4 + r * (s .variables + 3) + (s .variables + 2))) 0 → x ≡ label W s e
+pub label-at : (W : List ℕ) (s : Shape) (e a r l x : ℕ) → a ≡ at.entryAt s e → r ≡ getD W (at.rowFrom (s .variables) a) 0 → l ≡ at.labelsAt s
+    → x ≡ getD W (l + (labels.rowAt (s .variables) r + at.labelIn (s .variables))) 0 → x ≡ label W s e
 unfolding label
 label-at W s e a r l x ea er el ex = ex ∙ rw (el, er, ea)
 
@@ -136,7 +133,8 @@ module _ (W : List ℕ) (s : Shape) (R : Ready W s) where
         }
 
     -- one more
-    pub fold-more : (acc : List ℕ) (n i : ℕ) → Folding W s q c acc n i → i < c → e ≡ getD W (q + i) 0 → (acc′ ws : List ℕ) (n′ : ℕ) → length acc′ ≡ 260 → ws ≡ lmIn W s e
+    pub fold-more : (acc : List ℕ) (n i : ℕ) → Folding W s q c acc n i → i < c → e ≡ getD W (q + i) 0 → (acc′ ws : List ℕ) (n′ : ℕ)
+        → length acc′ ≡ 260 → ws ≡ lmIn W s e
         → n′ ≡ length (result Gcd (part (words acc) 0 n) ws) → acc′ ≡ pasteW acc 0 (result Gcd (part (words acc) 0 n) ws) → Folding W s q c acc′ n′ (i + 1)
     fold-more acc n i f h ee acc′ ws n′ l′ ew en ea =
         let A = part (words acc) 0 n in
@@ -144,7 +142,9 @@ module _ (W : List ℕ) (s : Shape) (R : Ready W s) where
         let cb : Canonical 1 64 ws = lm-64 ws ew in
         let li : length (part W q i) ≡ i = length-part W q i (omega (arith, f .to)) in
         let pa : part (words acc′) 0 n′ ≡ result Gcd A ws = rw ea (pasted acc (result Gcd A ws) n′ (gcd-small A ws ca cb) en) in
-        let ga : result Gcd A ws ≡ gcdOf (power W s) (part W q i ++ e ∷ []) = rw (f .is, ew) (gcd-more (s .variables) (power W s) P (part W q i) e (lmIn W s e) (omega (arith, f .from)) (lm-canonical W s e some) (λ v. lm-powers W s v e)) in
+        let ga : result Gcd A ws ≡ gcdOf (power W s) (part W q i ++ e ∷ []) =
+        rw (f .is, ew) (gcd-more (s .variables) (power W s) P (part W q i) e (lmIn W s e) (omega (arith, f .from)) (lm-canonical W s e some)
+        (λ v. lm-powers W s v e)) in
         let sn : part W q (i + 1) ≡ part W q i ++ (e ∷ []) = part-snoc W q i (omega arith) ∙ rw ee in
         record {
           from = omega arith;

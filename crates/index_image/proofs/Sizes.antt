@@ -4,7 +4,7 @@ use Prim.Native.Nat.{ℕ, zero, suc, _+_, _-_, _*_, _≤_}
 use native.Mathlib.Omega.{arith}
 use native.Mathlib.Nat.{mul-le-mul, add-mul, mul-add, mul-comm}
 use Rattle.fast_compare.specs.Layout as labels
-use Rattle.index_image.specs.Shape.{widthOf, nodeWidth}
+use Rattle.index_image.specs.Shape.{maskedWidth, widthOf, nodeWidth}
 use Rattle.index_image.specs.Size.{LengthOk}
 
 module _ (m c : ℕ) where
@@ -17,18 +17,18 @@ module _ (m c : ℕ) where
 
   nodes : (2 * c - 1) * nodeWidth m ≤ c * m + c * m + c * 12
   nodes =
-      let most : (2 * c - 1) * (m + 6) ≤ (c + c) * (m + 6) = mul-le-mul (omega arith) (omega arith) in
-      omega (arith, most, add-mul c c (m + 6), row 6)
+      let most : (2 * c - 1) * nodeWidth m ≤ (c + c) * nodeWidth m = mul-le-mul (omega arith) (omega arith) in
+      omega (arith, most, add-mul c c (nodeWidth m), row 6)
 
   entries : (kind : ℕ) → kind ≤ 1 → c * widthOf kind m ≤ c * m + c * m + c * 8
   entries kind h =
-      let wide : (kind + 1) * (m + 3) ≤ 2 * (m + 3) = mul-le-mul (omega arith) (omega arith) in
+      let wide : (kind + 1) * maskedWidth m ≤ 2 * maskedWidth m = mul-le-mul (omega arith) (omega arith) in
       let most : c * widthOf kind m ≤ c * ((m + 4) + (m + 4)) = mul-le-mul (omega arith) (omega arith) in
       omega (arith, most, mul-add c (m + 4) (m + 4), row 4)
 
   label-map : (kind : ℕ) → kind ≤ 1 → kind * labels.size m c ≤ labels.size m c
   label-map kind h =
-      let most : kind * (4 + c * (m + 3) + c) ≤ 1 * (4 + c * (m + 3) + c) = mul-le-mul h (omega arith) in
+      let most : kind * labels.size m c ≤ 1 * labels.size m c = mul-le-mul h (omega arith) in
       omega arith
 
 pub length-ok : (kind m c : ℕ) → kind ≤ 1 → 1 ≤ m → 1 ≤ c → LengthOk kind m c

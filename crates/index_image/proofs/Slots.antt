@@ -11,7 +11,8 @@ use lib.Seq.{take-at, length-take-le, take-all}
 use Rattle.words.proofs.Answers.{test}
 use Rattle.words.specs.Words.{words, bytes, pasteW}
 use Rattle.words.specs.Tables.{part, zeros}
-use Rattle.words.proofs.Laws.{words-part, words-drop, length-words, length-pasteW, pasteW-front, length-bytes, words-bytes}
+use Rattle.words.proofs.Laws.{words-drop, length-words, length-pasteW, pasteW-front, length-bytes, words-bytes}
+use Rattle.words.proofs.Drafts.{part-of}
 use Rattle.monomial.specs.Monomial.{front, Canonical, pow}
 use Rattle.monomial.proofs.Canon.{front-short}
 use Rattle.monomial.proofs.Powers.{canonical-length}
@@ -37,11 +38,6 @@ module _ (W : List ℕ) (m i : ℕ) (few : m ≤ 4096) (some : slotLength W m i 
 
   pub slot-short : slotLength W m i ≤ slotWidth m
   slot-short = omega (arith, slot-length, canonical-length 1 m (slotIn W m i) (omega arith) few slot-canonical)
-
--- the words of a part that is handed on
-pub part-words : (bs : List ℕ) (a n k : ℕ) → k ≡ 4 * n → words (take k (drop (4 * a) bs)) ≡ part (words bs) a n
-unfolding part
-part-words bs a n k e = words-part bs a n k e
 
 -- the bytes from x on, as they are lent
 abbrev pub rest : List ℕ → ℕ → List ℕ
@@ -87,7 +83,7 @@ masked-iff W m xs i n x y e some rest small ex ey =
     (λ s. ex′ ∙ rw (s .masked, s .vectored, ← e) (sym ey))
 
 pub range-words : (bs : List ℕ) (a n : ℕ) → words (take (4 * a + 4 * n - 4 * a) (drop (4 * a) bs)) ≡ part (words bs) a n
-range-words bs a n = part-words bs a n (4 * a + 4 * n - 4 * a) (omega arith)
+range-words bs a n = part-of bs a n (4 * a + 4 * n - 4 * a) (omega arith)
 
 -- ---- an operation's words, made aside in 65 words
 pub record MadeAside (made ws : List ℕ) (n : ℕ) : Type 0 where

@@ -101,7 +101,8 @@ module _ (W : List ℕ) (s : Shape) (R : at.InRange s) (room : at.size s ≤ len
   row-fits k h = omega (arith, mul-le-mul-right {m = k + 1} {n = 2 * s .capacity - 1} w (omega arith), add-mul k 1 w)
 
   -- ---- the rows of a branch
-  module _ (k lo d key : ℕ) (l r : Tree) (hk : k + suc (nodes l + nodes r) ≤ 2 * s .capacity - 1) (hlo : lo + (length (inorder l) + length (inorder r)) ≤ s .capacity) where
+  module _ (k lo d key : ℕ) (l r : Tree) (hk : k + suc (nodes l + nodes r) ≤ 2 * s .capacity - 1)
+      (hlo : lo + (length (inorder l) + length (inorder r)) ≤ s .capacity) where
     next : at.nodeAt s k + w ≡ at.nodeAt s (k + 1)
     next = let e : k + 1 ≡ suc k = omega arith in rw e (omega (arith, suc-mul k w))
 
@@ -134,7 +135,8 @@ module _ (W : List ℕ) (s : Shape) (R : at.InRange s) (room : at.size s ≤ len
         let nl = treeWords m xs pw l in
         let nr = treeWords m xs pw r in
         let rr = nodeWords m xs pw (suc d) key (nodes l) (inorder l ++ inorder r) in
-        let a = part-append W (at.nodeAt s k) w (nodes l * w + nodes r * w) rr (nl ++ nr) row-in (length-row m xs pw P (suc d) key (nodes l) (inorder l ++ inorder r)) .0 (rw all-rows at (t .rows)) in
+        let a = part-append W (at.nodeAt s k) w (nodes l * w + nodes r * w) rr (nl ++ nr) row-in
+        (length-row m xs pw P (suc d) key (nodes l) (inorder l ++ inorder r)) .0 (rw all-rows at (t .rows)) in
         let b = part-append W (at.nodeAt s (k + 1)) (nodes l * w) (nodes r * w) nl nr less-in (length-tree m xs pw P l) .0 (rw next at (a .1)) in
         let la = length-append (inorder l) (inorder r) in
         let p = part-append W (at.permutationAt s + lo) (length (inorder l)) (length (inorder r)) (inorder l) (inorder r) perm-in refl .0 (rw la at (t .perm)) in
@@ -152,11 +154,13 @@ module _ (W : List ℕ) (s : Shape) (R : at.InRange s) (room : at.size s ≤ len
         let nr = treeWords m xs pw r in
         let rr = nodeWords m xs pw (suc d) key (nodes l) (inorder l ++ inorder r) in
         let b = part-append W (at.nodeAt s (k + 1)) (nodes l * w) (nodes r * w) nl nr less-in (length-tree m xs pw P l) .1 (t .one .rows, rw nexts (t .two .rows)) in
-        let a = part-append W (at.nodeAt s k) w (nodes l * w + nodes r * w) rr (nl ++ nr) row-in (length-row m xs pw P (suc d) key (nodes l) (inorder l ++ inorder r)) .1
+        let a = part-append W (at.nodeAt s k) w (nodes l * w + nodes r * w) rr (nl ++ nr) row-in
+        (length-row m xs pw P (suc d) key (nodes l) (inorder l ++ inorder r)) .1
         (row-iff m xs pw P W (at.nodeAt s k) (suc d) key (nodes l) (inorder l ++ inorder r) row-in .1 (t .here), rw next b) in
         let la = length-append (inorder l) (inorder r) in
         let ep : at.permutationAt s + lo + length (inorder l) ≡ at.permutationAt s + (lo + length (inorder l)) = omega arith in
-        let p = part-append W (at.permutationAt s + lo) (length (inorder l)) (length (inorder r)) (inorder l) (inorder r) perm-in refl .1 (t .one .perm, rw ep (t .two .perm)) in
+        let p = part-append W (at.permutationAt s + lo) (length (inorder l)) (length (inorder r)) (inorder l) (inorder r) perm-in refl .1
+        (t .one .perm, rw ep (t .two .perm)) in
         record { rows = rw all-rows a; perm = rw la p }
 
   -- ---- a leaf is its row
@@ -164,7 +168,8 @@ module _ (W : List ℕ) (s : Shape) (R : at.InRange s) (room : at.size s ≤ len
   unfolding treeWords nodes
   leaf-row k lo es t h = row-iff m xs pw P W (at.nodeAt s k) 0 0 0 es (row-fits k h) .0 (rw (one-mul w) at (t .rows))
 
-  pub row-leaf : (k lo : ℕ) (es : List ℕ) → k < 2 * s .capacity - 1 → RowIs W (s .variables) xs pw (at.nodeAt s k) 0 0 0 es → part W (at.permutationAt s + lo) (length es) ≡ es → Stands W s xs pw k lo (leaf es)
+  pub row-leaf : (k lo : ℕ) (es : List ℕ) → k < 2 * s .capacity - 1 → RowIs W (s .variables) xs pw (at.nodeAt s k) 0 0 0 es
+      → part W (at.permutationAt s + lo) (length es) ≡ es → Stands W s xs pw k lo (leaf es)
   unfolding treeWords nodes
   row-leaf k lo es h r p = record { rows = rw (one-mul w) (row-iff m xs pw P W (at.nodeAt s k) 0 0 0 es (row-fits k h) .1 r); perm = p }
 

@@ -54,7 +54,8 @@ module _ (m : ℕ) (xs : List ℕ) (pw : ℕ → ℕ → ℕ) (few : m ≤ 64) (
         dim = omega arith;
         key = ap (λ (x : List ℕ). getD x (keyAt 0) 0) e;
         skip = ap (λ (x : List ℕ). getD x (skipAt 0) 0) e;
-        sides = same-right (nodeWords m xs pw (suc d) k (nodes l) (inorder l ++ inorder r)) (rows l ++ rows r) (nodeWords m xs pw (suc d′) k′ (nodes l′) (inorder l′ ++ inorder r′)) (rows l′ ++ rows r′) (a ∙ sym b) e;
+        sides = same-right (nodeWords m xs pw (suc d) k (nodes l) (inorder l ++ inorder r)) (rows l ++ rows r)
+            (nodeWords m xs pw (suc d′) k′ (nodes l′) (inorder l′ ++ inorder r′)) (rows l′ ++ rows r′) (a ∙ sym b) e;
       }
 
   leaf-tag : (es : List ℕ) → getD (rows (leaf es)) (tagAt 0) 0 ≡ 0
@@ -90,7 +91,8 @@ entry-eq : (x y : Entry) → x .number ≡ y .number → x .index ≡ y .index �
 entry-eq x y a b c d = λ i. record { number = a i; index = b i; sign = c i; lm = d i }
 
 -- index and signature monomial of an entry, by its kind
-signs-eq : (k : Kind) (x y : Entry) → OfKind k x → OfKind k y → (k ≡ ratioed → (x .index ≡ y .index) × (x .sign ≡ y .sign)) → (x .index ≡ y .index) × (x .sign ≡ y .sign)
+signs-eq : (k : Kind) (x y : Entry) → OfKind k x → OfKind k y → (k ≡ ratioed → (x .index ≡ y .index) × (x .sign ≡ y .sign))
+    → (x .index ≡ y .index) × (x .sign ≡ y .sign)
 signs-eq monomials x y a b h = (a .0 ∙ sym (b .0), a .1 ∙ sym (b .1))
 signs-eq ratioed x y a b h = h refl
 

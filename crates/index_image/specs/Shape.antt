@@ -64,10 +64,20 @@ maskedWidth m = m + 3
 
 -- an entry: its lm, masked; in a ratio index also index, signature monomial, masked, and the row of its ratio in the label map
 abbrev pub widthOf : ℕ → ℕ → ℕ
-widthOf kind m = (kind + 1) * (m + 3) + 2 * kind
+widthOf kind m = (kind + 1) * maskedWidth m + 2 * kind
 
 abbrev pub entryWidth : Shape → ℕ
 entryWidth s = widthOf (s .kind) (s .variables)
+
+-- where index, signature monomial and row of the entry at word `at` stand
+abbrev pub indexFrom : ℕ → ℕ → ℕ
+indexFrom m at = at + (m + 3)
+
+abbrev pub signFrom : ℕ → ℕ → ℕ
+signFrom m at = at + (m + 4)
+
+abbrev pub rowFrom : ℕ → ℕ → ℕ
+rowFrom m at = at + (2 * m + 7)
 
 abbrev pub entriesAt : ℕ → ℕ
 entriesAt m = headerWidth + 2 * m
@@ -79,13 +89,13 @@ abbrev pub lmAt : Shape → ℕ → ℕ
 lmAt s e = entryAt s e
 
 abbrev pub indexAt : Shape → ℕ → ℕ
-indexAt s e = entryAt s e + (s .variables + 3)
+indexAt s e = indexFrom (s .variables) (entryAt s e)
 
 abbrev pub signAt : Shape → ℕ → ℕ
-signAt s e = entryAt s e + (s .variables + 4)
+signAt s e = signFrom (s .variables) (entryAt s e)
 
 abbrev pub rowAt : Shape → ℕ → ℕ
-rowAt s e = entryAt s e + (2 * s .variables + 7)
+rowAt s e = rowFrom (s .variables) (entryAt s e)
 
 -- ---- the places of the entries in the order of the leaves; in a ratio index the image of the label map
 abbrev pub permutationAt : Shape → ℕ
@@ -97,9 +107,16 @@ labelsAt s = permutationAt s + s .capacity
 abbrev pub labelsSize : Shape → ℕ
 labelsSize s = s .kind * labels.size (s .variables) (s .capacity)
 
+-- a row of the label map, index, ratio and label, and the place of the label in it
+abbrev pub labelRowWidth : ℕ → ℕ
+labelRowWidth m = m + 3
+
+abbrev pub labelIn : ℕ → ℕ
+labelIn m = m + 2
+
 -- the label of row j of the label map
 abbrev pub labelAt : Shape → ℕ → ℕ
-labelAt s j = labelsAt s + (labels.rowAt (s .variables) j + (s .variables + 2))
+labelAt s j = labelsAt s + (labels.rowAt (s .variables) j + labelIn (s .variables))
 
 abbrev pub rowsCountAt : Shape → ℕ
 rowsCountAt s = labelsAt s + 3

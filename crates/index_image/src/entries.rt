@@ -58,7 +58,7 @@ fn agrees(w: u32, v: u32, p: u32) -> bool
     if p == 32768 {
         return true;
     }
-    w == 536870912 + (65536 * v + p)
+    w == words::ratio_word(v, p)
 }
 
 // The place behind word n, where there is a word for the power.
@@ -89,7 +89,7 @@ fn is_ratio(a: &[u8], b: &[u8], c: &[u8]) -> bool
         }
         let q = monomial::ordered_ops::power_at(y, u, 0);
         let p = monomial::ordered_ops::power_at(x, u, 0) + 32768 - q;
-        if !agrees(w, u % 4096, p) {
+        if !agrees(w, words::upper_id(u), p) {
             return false;
         }
         n = place_after(n, p);
@@ -132,7 +132,7 @@ fn ratio_ok(image: &[u8], s: Shape, table: &[u8], limit: u32, i: usize) -> bool
 {
     let m = s.variables;
     let e = s.entry_at(i);
-    if words::get(image, e + (m + fields::INDEX)) / 268435456 != 3 {
+    if words::kind(words::get(image, e + (m + fields::INDEX))) != 3 {
         return false;
     }
     if !masked_slot(

@@ -58,11 +58,21 @@ empty-valid s R = record {
   labelled = record { distinct = λ i j h. absurd (omega arith); rising = λ i j h. absurd (omega arith); small = λ i h. absurd (omega arith) };
 }
 
-labels-are : (bs : List ℕ) (s : Shape) → at.InRange s → 4 * at.size s ≤ length bs → (k : Kind) → s .kind ≡ code k → LabelsOk bs s → (l : map.State) × LabelsAre (words bs) s k l
+labels-are : (bs : List ℕ) (s : Shape) → at.InRange s → 4 * at.size s ≤ length bs → (k : Kind) → s .kind ≡ code k → LabelsOk bs s
+    → (l : map.State) × LabelsAre (words bs) s k l
 unfolding labelWords
 labels-are bs s R room monomials e ok =
-    let z : at.labelsSize s ≡ 0 = rw e (zero-mul (labels.size (s .variables) (s .capacity))) in
-    (map.empty (s .variables) (s .capacity), record { valid = empty-valid s R; vars = refl; cap = refl; are = ap (part (words bs) (at.labelsAt s)) z ∙ part-nil (words bs) (at.labelsAt s); none = λ _. refl })
+    let z : at.labelsSize s ≡ 0 = rw e (zero-mul (labels.size (s .variables) (s .capacity))) in (
+      map.empty (s .variables) (s .capacity),
+      record {
+        valid = empty-valid s R;
+        vars = refl;
+        cap = refl;
+        are = ap (part (words bs) (at.labelsAt s)) z
+            ∙ part-nil (words bs) (at.labelsAt s);
+        none = λ _. refl;
+      },
+    )
 labels-are bs s R room ratioed e ok =
     let q = map-of bs s R room e (ok e) in
     (ok e .state, record { valid = q .valid; vars = q .vars; cap = q .cap; are = q .is; none = λ z. no-ratio (sym z) })
@@ -132,7 +142,8 @@ module _ (bs : List ℕ) (s : Shape) (R : at.InRange s) (room : 4 * at.size s �
   of-kind monomials i = (refl, refl)
   of-kind ratioed i = tt
 
-  label-is : (k : Kind) → s .kind ≡ code k → (l : map.State) → LabelsAre W s k l → k ≡ ratioed → (i : ℕ) → i < n → label W s i ≡ labelOf l (ratioOf (readEntry W s k i))
+  label-is : (k : Kind) → s .kind ≡ code k → (l : map.State) → LabelsAre W s k l → k ≡ ratioed → (i : ℕ) → i < n
+      → label W s i ≡ labelOf l (ratioOf (readEntry W s k i))
   label-is monomials e l L z i h = no-ratio z
   label-is ratioed e l L z i h =
       let r = ratio-row e l L i h in
@@ -270,11 +281,13 @@ module _ (bs : List ℕ) (s : Shape) (R : at.InRange s) (room : 4 * at.size s �
       maxima = refl;
       map = refl;
       entries = moved W entries-are refl (ap (λ (x : ℕ). length (entries k) * at.widthOf x m) ek);
-      entries-rest = moved-zeros W (T .entries .rest) (ap (λ (x : Shape). at.entryAt x (x .entries)) (sym same)) (ap (λ (x : Shape). (x .capacity - x .entries) * at.entryWidth x) (sym same));
+      entries-rest = moved-zeros W (T .entries .rest) (ap (λ (x : Shape). at.entryAt x (x .entries)) (sym same))
+          (ap (λ (x : Shape). (x .capacity - x .entries) * at.entryWidth x) (sym same));
       permutation = moved W leaves-are (ap at.permutationAt (sym same)) (sym (count-is k));
       permutation-rest = moved-zeros W (T .permutation .rest) (ap (λ (x : Shape). at.permutationAt x + x .entries) (sym same)) (rw (count-is k));
       labels = moved W (L .are) (ap at.labelsAt (sym same)) (ap at.labelsSize (sym same));
-      nodes-are = moved W (T .nodes-ok .is .stands .rows ∙ tree-words-ext m (mapMaxima W s) (power W s) (powerIn (entries k)) t powers) (let z : at.nodeAt s 0 ≡ at.nodesAt s = omega arith in z ∙ ap at.nodesAt (sym same)) refl;
+      nodes-are = moved W (T .nodes-ok .is .stands .rows ∙ tree-words-ext m (mapMaxima W s) (power W s) (powerIn (entries k)) t powers)
+          (let z : at.nodeAt s 0 ≡ at.nodesAt s = omega arith in z ∙ ap at.nodesAt (sym same)) refl;
       nodes-rest = moved-zeros W (T .nodes-ok .rest) (ap (λ (x : Shape). at.nodeAt x (x .nodes)) (sym same)) (rw (T .nodes-ok .rows));
     }
       where

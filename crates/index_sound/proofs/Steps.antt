@@ -102,7 +102,7 @@ module _ (bs : List ℕ) (s : Shape) (R : at.InRange s) (room : 4 * at.size s �
   )
 
   pub rows-can : s .kind ≡ 1 → Tables (words bs) s → EntriesOk (words bs) s
-      → (e w rows : ℕ) → e ≡ at.entryAt s 0 → w ≡ at.entryWidth s → rows ≡ rowsIn (words bs) s → CanMark bs (e + (2 * s .variables + 7)) w (s .entries) rows
+      → (e w rows : ℕ) → e ≡ at.entryAt s 0 → w ≡ at.entryWidth s → rows ≡ rowsIn (words bs) s → CanMark bs (at.rowFrom (s .variables) e) w (s .entries) rows
   rows-can k t es e w rows ee ew er = (
     (omega (arith, R .few, R .cap-to), (omega (arith, width-small s R), (omega (arith, R .vars-to), omega (arith, t .few k, R .cap-to)))),
     (
@@ -115,7 +115,7 @@ module _ (bs : List ℕ) (s : Shape) (R : at.InRange s) (room : 4 * at.size s �
 
 -- each row of the label map is named
 pub rows-is : (W : List ℕ) (s : Shape) (e w rows : ℕ) (r : Bool) → s .kind ≡ 1 → e ≡ at.entryAt s 0 → w ≡ at.entryWidth s → rows ≡ rowsIn W s
-    → (r ≡ true) ↔ ((j : ℕ) → j < rows → Named W (e + (2 * s .variables + 7)) w (s .entries) j) → (r ≡ true) ↔ RowsNamed W s
+    → (r ≡ true) ↔ ((j : ℕ) → j < rows → Named W (at.rowFrom (s .variables) e) w (s .entries) j) → (r ≡ true) ↔ RowsNamed W s
 rows-is W s e w rows r k ee ew er h = last r (rw (ee, ew, er) at h) (λ x q. x) (λ f. f k)
 
 -- ---- the bounds at the root are above everything

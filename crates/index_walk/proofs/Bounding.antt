@@ -2,11 +2,11 @@
 use mathlib.Core.Path.{_≡_, refl}
 use mathlib.Core.List.{List, _∷_}
 use mathlib.Core.Logic.{_⊎_, inl, inr, _↔_}
-use Prim.Native.Nat.{ℕ, zero, suc, _+_, _/_, _≤_, _<_}
+use Prim.Native.Nat.{ℕ, zero, suc, _+_, _≤_, _<_}
 use native.Mathlib.Omega.{arith}
 use native.Mathlib.Decide.{ℕ-discrete, decLe}
 use lib.ListN.{length, getD}
-use Rattle.words.specs.Kinds.{ident, power as powerIn}
+use Rattle.words.specs.Kinds.{kind, ident, power as powerIn}
 use Rattle.words.specs.Tables.{part}
 use Rattle.words.proofs.Tables.{part-nil, part-cons}
 use Rattle.monomial.specs.Monomial.{Canonical, pow}
@@ -33,8 +33,8 @@ passing {m} A H h c = record {
   passed = λ v l k. absurd (omega arith);
 }
 
-module _ (m : ℕ) (A H : List ℕ) (some : (v : ℕ) → v < m → 1 ≤ getD H v 0) (i : ℕ) (s : Passing m A H i) (w : ℕ) (e : w ≡ getD A i 0) where
-  pub all-passed : w / 65536 ≡ 0 → (v : ℕ) → v < m → pow 1 A v < getD H v 0
+module _ {m : ℕ} {A H : List ℕ} (some : (v : ℕ) → v < m → 1 ≤ getD H v 0) {i : ℕ} (s : Passing m A H i) {w : ℕ} (e : w ≡ getD A i 0) where
+  pub all-passed : kind w ≡ 0 → (v : ℕ) → v < m → pow 1 A v < getD H v 0
   all-passed h v l = go (word-at (omega arith) w (s .ra) e)
     where
       go : Last 1 A (s .b) w ⊎ Next 1 A i (s .b) w → pow 1 A v < getD H v 0
@@ -46,11 +46,11 @@ module _ (m : ℕ) (A H : List ℕ) (some : (v : ℕ) → v < m → 1 ≤ getD H
     pub is : pow 1 A (ident w) ≡ powerIn w
     pub next : powerIn w < getD H (ident w) 0 → Passing m A H (i + 1)
 
-  pub at-variable : (w / 65536 ≡ 0 → ⊥) → Here
+  pub at-variable : (kind w ≡ 0 → ⊥) → Here
   at-variable h = go (word-at (omega arith) w (s .ra) e)
     where
       go : Last 1 A (s .b) w ⊎ Next 1 A i (s .b) w → Here
-      go (inl z) = absurd (h (z .upper))
+      go (inl z) = absurd (h (omega (arith, z .upper)))
       go (inr z) =
           let u = ident w in
           let k : u < m = omega (arith, z .var .below, s .below) in

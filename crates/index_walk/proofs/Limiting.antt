@@ -81,11 +81,16 @@ module _ (W : List ℕ) (s : Shape) (H : List ℕ) (ll lh i : ℕ) (r : InRange 
         lower : (e : ℕ) → Inside W s (set H (t - 1 - s .kind) x) ll lh e → (u : ℕ) → u < s .variables → power W s u e < getD H u 0
         lower e i u l =
             elim (ℕ-discrete u (t - 1 - s .kind)) [
-              | yes z ↦ rw z (omega (arith, rw (getD-set-same H (t - 1 - s .kind) x 0 (omega (arith, variable-known))) at (i .powers (t - 1 - s .kind) variable-known)))
+              | yes z ↦ rw z (omega (
+                arith,
+                rw (getD-set-same H (t - 1 - s .kind) x 0 (omega (arith, variable-known))) at
+                    (i .powers (t - 1 - s .kind) variable-known),
+              ))
               | no z ↦ rw (getD-set-other H (t - 1 - s .kind) u x 0 z) at (i .powers u l)
             ]
 
-        raise : (e : ℕ) → Inside W s H ll lh e → power W s (t - 1 - s .kind) e < getD W (keyAt i) 0 → (u : ℕ) → u < s .variables → power W s u e < getD (set H (t - 1 - s .kind) x) u 0
+        raise : (e : ℕ) → Inside W s H ll lh e → power W s (t - 1 - s .kind) e < getD W (keyAt i) 0 → (u : ℕ) → u < s .variables
+            → power W s u e < getD (set H (t - 1 - s .kind) x) u 0
         raise e i b u l =
             elim (ℕ-discrete u (t - 1 - s .kind)) [
               | yes z ↦ rw (z, getD-set-same H (t - 1 - s .kind) x 0 (omega (arith, variable-known))) (omega (arith, i .powers (t - 1 - s .kind) variable-known))

@@ -56,15 +56,24 @@ module _ (W : List ℕ) (s : Shape) (H : List ℕ) (ll lh e : ℕ) (ws : List �
 -- ---- the gcd of two rows
 pub slots-gcd : (W : List ℕ) (m a b : ℕ) → m ≤ 64 → Slots W m a b → Canonical 1 m (result Gcd (monomialIn W m (gcdAt a)) (monomialIn W m (gcdAt b)))
 slots-gcd W m a b h s =
-    canonical-result m (monomialIn W m (gcdAt a)) (monomialIn W m (gcdAt b)) (in-canonical W m (gcdAt a) (s .one)) (in-canonical W m (gcdAt b) (s .two)) Gcd (omega arith)
+    canonical-result m (monomialIn W m (gcdAt a)) (monomialIn W m (gcdAt b)) (in-canonical W m (gcdAt a) (s .one))
+    (in-canonical W m (gcdAt b) (s .two)) Gcd (omega arith)
     (λ e. absurd (let z : _≡_ {A = ℕ} 0 1 = cc in omega arith))
 
 -- ---- the gcd and mask of a row
-module _ (W : List ℕ) (s : Shape) (i : ℕ) (ws : List ℕ) (few : s .variables ≤ 64) (can : Canonical 1 (s .variables) ws) (fits : i + nodeWidth (s .variables) ≤ length W) where
-  long : length ws ≤ slotWidth (s .variables)
-  long = canonical-length 1 (s .variables) ws (omega arith) (omega (arith, few)) can
+-- what is known of the row at word i before it is compared: x is the mask that stands there, y that of the monomial ws
+pub record RowRead (W : List ℕ) (s : Shape) (i : ℕ) (ws : List ℕ) (x y : ℕ) : Type 0 where
+  pub few : s .variables ≤ 64
+  pub canonical : Canonical 1 (s .variables) ws
+  pub fits : i + nodeWidth (s .variables) ≤ length W
+  pub mask-read : x ≡ getD W (nodeMaskAt i) 0
+  pub mask-made : y ≡ mask (s .variables) (mapMaxima W s) (pow 1 ws)
 
-  pub slot-iff : (n : ℕ) → n ≡ length ws
+module _ {W : List ℕ} {s : Shape} {i : ℕ} {ws : List ℕ} {x y : ℕ} (k : RowRead W s i ws x y) where
+  long : length ws ≤ slotWidth (s .variables)
+  long = canonical-length 1 (s .variables) ws (omega arith) (omega (arith, k .few)) (k .canonical)
+
+  slot-iff : (n : ℕ) → n ≡ length ws
       → (part W (gcdAt i) (slotWidth (s .variables)) ≡ slot (s .variables) ws) ↔ ((part W (gcdAt i) n ≡ ws) × (part W (gcdAt i + n) (slotWidth (s .variables) - n) ≡ zeros (slotWidth (s .variables) - n)))
   unfolding slot
   slot-iff n e =
@@ -74,22 +83,23 @@ module _ (W : List ℕ) (s : Shape) (i : ℕ) (ws : List ℕ) (few : s .variable
         λ h. ap (part W (gcdAt i)) z ∙ j .1 h ∙ rw e,
       )
 
-  module _ (x y : ℕ) (ex : x ≡ getD W (nodeMaskAt i) 0) (ey : y ≡ mask (s .variables) (mapMaxima W s) (pow 1 ws)) where
-    pub other-mask : (x ≡ y → ⊥) → (false ≡ true) ↔ NodeOk W s i ws
-    other-mask h = refuse (λ o. h (ex ∙ o .masked ∙ sym ey))
+  pub other-mask : (x ≡ y → ⊥) → (false ≡ true) ↔ NodeOk W s i ws
+  other-mask h = refuse (λ o. h (k .mask-read ∙ o .masked ∙ sym (k .mask-made)))
 
-    module _ (n : ℕ) (en : n ≡ length ws) (u : List ℕ) (eu : u ≡ part W (gcdAt i) n) (t : Bool) (et : t ≡ equal u ws) where
-      same : (t ≡ true) ↔ (part W (gcdAt i) n ≡ ws)
-      same = rw (et, eu) (equal-iff (part W (gcdAt i) n) ws)
+  -- u are the words in the gcd's slot, as many as ws
+  module _ (n : ℕ) (en : n ≡ length ws) {u : List ℕ} (eu : u ≡ part W (gcdAt i) n) (t : Bool) (et : t ≡ equal u ws) where
+    same : (t ≡ true) ↔ (part W (gcdAt i) n ≡ ws)
+    same = rw (et, eu) (equal-iff (part W (gcdAt i) n) ws)
 
-      pub other-words : not t ≡ true → (false ≡ true) ↔ NodeOk W s i ws
-      other-words h = refuse (λ o. failed t same h (slot-iff n en .0 (o .gcd) .0))
+    pub other-words : not t ≡ true → (false ≡ true) ↔ NodeOk W s i ws
+    other-words h = refuse (λ o. failed t same h (slot-iff n en .0 (o .gcd) .0))
 
-      pub by-zeros : x ≡ y → not t ≡ false → (b : Bool) → (b ≡ true) ↔ (part W (gcdAt i + n) (slotWidth (s .variables) - n) ≡ zeros (slotWidth (s .variables) - n)) → (b ≡ true) ↔ NodeOk W s i ws
-      by-zeros e h b q = (
-        λ (z : b ≡ true). record { masked = sym ex ∙ e ∙ ey; gcd = slot-iff n en .1 (passed t same h, q .0 z) },
-        λ o. q .1 (slot-iff n en .0 (o .gcd) .1),
-      )
+    pub by-zeros : x ≡ y → not t ≡ false → (b : Bool) → (b ≡ true) ↔ (part W (gcdAt i + n) (slotWidth (s .variables) - n) ≡ zeros (slotWidth (s .variables) - n))
+        → (b ≡ true) ↔ NodeOk W s i ws
+    by-zeros e h b q = (
+      λ (z : b ≡ true). record { masked = sym (k .mask-read) ∙ e ∙ k .mask-made; gcd = slot-iff n en .1 (passed t same h, q .0 z) },
+      λ o. q .1 (slot-iff n en .0 (o .gcd) .1),
+    )
 
 -- ---- the other side of a branch
 pub other-answer : (W : List ℕ) (s : Shape) (i b t k p : ℕ) → t ≡ getD W (tagAt i) 0 → k ≡ getD W (keyAt i) 0 → (t ≡ s .kind → ⊥)

@@ -38,11 +38,11 @@ fn powers_below(lm: &[u8], variables: usize, hi: &[u8]) -> bool
     let mut i: usize = 0;
     loop {
         let w = words::get(lm, i);
-        if w / 65536 == 0 {
+        if words::is_end(w) {
             return true;
         }
-        let x = words::get(hi, (w / 65536 % 4096) as usize);
-        if x <= w % 65536 {
+        let x = words::get(hi, words::id(w) as usize);
+        if x <= words::power(w) {
             return false;
         }
         i += 1;

@@ -26,7 +26,7 @@ pub enum Division {
 }
 
 // Whether w is a variable's word of the kind, its id below the bound.
-fn is_variable(w: u32, kind: u32, bound: u32) -> bool
+pub fn is_variable(w: u32, kind: u32, bound: u32) -> bool
     requires { ⌜ (1 ≤ kind) × (kind ≤ 2) ⌝ }
     ensures { λ r. ⌜ r ≡ isVar kind bound w ⌝ }
 {

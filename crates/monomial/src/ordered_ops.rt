@@ -110,7 +110,7 @@ pub fn sum(a: &[u8], b: &[u8], op: Op, out: &mut [u8]) -> usize
             return finish(out, n);
         }
         let p = meet(op, power_at(x, u, 0), power_at(y, u, 0));
-        n = push(out, n, kind, u % 4096, p);
+        n = push(out, n, kind, words::upper_id(u), p);
         i = step(i, x, u);
         j = step(j, y, u);
     }

@@ -21,6 +21,10 @@ power w = w % 65536
 abbrev pub upperHalf : ℕ → ℕ
 upperHalf w = w / 65536
 
+-- the id in an upper half
+abbrev pub upperIdent : ℕ → ℕ
+upperIdent u = u % 4096
+
 -- the end of a monomial or ratio has kind 0
 abbrev pub isEnd : ℕ → Bool
 isEnd w = eqb (kind w) 0

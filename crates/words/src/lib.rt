@@ -68,6 +68,13 @@ pub fn upper_half(w: u32) -> u32
     w / 65536
 }
 
+// The id in an upper half.
+pub fn upper_id(u: u32) -> u32
+    ensures { λ r. ⌜ r ≡ kinds.upperIdent u ⌝ }
+{
+    u % 4096
+}
+
 // Whether w ends a monomial or ratio.
 pub fn is_end(w: u32) -> bool
     ensures { λ r. ⌜ r ≡ kinds.isEnd w ⌝ }

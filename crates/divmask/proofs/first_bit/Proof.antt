@@ -13,7 +13,10 @@ mul-result c = let h : (c .args .v) * (c .args .whole) ≤ 64 * 32 = mul-le-mul 
 
 -- src/lib.rt:34:5
 add-result : tie.Need-add-result
-add-result c = let h : (c .before .before .args .v) * (c .before .before .args .whole) ≤ 64 * 32 = mul-le-mul (c .before .before .pre .1) (c .before .before .pre .0) in ⊎-elim (λ w. omega arith) (λ w. omega arith) (c .before .if1 .came)
+add-result c =
+    let start = c .before .before in
+    let h : start .args .v * start .args .whole ≤ 64 * 32 = mul-le-mul (start .pre .1) (start .pre .0) in
+    ⊎-elim (λ w. omega arith) (λ w. omega arith) (c .before .if1 .came)
 
 -- src/lib.rt:30:1
 returns : tie.Need-returns

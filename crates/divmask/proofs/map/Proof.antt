@@ -49,12 +49,17 @@ variable c =
     let loop = c .before .before .before .loop in
     step (loop .inv) (seen _ (loop .inv .ra) (c .before .before .get .ensures)) (is-end-false _ (c .before .is-end .ensures) (c .if1 .left))
 
-stepped-at : (c : tie.After-first-bit Inv-loop μ-loop) → Added (c .before .before .before .before .before .before .before .before .before) (c .first-bit .result) (c .before .field .result)
+stepped-at : (c : tie.After-first-bit Inv-loop μ-loop)
+    → Added (c .before .before .before .before .before .before .before .before .before) (c .first-bit .result) (c .before .field .result)
 stepped-at c =
+    let id = c .before .before .before .before .before .id in
+    let get2 = c .before .before .before .before .get2 in
+    let bits-of = c .before .before .before .bits-of in
     let b = c .before .before .before .before .before .before in
     let loop = b .before .before .before .loop in
-    stepped (loop .inv) (seen _ (loop .inv .ra) (b .before .before .get .ensures)) (is-end-false _ (b .before .is-end .ensures) (b .if1 .left))
-    (c .before .before .before .before .before .id .ensures) (c .before .before .power .ensures) (c .before .before .before .before .get2 .ensures) (c .before .before .before .bits-of .ensures) (c .before .field .ensures) (c .first-bit .ensures)
+    stepped (loop .inv) (seen _ (loop .inv .ra) (b .before .before .get .ensures))
+    (is-end-false _ (b .before .is-end .ensures) (b .if1 .left)) (id .ensures) (c .before .before .power .ensures) (get2 .ensures)
+    (bits-of .ensures) (c .before .field .ensures) (c .first-bit .ensures)
 
 -- end of helpers
 

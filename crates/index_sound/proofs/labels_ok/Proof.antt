@@ -50,7 +50,12 @@ sound-for-requires c κs = search needs
 
 -- src/lib.rt:44:1
 returns-2 : tie.Need-returns-2
-returns-2 c = labels-is (c .before .before .before .before .before .before .before .args .image .now) (c .before .before .before .before .before .before .before .args .s) _ _ _ (is-ratio (c .before .before .before .before .before .before .before .args .s) (c .before .before .before .before .before .before .before .pre .0) (c .before .before .before .before .if1 .left)) (c .before .before .before .labels-at .ensures) (c .before .before .labels-size .ensures) (c .sound-for .ensures)
+returns-2 c =
+    let start = c .before .before .before .before .before .before .before in
+    let if1 = c .before .before .before .before .if1 in
+    let labels-at = c .before .before .before .labels-at in
+    labels-is (start .args .image .now) (start .args .s) _ _ _ (is-ratio (start .args .s) (start .pre .0) (if1 .left)) (labels-at .ensures)
+    (c .before .before .labels-size .ensures) (c .sound-for .ensures)
 
 pub labels-ok-spec : {M : Type 1} → statement M
 labels-ok-spec =

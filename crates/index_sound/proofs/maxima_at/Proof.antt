@@ -40,7 +40,9 @@ maxima-good-requires c κs = search needs
 
 -- src/lib.rt:21:1
 returns : tie.Need-returns
-returns c = maxima-is (c .before .before .before .args .image .now) (c .before .before .before .args .i) (c .before .before .before .args .variables) _ (c .before .before .before .pre .1) (c .maxima-good .ensures)
+returns c =
+    maxima-is (c .before .before .before .args .image .now) (c .before .before .before .args .i) (c .before .before .before .args .variables) _
+    (c .before .before .before .pre .1) (c .maxima-good .ensures)
 
 pub maxima-at-spec : {M : Type 1} → statement M
 maxima-at-spec =

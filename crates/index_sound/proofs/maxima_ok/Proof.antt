@@ -24,7 +24,8 @@ maxima-at-requires-2 c κs = search needs
 
 -- src/lib.rt:31:1
 returns-2 : tie.Need-returns-2
-returns-2 c = last _ (c .maxima-at2 .ensures) (λ x. record { present = passed _ (c .before .before .maxima-at .ensures) (c .before .if1 .left); map = x }) (λ x. x .map)
+returns-2 c =
+    last _ (c .maxima-at2 .ensures) (λ x. record { present = passed _ (c .before .before .maxima-at .ensures) (c .before .if1 .left); map = x }) (λ x. x .map)
 
 pub maxima-ok-spec : {M : Type 1} → statement M
 maxima-ok-spec =

@@ -19,7 +19,10 @@ node-at-requires c κs = search needs
 
 -- src/lib.rt:119:26
 add-get : tie.Need-add-get
-add-get c = omega (arith, nodes-rest (c .before .before .args .image .now) (c .before .before .args .s) (c .before .before .pre) .first, c .node-at .ensures, nodes-rest (c .before .before .args .image .now) (c .before .before .args .s) (c .before .before .pre) .small)
+add-get c =
+    let start = c .before .before in
+    let k = nodes-rest (start .args .image .now) (start .args .s) (start .pre) in
+    omega (arith, k .first, c .node-at .ensures, k .small)
 
 -- src/lib.rt:119:8
 get-requires : tie.Need-get-requires
@@ -31,7 +34,11 @@ cast-if1 c = search needs
 
 -- src/lib.rt:120:9
 returns : tie.Need-returns
-returns c = no-tree (words (c .before .before .before .before .before .args .image .now)) (c .before .before .before .before .before .args .s) (c .before .before .before .before .before .pre) _ (c .before .before .get .ensures ∙ rw (c .before .before .before .node-at .ensures)) (c .if1 .taken)
+returns c =
+    let start = c .before .before .before .before .before in
+    let node-at = c .before .before .before .node-at in
+    no-tree (words (start .args .image .now)) (start .args .s) (start .pre) _ (c .before .before .get .ensures ∙ rw (node-at .ensures))
+    (c .if1 .taken)
 
 -- src/lib.rt:122:17
 mul-rest : tie.Need-mul-rest
@@ -51,7 +58,9 @@ add-rest c = search needs
 
 -- src/lib.rt:122:16
 mul-rest-2 : tie.Need-mul-rest-2
-mul-rest-2 c = omega (arith, nodes-rest (c .before .before .before .before .before .before .before .before .args .image .now) (c .before .before .before .before .before .before .before .before .args .s) (c .before .before .before .before .before .before .before .before .pre) .fits)
+mul-rest-2 c =
+    let start = c .before .before .before .before .before .before .before .before in
+    omega (arith, nodes-rest (start .args .image .now) (start .args .s) (start .pre) .fits)
 
 -- src/lib.rt:123:38
 node-at-requires-2 : tie.Need-node-at-requires-2
@@ -59,7 +68,9 @@ node-at-requires-2 c κs = search needs
 
 -- src/lib.rt:123:9
 is-blank-requires : tie.Need-is-blank-requires
-is-blank-requires c κs = omega (arith, nodes-rest (c .before .before .before .before .before .before .before .before .before .args .image .now) (c .before .before .before .before .before .before .before .before .before .args .s) (c .before .before .before .before .before .before .before .before .before .pre) .room, c .node-at2 .ensures)
+is-blank-requires c κs =
+    let start = c .before .before .before .before .before .before .before .before .before in
+    omega (arith, nodes-rest (start .args .image .now) (start .args .s) (start .pre) .room, c .node-at2 .ensures)
 
 -- src/lib.rt:124:9
 returns-2 : tie.Need-returns-2
@@ -71,7 +82,16 @@ tree-rows-requires c κs = search needs
 
 -- src/lib.rt:115:1
 returns-3 : tie.Need-returns-3
-returns-3 c = tree-is (words (c .before .before .before .before .before .before .before .before .before .before .before .before .before .args .image .now)) (c .before .before .before .before .before .before .before .before .before .before .before .before .before .args .s) (c .before .before .before .before .before .before .before .before .before .before .before .before .before .pre) _ _ (c .before .tree-rows .ensures) (c .before .before .before .before .before .before .before .before .before .before .get .ensures ∙ rw (c .before .before .before .before .before .before .before .before .before .before .before .node-at .ensures)) (c .before .before .before .before .before .before .before .before .if1 .left) (passed _ (rw (c .before .before .before .before .node-at2 .ensures) at (c .before .before .before .is-blank .ensures)) (c .before .before .if2 .left))
+returns-3 c =
+    let start = c .before .before .before .before .before .before .before .before .before .before .before .before .before in
+    let node-at = c .before .before .before .before .before .before .before .before .before .before .before .node-at in
+    let get = c .before .before .before .before .before .before .before .before .before .before .get in
+    let if1 = c .before .before .before .before .before .before .before .before .if1 in
+    let node-at2 = c .before .before .before .before .node-at2 in
+    let is-blank = c .before .before .before .is-blank in
+    tree-is (words (start .args .image .now)) (start .args .s) (start .pre) _ _ (c .before .tree-rows .ensures)
+    (get .ensures ∙ rw (node-at .ensures)) (if1 .left)
+    (passed _ (rw (node-at2 .ensures) at (is-blank .ensures)) (c .before .before .if2 .left))
 
 pub nodes-ok-spec : {M : Type 1} → statement M
 nodes-ok-spec =

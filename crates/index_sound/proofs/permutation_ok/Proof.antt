@@ -24,7 +24,10 @@ returns c = stop _ (rw (c .before .before .permutation-at .ensures) at (c .befor
 
 -- src/lib.rt:68:9
 all-named-requires : tie.Need-all-named-requires
-all-named-requires c κs = places-can (c .before .before .before .before .args .image .now) (c .before .before .before .before .args .s) (c .before .before .before .before .pre .0) (c .before .before .before .before .pre .1) _ (c .before .before .permutation-at .ensures) (passed _ (c .before .in-range .ensures) (c .if1 .left))
+all-named-requires c κs =
+    let start = c .before .before .before .before in
+    places-can (start .args .image .now) (start .args .s) (start .pre .0) (start .pre .1) _ (c .before .before .permutation-at .ensures)
+    (passed _ (c .before .in-range .ensures) (c .if1 .left))
 
 -- src/lib.rt:69:9
 returns-2 : tie.Need-returns-2
@@ -44,7 +47,18 @@ is-blank-requires c κs = search needs
 
 -- src/lib.rt:58:1
 returns-3 : tie.Need-returns-3
-returns-3 c = last _ (rw (c .before .before .before .before .before .before .permutation-at .ensures) at (c .is-blank .ensures)) (λ x. record { places = passed _ (rw (c .before .before .before .before .before .before .permutation-at .ensures) at (c .before .before .before .before .before .in-range .ensures)) (c .before .before .before .before .if1 .left); all = passed _ (rw (c .before .before .before .before .before .before .permutation-at .ensures) at (c .before .before .before .all-named .ensures)) (c .before .before .if2 .left); rest = x }) (λ x. x .rest)
+returns-3 c =
+    let permutation-at = c .before .before .before .before .before .before .permutation-at in
+    let in-range = c .before .before .before .before .before .in-range in
+    let if1 = c .before .before .before .before .if1 in
+    let all-named = c .before .before .before .all-named in
+    last _ (rw (permutation-at .ensures) at (c .is-blank .ensures))
+    (λ x. record {
+      places = passed _ (rw (permutation-at .ensures) at (in-range .ensures)) (if1 .left);
+      all = passed _ (rw (permutation-at .ensures) at (all-named .ensures)) (c .before .before .if2 .left);
+      rest = x;
+    })
+    (λ x. x .rest)
 
 pub permutation-ok-spec : {M : Type 1} → statement M
 permutation-ok-spec =

@@ -54,11 +54,24 @@ entry-width-requires c κs = search needs
 
 -- src/lib.rt:87:5
 all-named-requires : tie.Need-all-named-requires
-all-named-requires c κs = rows-can (c .before .before .before .before .before .before .before .before .args .image .now) (c .before .before .before .before .before .before .before .before .args .s) (c .before .before .before .before .before .before .before .before .pre .0) (c .before .before .before .before .before .before .before .before .pre .1 .0) (is-ratio (c .before .before .before .before .before .before .before .before .args .s) (c .before .before .before .before .before .before .before .before .pre .0) (c .before .before .before .before .before .if1 .left)) (c .before .before .before .before .before .before .before .before .pre .1 .1 .0) (c .before .before .before .before .before .before .before .before .pre .1 .1 .1) _ _ _ (c .before .before .before .before .entry-at .ensures) (c .entry-width .ensures) (c .before .get .ensures ∙ rw (c .before .before .labels-at .ensures))
+all-named-requires c κs =
+    let start = c .before .before .before .before .before .before .before .before in
+    let if1 = c .before .before .before .before .before .if1 in
+    let entry-at = c .before .before .before .before .entry-at in
+    rows-can (start .args .image .now) (start .args .s) (start .pre .0) (start .pre .1 .0)
+    (is-ratio (start .args .s) (start .pre .0) (if1 .left)) (start .pre .1 .1 .0) (start .pre .1 .1 .1) _ _ _ (entry-at .ensures)
+    (c .entry-width .ensures) (c .before .get .ensures ∙ rw (c .before .before .labels-at .ensures))
 
 -- src/lib.rt:75:1
 returns-2 : tie.Need-returns-2
-returns-2 c = rows-is (words (c .before .before .before .before .before .before .before .before .before .args .image .now)) (c .before .before .before .before .before .before .before .before .before .args .s) _ _ _ _ (is-ratio (c .before .before .before .before .before .before .before .before .before .args .s) (c .before .before .before .before .before .before .before .before .before .pre .0) (c .before .before .before .before .before .before .if1 .left)) (c .before .before .before .before .before .entry-at .ensures) (c .before .entry-width .ensures) (c .before .before .get .ensures ∙ rw (c .before .before .before .labels-at .ensures)) (c .all-named .ensures)
+returns-2 c =
+    let start = c .before .before .before .before .before .before .before .before .before in
+    let if1 = c .before .before .before .before .before .before .if1 in
+    let entry-at = c .before .before .before .before .before .entry-at in
+    let labels-at = c .before .before .before .labels-at in
+    rows-is (words (start .args .image .now)) (start .args .s) _ _ _ _ (is-ratio (start .args .s) (start .pre .0) (if1 .left))
+    (entry-at .ensures) (c .before .entry-width .ensures) (c .before .before .get .ensures ∙ rw (labels-at .ensures))
+    (c .all-named .ensures)
 
 pub rows-named-spec : {M : Type 1} → statement M
 rows-named-spec =

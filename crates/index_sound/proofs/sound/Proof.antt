@@ -21,7 +21,12 @@ enum-known-s c = search needs
 
 -- src/lib.rt:158:27
 tables-ok-requires : tie.Need-tables-ok-requires
-tables-ok-requires c κs = let h = head-is (words (c .before .before .before .before .before .args .image .now)) (length (c .before .before .before .before .before .args .image .now)) _ (c .before .s .given .0 .0) (c .before .s .given .1) (c .before .before .before .read .ensures) in (h .range, h .room)
+tables-ok-requires c κs =
+    let start = c .before .before .before .before .before in
+    let read = c .before .before .before .read in
+    let s = c .before .s in
+    let h = head-is (words (start .args .image .now)) (length (start .args .image .now)) _ (s .given .0 .0) (s .given .1) (read .ensures) in
+    (h .range, h .room)
 
 -- src/lib.rt:159:22
 enum-told : tie.Need-enum-told
@@ -29,7 +34,13 @@ enum-told c = search needs
 
 -- src/lib.rt:154:1
 returns : tie.Need-returns
-returns c = let e = tables-sound (c .before .before .before .before .before .before .args .image .now) (c .before .before .s .given .0 .0) (head-is (words (c .before .before .before .before .before .before .args .image .now)) (length (c .before .before .before .before .before .before .args .image .now)) _ (c .before .before .s .given .0 .0) (c .before .before .s .given .1) (c .before .before .before .before .read .ensures)) in last _ (c .tables-ok .ensures) (e .0) (e .1)
+returns c =
+    let start = c .before .before .before .before .before .before in
+    let read = c .before .before .before .before .read in
+    let s = c .before .before .s in
+    let e = tables-sound (start .args .image .now) (s .given .0 .0)
+    (head-is (words (start .args .image .now)) (length (start .args .image .now)) _ (s .given .0 .0) (s .given .1) (read .ensures)) in
+    last _ (c .tables-ok .ensures) (e .0) (e .1)
 
 -- src/lib.rt:154:1
 returns-2 : tie.Need-returns-2

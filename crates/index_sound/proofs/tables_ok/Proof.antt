@@ -30,7 +30,16 @@ returns-2 c = stop _ (c .before .labels-ok .ensures) (c .if2 .taken) (λ x. x .l
 
 -- src/lib.rt:141:9
 entries-ok-requires : tie.Need-entries-ok-requires
-entries-ok-requires c κs = (c .before .before .before .before .before .pre .0, (c .before .before .before .before .before .pre .1, tables-of (c .before .before .before .before .before .args .image .now) (c .before .before .before .before .before .args .s) (c .before .before .before .before .before .pre .0) (c .before .before .before .before .before .pre .1) (passed _ (c .before .before .before .maxima-ok .ensures) (c .before .before .if1 .left)) (passed _ (c .before .labels-ok .ensures) (c .if2 .left))))
+entries-ok-requires c κs =
+    let start = c .before .before .before .before .before in
+    let maxima-ok = c .before .before .before .maxima-ok in (
+      start .pre .0,
+      (
+        start .pre .1,
+        tables-of (start .args .image .now) (start .args .s) (start .pre .0) (start .pre .1)
+            (passed _ (maxima-ok .ensures) (c .before .before .if1 .left)) (passed _ (c .before .labels-ok .ensures) (c .if2 .left)),
+      ),
+    )
 
 -- src/lib.rt:142:9
 returns-3 : tie.Need-returns-3
@@ -46,7 +55,23 @@ returns-4 c = stop _ (c .before .permutation-ok .ensures) (c .if4 .taken) (λ x.
 
 -- src/lib.rt:147:9
 rows-named-requires : tie.Need-rows-named-requires
-rows-named-requires c κs = (c .before .before .before .before .before .before .before .before .before .pre .0, (c .before .before .before .before .before .before .before .before .before .pre .1, (tables-of (c .before .before .before .before .before .before .before .before .before .args .image .now) (c .before .before .before .before .before .before .before .before .before .args .s) (c .before .before .before .before .before .before .before .before .before .pre .0) (c .before .before .before .before .before .before .before .before .before .pre .1) (passed _ (c .before .before .before .before .before .before .before .maxima-ok .ensures) (c .before .before .before .before .before .before .if1 .left)) (passed _ (c .before .before .before .before .before .labels-ok .ensures) (c .before .before .before .before .if2 .left)), (passed _ (c .before .before .before .entries-ok .ensures) (c .before .before .if3 .left)))))
+rows-named-requires c κs =
+    let start = c .before .before .before .before .before .before .before .before .before in
+    let maxima-ok = c .before .before .before .before .before .before .before .maxima-ok in
+    let if1 = c .before .before .before .before .before .before .if1 in
+    let labels-ok = c .before .before .before .before .before .labels-ok in
+    let if2 = c .before .before .before .before .if2 in
+    let entries-ok = c .before .before .before .entries-ok in (
+      start .pre .0,
+      (
+        start .pre .1,
+        (
+          tables-of (start .args .image .now) (start .args .s) (start .pre .0) (start .pre .1) (passed _ (maxima-ok .ensures) (if1 .left))
+              (passed _ (labels-ok .ensures) (if2 .left)),
+          (passed _ (entries-ok .ensures) (c .before .before .if3 .left)),
+        ),
+      ),
+    )
 
 -- src/lib.rt:148:9
 returns-5 : tie.Need-returns-5
@@ -54,11 +79,41 @@ returns-5 c = stop _ (c .before .rows-named .ensures) (c .if5 .taken) (λ x. x .
 
 -- src/lib.rt:150:5
 nodes-ok-requires : tie.Need-nodes-ok-requires
-nodes-ok-requires c κs = ready-of (c .before .before .before .before .before .before .before .before .before .before .before .args .image .now) (c .before .before .before .before .before .before .before .before .before .before .before .args .s) (c .before .before .before .before .before .before .before .before .before .before .before .pre .0) (c .before .before .before .before .before .before .before .before .before .before .before .pre .1) (tables-of (c .before .before .before .before .before .before .before .before .before .before .before .args .image .now) (c .before .before .before .before .before .before .before .before .before .before .before .args .s) (c .before .before .before .before .before .before .before .before .before .before .before .pre .0) (c .before .before .before .before .before .before .before .before .before .before .before .pre .1) (passed _ (c .before .before .before .before .before .before .before .before .before .maxima-ok .ensures) (c .before .before .before .before .before .before .before .before .if1 .left)) (passed _ (c .before .before .before .before .before .before .before .labels-ok .ensures) (c .before .before .before .before .before .before .if2 .left))) (passed _ (c .before .before .before .before .before .entries-ok .ensures) (c .before .before .before .before .if3 .left)) (passed _ (c .before .before .before .permutation-ok .ensures) (c .before .before .if4 .left))
+nodes-ok-requires c κs =
+    let start = c .before .before .before .before .before .before .before .before .before .before .before in
+    let maxima-ok = c .before .before .before .before .before .before .before .before .before .maxima-ok in
+    let if1 = c .before .before .before .before .before .before .before .before .if1 in
+    let labels-ok = c .before .before .before .before .before .before .before .labels-ok in
+    let if2 = c .before .before .before .before .before .before .if2 in
+    let entries-ok = c .before .before .before .before .before .entries-ok in
+    let if3 = c .before .before .before .before .if3 in
+    let permutation-ok = c .before .before .before .permutation-ok in
+    ready-of (start .args .image .now) (start .args .s) (start .pre .0) (start .pre .1)
+    (tables-of (start .args .image .now) (start .args .s) (start .pre .0) (start .pre .1) (passed _ (maxima-ok .ensures) (if1 .left))
+    (passed _ (labels-ok .ensures) (if2 .left)))
+    (passed _ (entries-ok .ensures) (if3 .left)) (passed _ (permutation-ok .ensures) (c .before .before .if4 .left))
 
 -- src/lib.rt:130:1
 returns-6 : tie.Need-returns-6
-returns-6 c = last _ (c .nodes-ok .ensures) (λ n. record { maxima = (passed _ (c .before .before .before .before .before .before .before .before .before .before .maxima-ok .ensures) (c .before .before .before .before .before .before .before .before .before .if1 .left)); labels = (passed _ (c .before .before .before .before .before .before .before .before .labels-ok .ensures) (c .before .before .before .before .before .before .before .if2 .left)); entries = (passed _ (c .before .before .before .before .before .before .entries-ok .ensures) (c .before .before .before .before .before .if3 .left)); permutation = (passed _ (c .before .before .before .before .permutation-ok .ensures) (c .before .before .before .if4 .left)); named = (passed _ (c .before .before .rows-named .ensures) (c .before .if5 .left)); nodes-ok = n }) (λ x. x .nodes-ok)
+returns-6 c =
+    let maxima-ok = c .before .before .before .before .before .before .before .before .before .before .maxima-ok in
+    let if1 = c .before .before .before .before .before .before .before .before .before .if1 in
+    let labels-ok = c .before .before .before .before .before .before .before .before .labels-ok in
+    let if2 = c .before .before .before .before .before .before .before .if2 in
+    let entries-ok = c .before .before .before .before .before .before .entries-ok in
+    let if3 = c .before .before .before .before .before .if3 in
+    let permutation-ok = c .before .before .before .before .permutation-ok in
+    let if4 = c .before .before .before .if4 in
+    last _ (c .nodes-ok .ensures)
+    (λ n. record {
+      maxima = (passed _ (maxima-ok .ensures) (if1 .left));
+      labels = (passed _ (labels-ok .ensures) (if2 .left));
+      entries = (passed _ (entries-ok .ensures) (if3 .left));
+      permutation = (passed _ (permutation-ok .ensures) (if4 .left));
+      named = (passed _ (c .before .before .rows-named .ensures) (c .before .if5 .left));
+      nodes-ok = n;
+    })
+    (λ x. x .nodes-ok)
 
 pub tables-ok-spec : {M : Type 1} → statement M
 tables-ok-spec =

@@ -20,11 +20,16 @@ array-borrow-prefix-hi c = search needs
 
 -- src/lib.rt:120:30
 slice-aggregate-walk-from-root : tie.Need-slice-aggregate-walk-from-root
-slice-aggregate-walk-from-root c = sym (length-take-le (4 * (c .before .before .before .args .s .variables)) (replicate 256 0) (omega (arith, c .before .before .before .pre .range .vars-to)))
+slice-aggregate-walk-from-root c =
+    sym (length-take-le (4 * (c .before .before .before .args .s .variables)) (replicate 256 0) (omega (arith, c .before .before .before .pre .range .vars-to)))
 
 -- src/lib.rt:120:5
 walk-from-root-requires : tie.Need-walk-from-root-requires
-walk-from-root-requires c κs = (c .before .before .before .pre, length-take-le (4 * (c .before .before .before .args .s .variables)) (replicate 256 0) (omega (arith, c .before .before .before .pre .range .vars-to)))
+walk-from-root-requires c κs = (
+  c .before .before .before .pre,
+  length-take-le (4 * (c .before .before .before .args .s .variables)) (replicate 256 0)
+      (omega (arith, c .before .before .before .pre .range .vars-to)),
+)
 
 -- src/lib.rt:114:1
 returns : tie.Need-returns

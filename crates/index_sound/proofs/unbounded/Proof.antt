@@ -35,7 +35,10 @@ loop-less c = omega arith
 
 -- src/lib.rt:97:5
 loop-again : tie.Need-loop-again Inv-loop μ-loop
-loop-again c = (omega arith, (c .before .before .put .kept .0 ∙ c .before .before .before .before .before .loop .inv .1 .0, bound-more (c .before .before .before .before .before .loop .hi) _ (c .before .before .before .before .before .loop .i) (omega arith) (c .before .before .put .ensures) (c .before .before .before .before .before .loop .inv .1 .1)))
+loop-again c =
+    let loop = c .before .before .before .before .before .loop in
+    let put = c .before .before .put in
+    (omega arith, (put .kept .0 ∙ loop .inv .1 .0, bound-more (loop .hi) _ (loop .i) (omega arith) (put .ensures) (loop .inv .1 .1)))
 
 -- src/lib.rt:91:1
 same-length : tie.Need-same-length Inv-loop μ-loop

@@ -15,7 +15,15 @@ unbounded-requires c κs = search needs
 
 -- src/lib.rt:112:9
 one-row-requires : tie.Need-one-row-requires
-one-row-requires c κs = (c .before .before .before .before .before .before .before .before .before .pre .0, (uppers-of (c .before .before .before .before .before .before .before .before .before .args .s .variables) (c .before .before .before .before .before .before .before .before .before .args .hi .now) _ (c .before .before .before .before .before .before .before .before .before .pre .1) (c .before .before .before .before .before .unbounded .ensures .0) (c .before .before .before .before .before .unbounded .ensures .1), c .before .if1 .taken))
+one-row-requires c κs =
+    let start = c .before .before .before .before .before .before .before .before .before in
+    let unbounded = c .before .before .before .before .before .unbounded in (
+      start .pre .0,
+      (
+        uppers-of (start .args .s .variables) (start .args .hi .now) _ (start .pre .1) (unbounded .ensures .0) (unbounded .ensures .1),
+        c .before .if1 .taken,
+      ),
+    )
 
 -- src/lib.rt:112:9
 same-length : tie.Need-same-length
@@ -23,11 +31,24 @@ same-length c = search needs
 
 -- src/lib.rt:112:9
 returns : tie.Need-returns
-returns c = rooted (c .before .before .before .before .before .before .before .before .before .before .args .image .now) (c .before .before .before .before .before .before .before .before .before .before .args .s) (λ j. (c .before .before .before .before .before .before .before .before .before .shared-slice-known .given) j .fits) _ (λ v h. (c .before .before .before .before .before .before .unbounded .ensures .1) v (omega (arith, c .before .before .before .before .before .before .before .before .before .before .pre .1))) _ (c .one-row .ensures)
+returns c =
+    let start = c .before .before .before .before .before .before .before .before .before .before in
+    let shared-slice-known = c .before .before .before .before .before .before .before .before .before .shared-slice-known in
+    let unbounded = c .before .before .before .before .before .before .unbounded in
+    rooted (start .args .image .now) (start .args .s) (λ j. shared-slice-known .given j .fits) _
+    (λ v h. unbounded .ensures .1 v (omega (arith, start .pre .1))) _ (c .one-row .ensures)
 
 -- src/lib.rt:114:5
 walk-requires : tie.Need-walk-requires
-walk-requires c κs = (c .before .before .before .before .before .before .before .before .before .pre .0, (uppers-of (c .before .before .before .before .before .before .before .before .before .args .s .variables) (c .before .before .before .before .before .before .before .before .before .args .hi .now) _ (c .before .before .before .before .before .before .before .before .before .pre .1) (c .before .before .before .before .before .unbounded .ensures .0) (c .before .before .before .before .before .unbounded .ensures .1), (omega arith, omega arith)))
+walk-requires c κs =
+    let start = c .before .before .before .before .before .before .before .before .before in
+    let unbounded = c .before .before .before .before .before .unbounded in (
+      start .pre .0,
+      (
+        uppers-of (start .args .s .variables) (start .args .hi .now) _ (start .pre .1) (unbounded .ensures .0) (unbounded .ensures .1),
+        (omega arith, omega arith),
+      ),
+    )
 
 -- src/lib.rt:105:1
 same-length-2 : tie.Need-same-length-2
@@ -35,7 +56,12 @@ same-length-2 c = search needs
 
 -- src/lib.rt:105:1
 returns-2 : tie.Need-returns-2
-returns-2 c = rooted (c .before .before .before .before .before .before .before .before .before .before .before .before .args .image .now) (c .before .before .before .before .before .before .before .before .before .before .before .before .args .s) (λ j. (c .before .before .before .before .before .before .before .before .before .before .before .shared-slice-known .given) j .fits) _ (λ v h. (c .before .before .before .before .before .before .before .before .unbounded .ensures .1) v (omega (arith, c .before .before .before .before .before .before .before .before .before .before .before .before .pre .1))) _ (c .before .before .walk .ensures .0)
+returns-2 c =
+    let start = c .before .before .before .before .before .before .before .before .before .before .before .before in
+    let shared-slice-known = c .before .before .before .before .before .before .before .before .before .before .before .shared-slice-known in
+    let unbounded = c .before .before .before .before .before .before .before .before .unbounded in
+    rooted (start .args .image .now) (start .args .s) (λ j. shared-slice-known .given j .fits) _
+    (λ v h. unbounded .ensures .1 v (omega (arith, start .pre .1))) _ (c .before .before .walk .ensures .0)
 
 pub walk-from-root-spec : {M : Type 1} → statement M
 walk-from-root-spec =

@@ -1,14 +1,17 @@
 use native.Mathlib.Omega.{arith}
 use borrow.Author.Needs.{needs}
 use Rattle.words.proofs.Answers.{failed, passed}
-use Rattle.index_walk.proofs.Walks.{no-row, too-many, no-leaf, a-leaf, no-key, no-first, one-is, no-less, no-second, no-branch, two-is, a-branch}
-use mathlib.Core.Path.{refl, sym, ap, _∙_}
+use Rattle.index_walk.proofs.Walks.{Row, Tagged, Less, One, Two, no-row, too-many, no-leaf, a-leaf, no-key, no-first, one-is, no-less, no-second, no-branch, two-is, a-branch}
+use mathlib.Core.Path.{_≡_, refl, sym, ap, _∙_}
 use lib.ListN.{length}
 use Rattle.words.specs.Words.{words}
 use Rattle.words.proofs.Tables.{never}
+use Rattle.index_image.specs.Shape as at
+use Rattle.index_walk.specs.Walked.{Walked}
+use Rattle.index_walk.specs.Tests.{Uppers, KeyIn}
 use Rattle.index_image.proofs.Places.{node-room}
 use Rattle.index_walk.proofs.Uppers.{words-put, uppers-put, put-back}
-use Prim.Native.Nat.{ℕ, _<_}
+use Prim.Native.Nat.{ℕ, _+_, _-_, _*_, _≤_, _<_}
 use borrow.Fn.Kinds.{In}
 use borrow.Fn.PlainCycle.{Measures, is, falls, and}
 use Rattle.index_walk.proofs.walk.Reads as walk
@@ -62,27 +65,175 @@ claims t = (
   over-ok-reads.Learnt,
 )
 
+-- ---- what is known at the places of the walk
+module _ (t : ℕ) where
+  -- the numbers of the header are small
+  numbers : (a : walk-lts.Start (claims t) (walk-at t) walk.Post) → (a .args .s .nodes ≤ 8191) × (a .args .s .entries ≤ 4096)
+  numbers a =
+      let r = a .pre .1 .0 .range in
+      (omega (arith, r .nodes-to, r .cap-to), omega (arith, r .few, r .cap-to))
+
+  -- the row lies within the image
+  room : (c : walk-lts.After-node-at (claims t) (walk-at t) walk.Post)
+      → let start = c .before .before .before .before .before in
+      4 * (c .node-at .result + at.nodeWidth (start .args .s .variables)) ≤ length (start .args .image .now)
+  room c =
+      let start = c .before .before .before .before .before in
+      let fits = node-room (start .args .image .now) (start .args .s) (start .pre .1 .0) (start .args .k) (omega (arith, c .before .if1 .left)) in
+      omega (arith, fits, c .node-at .ensures)
+
+  -- its number of entries, its tag and its key
+  row : (c : walk-lts.After-get (claims t) (walk-at t) walk.Post)
+      → let start = c .before .before .before .before .before .before in
+      Row (start .pre .1 .0) (words (start .args .hi .now)) (start .args .ll) (start .args .lh) (start .args .k) (start .args .lo)
+      (start .args .avail) (c .get .result)
+  row c =
+      let start = c .before .before .before .before .before .before in
+      record { places = start .pre .1 .1 .1 .1; count = rw (c .before .node-at .ensures) at (c .get .ensures) }
+
+  tagged : (c : walk-lts.After-get2 (claims t) (walk-at t) walk.Post)
+      → let start = c .before .before .before .before .before .before .before .before in
+      Tagged (start .pre .1 .0) (words (start .args .hi .now)) (start .args .ll) (start .args .lh) (start .args .k) (start .args .lo)
+      (start .args .avail) (c .before .before .get .result) (c .get2 .result)
+  tagged c = record {
+    row = row (c .before .before);
+    used = omega (arith, c .before .before .before .before .if1 .left);
+    fits = omega (arith, c .before .if2 .left);
+    tag-is = rw (c .before .before .before .node-at .ensures) at (c .get2 .ensures);
+  }
+
+  keyed : (c : walk-lts.Else5 (claims t) (walk-at t) walk.Post)
+      → let start = c .before .before .before .before .before .before .before .before .before .before .before in
+      KeyIn (words (start .args .image .now)) (start .args .s) (c .before .before .before .before .before .before .node-at .result)
+  keyed c = passed (c .before .key-ok .result) (c .before .key-ok .ensures) (c .if5 .left)
+
+  -- the bounds of the less side, which are put back behind it
+  bounds : (c : walk-lts.After-exchange (claims t) (walk-at t) walk.Post)
+      → let key = c .before .before .before .before in
+      let start = key .before .before .before .before .before .before .before .before .before .before .before in
+      Uppers (start .args .s .variables) (c .exchange .last .0)
+  bounds c =
+      let key = c .before .before .before .before in
+      let start = key .before .before .before .before .before .before .before .before .before .before .before in
+      let sides = c .before .before .sides in
+      uppers-put (start .args .s .variables) (start .args .hi .now) (start .pre .1 .1 .0) (sides .result .variable) (sides .result .power)
+      (sides .ensures .known) (sides .ensures .small) (sides .ensures .some) (c .exchange .last .0) (c .exchange .ensures .1)
+
+  kept : (c : walk-lts.After-slice-known4 (claims t) (walk-at t) walk.Post)
+      → let first = c .before .before .before .before .before .before in
+      let key = first .before .before .before .before .before .before .before .before in
+      let start = key .before .before .before .before .before .before .before .before .before .before .before in
+      c .before .before .put .last .0 ≡ start .args .hi .now
+  kept c =
+      let first = c .before .before .before .before .before .before in
+      let key = first .before .before .before .before .before .before .before .before in
+      let start = key .before .before .before .before .before .before .before .before .before .before .before in
+      let sides = first .before .before .before .before .before .before .sides in
+      let exchange = first .before .before .before .before .exchange in
+      let walk = first .walk in
+      let put = c .before .before .put in
+      put-back (start .args .s .variables) (start .args .hi .now) (start .pre .1 .1 .0) (sides .result .variable) (sides .result .power)
+      (sides .ensures .known) (sides .ensures .small)
+      (λ i. omega (arith, key .before .before .before .before .before .before .before .before .before .slice-known .given i)) (walk .last .1 .1 .0) (put .last .0)
+      (exchange .result) (λ i. omega (arith, c .slice-known4 .given i)) (walk .ensures .1 ∙ exchange .ensures .1) (exchange .ensures .0) (put .ensures)
+
+  -- the less side was walked
+  less : (c : walk-lts.After-walk (claims t) (walk-at t) walk.Post)
+      → let key = c .before .before .before .before .before .before .before .before in
+      let start = key .before .before .before .before .before .before .before .before .before .before .before in
+      Less (start .pre .1 .0) (words (start .args .hi .now)) (start .args .ll) (start .args .lh) (start .args .k) (start .args .lo) (start .args .avail)
+      (key .before .before .before .before .before .get .result) (key .before .before .before .get2 .result)
+      (c .before .before .before .before .before .before .sides .result) (c .walk .result)
+  less c =
+      let key = c .before .before .before .before .before .before .before .before in
+      let start = key .before .before .before .before .before .before .before .before .before .before .before in
+      let node-at = key .before .before .before .before .before .before .node-at in
+      let sides = c .before .before .before .before .before .before .sides in
+      let exchange = c .before .before .before .before .exchange in
+      let put = words-put (start .args .s .variables) (start .args .hi .now) (start .pre .1 .1 .0) (sides .result .variable) (sides .result .power)
+      (sides .ensures .known) (sides .ensures .small) (exchange .last .0) (exchange .ensures .1) in
+      record {
+        tagged = tagged (key .before .before .before);
+        no-leaf = key .before .before .if3 .left;
+        key = rw (node-at .ensures) at (keyed key);
+        cut = rw (node-at .ensures) at (sides .ensures);
+        walked = rw put at (c .walk .ensures .0);
+      }
+
+  -- it has a tree, so its numbers are known
+  one : (c : walk-lts.Else6 (claims t) (walk-at t) walk.Post)
+      → let first = c .before .before .before .before .before .before .before in
+      let key = first .before .before .before .before .before .before .before .before in
+      let start = key .before .before .before .before .before .before .before .before .before .before .before in
+      One (start .pre .1 .0) (less first) (omega (arith, c .if6 .left))
+  one c =
+      let first = c .before .before .before .before .before .before .before in
+      let key = first .before .before .before .before .before .before .before .before in
+      let start = key .before .before .before .before .before .before .before .before .before .before .before in
+      one-is (start .pre .1 .0) (less first) (omega (arith, c .if6 .left))
+
+  -- the count that is read again is the same
+  count-same : (c : walk-lts.After-count-at (claims t) (walk-at t) walk.Post)
+      → let less-side = c .before .before .before in
+      let first = less-side .before .before .before .before .before .before .before in
+      let key = first .before .before .before .before .before .before .before .before in
+      c .count-at .result ≡ key .before .before .before .before .before .get .result
+  count-same c =
+      let less-side = c .before .before .before in
+      let first = less-side .before .before .before .before .before .before .before in
+      let key = first .before .before .before .before .before .before .before .before in
+      c .count-at .ensures ∙ sym (row (key .before .before .before .before .before) .count)
+
+  -- the other side was walked
+  other : (c : walk-lts.After-walk2 (claims t) (walk-at t) walk.Post)
+      → let less-side = c .before .before .before .before .before in
+      let first = less-side .before .before .before .before .before .before .before in
+      let key = first .before .before .before .before .before .before .before .before in
+      let start = key .before .before .before .before .before .before .before .before .before .before .before in
+      Walked (words (start .args .image .now)) (start .args .s) (words (start .args .hi .now))
+      (first .before .before .before .before .before .before .sides .result .other) (start .args .lh)
+      (start .args .k + 1 + first .walk .result) (start .args .lo + c .before .before .before .before .count-behind .result)
+      (key .before .before .before .before .before .get .result - c .before .before .before .before .count-behind .result) (c .walk2 .result)
+  other c =
+      let less-side = c .before .before .before .before .before in
+      rw (kept (less-side .before)) at (rw (count-same (c .before .before)) at (c .walk2 .ensures .0))
+
+  two : (c : walk-lts.Else8 (claims t) (walk-at t) walk.Post)
+      → let second = c .before .before .before in
+      let less-side = second .before .before .before .before .before in
+      let first = less-side .before .before .before .before .before .before .before in
+      let key = first .before .before .before .before .before .before .before .before in
+      let start = key .before .before .before .before .before .before .before .before .before .before .before in
+      Two (start .pre .1 .0) (less first) (omega (arith, less-side .if6 .left)) (second .before .before .before .before .count-behind .ensures)
+      (other (c .before .before .before)) (omega (arith, c .if8 .left))
+  two c =
+      let second = c .before .before .before in
+      let less-side = second .before .before .before .before .before in
+      let first = less-side .before .before .before .before .before .before .before in
+      let key = first .before .before .before .before .before .before .before .before in
+      let start = key .before .before .before .before .before .before .before .before .before .before .before in
+      two-is (start .pre .1 .0) (less first) (omega (arith, less-side .if6 .left)) (second .before .before .before .before .count-behind .ensures)
+      (other (c .before .before .before)) (omega (arith, c .if8 .left))
+
 -- src/lib.rt:425:9
 walk-returns : (t : ℕ) → walk-lts.Need-returns (claims t) (walk-at t) walk.Post
 walk-returns t c =
-    let b4 = c .before .before .before .before in
-    (no-row (words (b4 .args .image .now)) (b4 .args .s) (b4 .pre .1 .0) (words (b4 .args .hi .now)) (b4 .args .ll) (b4 .args .lh) (b4 .args .k) (b4 .args .lo) (b4 .args .avail) (b4 .pre .1 .1 .1 .1) (c .if1 .taken), refl)
+    let start = c .before .before .before .before in
+    (no-row (start .pre .1 .0) (c .if1 .taken), refl)
 
 -- src/lib.rt:427:9
 walk-node-at-requires : (t : ℕ) → walk-lts.Need-node-at-requires (claims t) (walk-at t) walk.Post
-walk-node-at-requires t c κs = ((c .before .before .before .before .pre .1 .0) .range, omega (arith, c .if1 .left, (c .before .before .before .before .pre .1 .0) .range .nodes-to, (c .before .before .before .before .pre .1 .0) .range .cap-to))
+walk-node-at-requires t c κs =
+    let start = c .before .before .before .before in
+    (start .pre .1 .0 .range, omega (arith, c .if1 .left, numbers t start))
 
 -- src/lib.rt:428:31
 walk-add-get : (t : ℕ) → walk-lts.Need-add-get (claims t) (walk-at t) walk.Post
-walk-add-get t c =
-    let b5 = c .before .before .before .before .before in
-    omega (arith, node-room (b5 .args .image .now) (b5 .args .s) (b5 .pre .1 .0) (b5 .args .k) (omega (arith, c .before .if1 .left)), c .node-at .ensures)
+walk-add-get t c = omega (arith, room t c)
 
 -- src/lib.rt:428:13
 walk-get-requires : (t : ℕ) → walk-lts.Need-get-requires (claims t) (walk-at t) walk.Post
-walk-get-requires t c κs =
-    let b5 = c .before .before .before .before .before in
-    omega (arith, node-room (b5 .args .image .now) (b5 .args .s) (b5 .pre .1 .0) (b5 .args .k) (omega (arith, c .before .if1 .left)), c .node-at .ensures)
+walk-get-requires t c κs = omega (arith, room t c)
 
 -- src/lib.rt:428:13
 walk-cast-c : (t : ℕ) → walk-lts.Need-cast-c (claims t) (walk-at t) walk.Post
@@ -91,21 +242,23 @@ walk-cast-c t c = search needs
 -- src/lib.rt:430:9
 walk-returns-2 : (t : ℕ) → walk-lts.Need-returns-2 (claims t) (walk-at t) walk.Post
 walk-returns-2 t c =
-    let b7 = c .before .before .before .before .before .before .before in
-    (too-many (words (b7 .args .image .now)) (b7 .args .s) (b7 .pre .1 .0) (words (b7 .args .hi .now)) (b7 .args .ll) (b7 .args .lh) (b7 .args .k) (b7 .args .lo) (b7 .args .avail) (b7 .pre .1 .1 .1 .1) (c .before .get .result) (rw (c .before .before .node-at .ensures) at (c .before .get .ensures)) (c .if2 .taken), refl)
+    let start = c .before .before .before .before .before .before .before in
+    (too-many (start .pre .1 .0) (row t (c .before)) (c .if2 .taken), refl)
 
 -- src/lib.rt:432:8
 walk-get-requires-2 : (t : ℕ) → walk-lts.Need-get-requires-2 (claims t) (walk-at t) walk.Post
-walk-get-requires-2 t c κs =
-    let b7 = c .before .before .before .before .before .before .before in
-    omega (arith, node-room (b7 .args .image .now) (b7 .args .s) (b7 .pre .1 .0) (b7 .args .k) (omega (arith, c .before .before .before .if1 .left)), c .before .before .node-at .ensures)
+walk-get-requires-2 t c κs = omega (arith, room t (c .before .before))
 
 -- src/lib.rt:433:12
 walk-leaf-ok-requires : (t : ℕ) → walk-lts.Need-leaf-ok-requires (claims t) (walk-at t) walk.Post
 walk-leaf-ok-requires t c κs =
-    let b6 = c .before .before .before .before .before .before in
-    let b10 = b6 .before .before .before .before in
-    ((b10 .pre .1 .0), (b10 .pre .1 .1 .0, (omega (arith, node-room (b10 .args .image .now) (b10 .args .s) (b10 .pre .1 .0) (b10 .args .k) (omega (arith, b6 .if1 .left)), c .before .before .before .before .before .node-at .ensures), omega (arith, b10 .pre .1 .1 .1 .1, c .before .before .before .if2 .left, b10 .pre .1 .0 .range .few, b10 .pre .1 .0 .range .cap-to, b10 .pre .1 .0 .range .nodes-to))))
+    let start = c .before .before .before .before .before .before .before .before .before .before in (
+      start .pre .1 .0,
+      (
+        start .pre .1 .1 .0,
+        (room t (c .before .before .before .before .before), omega (arith, start .pre .1 .1 .1 .1, c .before .before .before .if2 .left)),
+      ),
+    )
 
 -- src/lib.rt:434:13
 walk-same-length : (t : ℕ) → walk-lts.Need-same-length (claims t) (walk-at t) walk.Post
@@ -114,12 +267,11 @@ walk-same-length t c = search needs
 -- src/lib.rt:434:13
 walk-returns-3 : (t : ℕ) → walk-lts.Need-returns-3 (claims t) (walk-at t) walk.Post
 walk-returns-3 t c =
-    let b4 = c .before .before .before .before in
-    let b6 = b4 .before .before in
-    let b7 = b6 .before in
-    let b8 = b7 .before in
-    let b12 = b8 .before .before .before .before in
-    (a-leaf (words (b12 .args .image .now)) (b12 .args .s) (b12 .pre .1 .0) (words (b12 .args .hi .now)) (b12 .args .ll) (b12 .args .lh) (b12 .args .k) (b12 .args .lo) (b12 .args .avail) (b12 .pre .1 .1 .1 .1) (b6 .get .result) (rw (b7 .node-at .ensures) at (b6 .get .ensures)) (omega (arith, b8 .if1 .left)) (omega (arith, c .before .before .before .before .before .if2 .left)) (b4 .get2 .result) (rw (b7 .node-at .ensures) at (b4 .get2 .ensures)) (c .before .before .before .if3 .taken) (rw (b7 .node-at .ensures) at ((c .before .leaf-ok .ensures .0) (c .if4 .taken))), refl)
+    let leaf = c .before in
+    let start = leaf .before .before .before .before .before .before .before .before .before .before .before in
+    let node-at = leaf .before .before .before .before .before .before .node-at in
+    let ok = rw (node-at .ensures) at (c .before .leaf-ok .ensures .0 (c .if4 .taken)) in
+    (a-leaf (start .pre .1 .0) (tagged t (c .before .before .before .before)) (c .before .before .before .if3 .taken) ok, refl)
 
 -- src/lib.rt:436:9
 walk-same-length-2 : (t : ℕ) → walk-lts.Need-same-length-2 (claims t) (walk-at t) walk.Post
@@ -128,420 +280,286 @@ walk-same-length-2 t c = search needs
 -- src/lib.rt:436:9
 walk-returns-4 : (t : ℕ) → walk-lts.Need-returns-4 (claims t) (walk-at t) walk.Post
 walk-returns-4 t c =
-    let b4 = c .before .before .before .before in
-    let b6 = b4 .before .before in
-    let b7 = b6 .before in
-    let b8 = b7 .before in
-    let b12 = b8 .before .before .before .before in
-    (no-leaf (words (b12 .args .image .now)) (b12 .args .s) (b12 .pre .1 .0) (words (b12 .args .hi .now)) (b12 .args .ll) (b12 .args .lh) (b12 .args .k) (b12 .args .lo) (b12 .args .avail) (b12 .pre .1 .1 .1 .1) (b6 .get .result) (rw (b7 .node-at .ensures) at (b6 .get .ensures)) (omega (arith, b8 .if1 .left)) (omega (arith, c .before .before .before .before .before .if2 .left)) (b4 .get2 .result) (rw (b7 .node-at .ensures) at (b4 .get2 .ensures)) (c .before .before .before .if3 .taken) (λ o. never (sym (c .if4 .left) ∙ (c .before .leaf-ok .ensures .1) (rw (b7 .node-at .ensures) o))), refl)
+    let leaf = c .before in
+    let start = leaf .before .before .before .before .before .before .before .before .before .before .before in
+    let node-at = leaf .before .before .before .before .before .before .node-at in (
+      no-leaf (start .pre .1 .0) (tagged t (c .before .before .before .before)) (c .before .before .before .if3 .taken)
+          (λ o. never (sym (c .if4 .left) ∙ c .before .leaf-ok .ensures .1 (rw (node-at .ensures) o))),
+      refl,
+    )
 
 -- src/lib.rt:438:9
 walk-key-ok-requires : (t : ℕ) → walk-lts.Need-key-ok-requires (claims t) (walk-at t) walk.Post
 walk-key-ok-requires t c κs =
-    let b9 = c .before .before .before .before .before .before .before .before .before in
-    ((b9 .pre .1 .0) .range, omega (arith, node-room (b9 .args .image .now) (b9 .args .s) (b9 .pre .1 .0) (b9 .args .k) (omega (arith, c .before .before .before .before .before .if1 .left)), c .before .before .before .before .node-at .ensures))
+    let start = c .before .before .before .before .before .before .before .before .before in
+    (start .pre .1 .0 .range, omega (arith, room t (c .before .before .before .before)))
 
 -- src/lib.rt:439:9
 walk-returns-5 : (t : ℕ) → walk-lts.Need-returns-5 (claims t) (walk-at t) walk.Post
 walk-returns-5 t c =
-    let b3 = c .before .before .before in
-    let b5 = b3 .before .before in
-    let b6 = b5 .before in
-    let b7 = b6 .before in
-    let b11 = b7 .before .before .before .before in
-    (no-key (words (b11 .args .image .now)) (b11 .args .s) (b11 .pre .1 .0) (words (b11 .args .hi .now)) (b11 .args .ll) (b11 .args .lh) (b11 .args .k) (b11 .args .lo) (b11 .args .avail) (b11 .pre .1 .1 .1 .1) (b5 .get .result) (rw (b6 .node-at .ensures) at (b5 .get .ensures)) (omega (arith, b7 .if1 .left)) (omega (arith, c .before .before .before .before .if2 .left)) (b3 .get2 .result) (rw (b6 .node-at .ensures) at (b3 .get2 .ensures)) (c .before .before .if3 .left) (λ o. failed (c .before .key-ok .result) (c .before .key-ok .ensures) (c .if5 .taken) (rw (b6 .node-at .ensures) o)), refl)
+    let start = c .before .before .before .before .before .before .before .before .before .before .before in
+    let node-at = c .before .before .before .before .before .before .node-at in
+    let key-ok = c .before .key-ok in (
+      no-key (start .pre .1 .0) (tagged t (c .before .before .before)) (c .before .before .if3 .left)
+          (λ o. failed (key-ok .result) (key-ok .ensures) (c .if5 .taken) (rw (node-at .ensures) o)),
+      refl,
+    )
 
 -- src/lib.rt:441:9
 walk-sides-requires : (t : ℕ) → walk-lts.Need-sides-requires (claims t) (walk-at t) walk.Post
 walk-sides-requires t c κs =
-    let b2 = c .before .before in
-    let b7 = b2 .before .before .before .before .before in
-    let b8 = b7 .before in
-    let b12 = b8 .before .before .before .before in
-    ((b12 .pre .1 .0), (b12 .pre .1 .1 .0, (omega (arith, node-room (b12 .args .image .now) (b12 .args .s) (b12 .pre .1 .0) (b12 .args .k) (omega (arith, b8 .if1 .left)), b7 .node-at .ensures), (passed (b2 .key-ok .result) (b2 .key-ok .ensures) (c .before .if5 .left)))))
+    let key = c .before in
+    let start = key .before .before .before .before .before .before .before .before .before .before .before in
+    (start .pre .1 .0, (start .pre .1 .1 .0, (omega (arith, room t (key .before .before .before .before .before .before)), keyed t (c .before))))
 
 -- src/lib.rt:442:9
 walk-exchange-requires : (t : ℕ) → walk-lts.Need-exchange-requires (claims t) (walk-at t) walk.Post
-walk-exchange-requires t c κs = omega (arith, c .before .sides .ensures .known, c .before .before .before .before .before .before .before .before .before .before .before .before .before .before .pre .1 .1 .0 .one-each)
+walk-exchange-requires t c κs =
+    let key = c .before .before .before in
+    let start = key .before .before .before .before .before .before .before .before .before .before .before in
+    omega (arith, c .before .sides .ensures .known, start .pre .1 .1 .0 .one-each)
 
 -- src/lib.rt:443:44
 walk-add-walk : (t : ℕ) → walk-lts.Need-add-walk (claims t) (walk-at t) walk.Post
 walk-add-walk t c =
-    let b11 = c .before .before .before .before .before .before .before .before .before .before .before in
-    let b14 = b11 .before .before .before in
-    let b18 = b14 .before .before .before .before in
-    omega (arith, b14 .if1 .left, b18 .pre .1 .1 .1 .1, b11 .if2 .left, b18 .pre .1 .0 .range .few, b18 .pre .1 .0 .range .cap-to, b18 .pre .1 .0 .range .nodes-to)
+    let key = c .before .before .before .before .before .before .before in
+    let start = key .before .before .before .before .before .before .before .before .before .before .before in
+    omega (arith, key .before .before .before .before .before .before .before .if1 .left, numbers t start)
 
 -- src/lib.rt:443:55
 walk-sub-walk : (t : ℕ) → walk-lts.Need-sub-walk (claims t) (walk-at t) walk.Post
 walk-sub-walk t c =
-    let b7 = c .before .before .before .before .before .before .before in
-    let b8 = b7 .before in
-    let b12 = b8 .before .before .before .before in
-    omega (arith, (passed (b8 .key-ok .result) (b8 .key-ok .ensures) (b7 .if5 .left)) .two, b12 .get .ensures)
+    let key = c .before .before .before .before .before .before .before in
+    let get = key .before .before .before .before .before .get in
+    omega (arith, keyed t key .two, get .ensures)
 
 -- src/lib.rt:443:9
 walk-walk-requires : (t : ℕ) → walk-lts.Need-walk-requires (claims t) (walk-at t) walk.Post
 walk-walk-requires t c κs =
-    let b3 = c .before .before .before in
-    let b5 = b3 .before .before in
-    let b7 = b5 .before .before in
-    let b8 = b7 .before in
-    let b11 = b8 .before .before .before in
-    let b12 = b11 .before in
-    let b14 = b12 .before .before in
-    let b18 = b14 .before .before .before .before in
-    (omega (arith, b18 .pre .0, b11 .if2 .left, (passed (b8 .key-ok .result) (b8 .key-ok .ensures) (b7 .if5 .left)) .two, b12 .get .ensures), ((b18 .pre .1 .0), (uppers-put (b18 .args .s .variables) (b18 .args .hi .now) (b18 .pre .1 .1 .0) (b5 .sides .result .variable) (b5 .sides .result .power) (b5 .sides .ensures .known) (b5 .sides .ensures .small) (b5 .sides .ensures .some) (b3 .exchange .last .0) (b3 .exchange .ensures .1), (omega (arith, b14 .if1 .left), omega (arith, b18 .pre .1 .1 .1 .1, b11 .if2 .left, b18 .pre .1 .0 .range .few, b18 .pre .1 .0 .range .cap-to, b18 .pre .1 .0 .range .nodes-to)))))
+    let key = c .before .before .before .before .before .before .before in
+    let start = key .before .before .before .before .before .before .before .before .before .before .before in
+    let get = key .before .before .before .before .before .get in
+    let if2 = key .before .before .before .before .if2 in (
+      omega (arith, start .pre .0, if2 .left, keyed t key .two, get .ensures),
+      (
+        start .pre .1 .0,
+        (
+          bounds t (c .before .before .before),
+          (
+            omega (arith, key .before .before .before .before .before .before .before .if1 .left),
+            omega
+                (arith, start .pre .1 .1 .1 .1, if2 .left),
+          ),
+        ),
+      ),
+    )
 
 -- src/lib.rt:444:5
 walk-put-requires : (t : ℕ) → walk-lts.Need-put-requires (claims t) (walk-at t) walk.Post
 walk-put-requires t c κs =
-    let b7 = c .before .before .before .before .before .before .before in
-    let b9 = b7 .before .before in
-    let b22 = b9 .before .before .before .before .before .before .before .before .before .before .before .before .before in
-    omega (arith, b9 .sides .ensures .known, b22 .pre .1 .1 .0 .one-each, uppers-put (b22 .args .s .variables) (b22 .args .hi .now) (b22 .pre .1 .1 .0) (b9 .sides .result .variable) (b9 .sides .result .power) (b9 .sides .ensures .known) (b9 .sides .ensures .small) (b9 .sides .ensures .some) (b7 .exchange .last .0) (b7 .exchange .ensures .1) .one-each, ap length (c .before .before .before .walk .ensures .1))
+    let first = c .before .before .before in
+    let walk = c .before .before .before .walk in
+    let sides = first .before .before .before .before .before .before .sides in
+    omega (arith, sides .ensures .known, bounds t (first .before .before .before .before) .one-each, ap length (walk .ensures .1))
 
 -- src/lib.rt:446:9
 walk-same-length-3 : (t : ℕ) → walk-lts.Need-same-length-3 (claims t) (walk-at t) walk.Post
-walk-same-length-3 t c =
-    let b3 = c .before .before .before in
-    let b7 = b3 .before .before .before .before in
-    let b11 = b7 .before .before .before .before in
-    let b13 = b11 .before .before in
-    let b24 = b13 .before .before .before .before .before .before .before .before .before .before .before in
-    let b26 = b24 .before .before in
-    ap length (put-back (b26 .args .s .variables) (b26 .args .hi .now) (b26 .pre .1 .1 .0) (b13 .sides .result .variable) (b13 .sides .result .power) (b13 .sides .ensures .known) (b13 .sides .ensures .small) (λ i. omega (arith, (b24 .slice-known .given) i)) (b7 .walk .last .1 .1 .0) (b3 .put .last .0) (b11 .exchange .result) (λ i. omega (arith, (c .before .slice-known4 .given) i)) (b7 .walk .ensures .1 ∙ b11 .exchange .ensures .1) (b11 .exchange .ensures .0) (b3 .put .ensures))
+walk-same-length-3 t c = ap length (kept t (c .before))
 
 -- src/lib.rt:446:9
 walk-returns-6 : (t : ℕ) → walk-lts.Need-returns-6 (claims t) (walk-at t) walk.Post
 walk-returns-6 t c =
-    let b3 = c .before .before .before in
-    let b7 = b3 .before .before .before .before in
-    let b11 = b7 .before .before .before .before in
-    let b13 = b11 .before .before in
-    let b15 = b13 .before .before in
-    let b16 = b15 .before in
-    let b17 = b16 .before in
-    let b18 = b17 .before in
-    let b19 = b18 .before in
-    let b20 = b19 .before in
-    let b21 = b20 .before in
-    let b22 = b21 .before in
-    let b24 = b22 .before .before in
-    let b26 = b24 .before .before in
-    (no-first (words (b26 .args .image .now)) (b26 .args .s) (b26 .pre .1 .0) (words (b26 .args .hi .now)) (b26 .args .ll) (b26 .args .lh) (b26 .args .k) (b26 .args .lo) (b26 .args .avail) (b26 .pre .1 .1 .1 .1) (b20 .get .result) (rw (b21 .node-at .ensures) at (b20 .get .ensures)) (omega (arith, b22 .if1 .left)) (omega (arith, b19 .if2 .left)) (b18 .get2 .result) (rw (b21 .node-at .ensures) at (b18 .get2 .ensures)) (b17 .if3 .left) (rw (b21 .node-at .ensures) at (passed (b16 .key-ok .result) (b16 .key-ok .ensures) (b15 .if5 .left))) (b13 .sides .result) (rw (b21 .node-at .ensures) at (b13 .sides .ensures)) (b7 .walk .result) (rw (words-put (b26 .args .s .variables) (b26 .args .hi .now) (b26 .pre .1 .1 .0) (b13 .sides .result .variable) (b13 .sides .result .power) (b13 .sides .ensures .known) (b13 .sides .ensures .small) (b11 .exchange .last .0) (b11 .exchange .ensures .1)) at (b7 .walk .ensures .0)) (c .if6 .taken), (put-back (b26 .args .s .variables) (b26 .args .hi .now) (b26 .pre .1 .1 .0) (b13 .sides .result .variable) (b13 .sides .result .power) (b13 .sides .ensures .known) (b13 .sides .ensures .small) (λ i. omega (arith, (b24 .slice-known .given) i)) (b7 .walk .last .1 .1 .0) (b3 .put .last .0) (b11 .exchange .result) (λ i. omega (arith, (c .before .slice-known4 .given) i)) (b7 .walk .ensures .1 ∙ b11 .exchange .ensures .1) (b11 .exchange .ensures .0) (b3 .put .ensures)))
+    let first = c .before .before .before .before .before .before .before in
+    let key = first .before .before .before .before .before .before .before .before in
+    let start = key .before .before .before .before .before .before .before .before .before .before .before in
+    (no-first (start .pre .1 .0) (less t first) (c .if6 .taken), kept t (c .before))
 
 -- src/lib.rt:448:9
 walk-count-behind-requires : (t : ℕ) → walk-lts.Need-count-behind-requires (claims t) (walk-at t) walk.Post
 walk-count-behind-requires t c κs =
-    let b7 = c .before .before .before .before .before .before .before in
-    let b11 = b7 .before .before .before .before in
-    let b13 = b11 .before .before in
-    let b15 = b13 .before .before in
-    let b16 = b15 .before in
-    let b17 = b16 .before in
-    let b18 = b17 .before in
-    let b19 = b18 .before in
-    let b20 = b19 .before in
-    let b21 = b20 .before in
-    let b22 = b21 .before in
-    let b26 = b22 .before .before .before .before in
-    ((b26 .pre .1 .0), (omega (arith, (one-is (words (b26 .args .image .now)) (b26 .args .s) (b26 .pre .1 .0) (words (b26 .args .hi .now)) (b26 .args .ll) (b26 .args .lh) (b26 .args .k) (b26 .args .lo) (b26 .args .avail) (b26 .pre .1 .1 .1 .1) (b20 .get .result) (rw (b21 .node-at .ensures) at (b20 .get .ensures)) (omega (arith, b22 .if1 .left)) (omega (arith, b19 .if2 .left)) (b18 .get2 .result) (rw (b21 .node-at .ensures) at (b18 .get2 .ensures)) (b17 .if3 .left) (rw (b21 .node-at .ensures) at (passed (b16 .key-ok .result) (b16 .key-ok .ensures) (b15 .if5 .left))) (b13 .sides .result) (rw (b21 .node-at .ensures) at (b13 .sides .ensures)) (b7 .walk .result) (rw (words-put (b26 .args .s .variables) (b26 .args .hi .now) (b26 .pre .1 .1 .0) (b13 .sides .result .variable) (b13 .sides .result .power) (b13 .sides .ensures .known) (b13 .sides .ensures .small) (b11 .exchange .last .0) (b11 .exchange .ensures .1)) at (b7 .walk .ensures .0)) (omega (arith, c .if6 .left))) .inside, c .if6 .left), b21 .node-at .ensures))
+    let first = c .before .before .before .before .before .before .before in
+    let key = first .before .before .before .before .before .before .before .before in
+    let start = key .before .before .before .before .before .before .before .before .before .before .before in
+    (start .pre .1 .0, (omega (arith, one t c .inside, c .if6 .left), key .before .before .before .before .before .before .node-at .ensures))
 
 -- src/lib.rt:450:9
 walk-same-length-4 : (t : ℕ) → walk-lts.Need-same-length-4 (claims t) (walk-at t) walk.Post
-walk-same-length-4 t c =
-    let b5 = c .before .before .before .before .before in
-    let b9 = b5 .before .before .before .before in
-    let b13 = b9 .before .before .before .before in
-    let b15 = b13 .before .before in
-    let b26 = b15 .before .before .before .before .before .before .before .before .before .before .before in
-    let b28 = b26 .before .before in
-    ap length (put-back (b28 .args .s .variables) (b28 .args .hi .now) (b28 .pre .1 .1 .0) (b15 .sides .result .variable) (b15 .sides .result .power) (b15 .sides .ensures .known) (b15 .sides .ensures .small) (λ i. omega (arith, (b26 .slice-known .given) i)) (b9 .walk .last .1 .1 .0) (b5 .put .last .0) (b13 .exchange .result) (λ i. omega (arith, (c .before .before .before .slice-known4 .given) i)) (b9 .walk .ensures .1 ∙ b13 .exchange .ensures .1) (b13 .exchange .ensures .0) (b5 .put .ensures))
+walk-same-length-4 t c = ap length (kept t (c .before .before .before))
 
 -- src/lib.rt:450:9
 walk-returns-7 : (t : ℕ) → walk-lts.Need-returns-7 (claims t) (walk-at t) walk.Post
 walk-returns-7 t c =
-    let b5 = c .before .before .before .before .before in
-    let b9 = b5 .before .before .before .before in
-    let b13 = b9 .before .before .before .before in
-    let b15 = b13 .before .before in
-    let b17 = b15 .before .before in
-    let b18 = b17 .before in
-    let b19 = b18 .before in
-    let b20 = b19 .before in
-    let b21 = b20 .before in
-    let b22 = b21 .before in
-    let b23 = b22 .before in
-    let b24 = b23 .before in
-    let b26 = b24 .before .before in
-    let b28 = b26 .before .before in
-    (no-less (words (b28 .args .image .now)) (b28 .args .s) (b28 .pre .1 .0) (words (b28 .args .hi .now)) (b28 .args .ll) (b28 .args .lh) (b28 .args .k) (b28 .args .lo) (b28 .args .avail) (b28 .pre .1 .1 .1 .1) (b22 .get .result) (rw (b23 .node-at .ensures) at (b22 .get .ensures)) (omega (arith, b24 .if1 .left)) (omega (arith, b21 .if2 .left)) (b20 .get2 .result) (rw (b23 .node-at .ensures) at (b20 .get2 .ensures)) (b19 .if3 .left) (rw (b23 .node-at .ensures) at (passed (b18 .key-ok .result) (b18 .key-ok .ensures) (b17 .if5 .left))) (b15 .sides .result) (rw (b23 .node-at .ensures) at (b15 .sides .ensures)) (b9 .walk .result) (rw (words-put (b28 .args .s .variables) (b28 .args .hi .now) (b28 .pre .1 .1 .0) (b15 .sides .result .variable) (b15 .sides .result .power) (b15 .sides .ensures .known) (b15 .sides .ensures .small) (b13 .exchange .last .0) (b13 .exchange .ensures .1)) at (b9 .walk .ensures .0)) (omega (arith, c .before .before .if6 .left)) (c .before .count-behind .result) (c .before .count-behind .ensures) (c .if7 .taken), (put-back (b28 .args .s .variables) (b28 .args .hi .now) (b28 .pre .1 .1 .0) (b15 .sides .result .variable) (b15 .sides .result .power) (b15 .sides .ensures .known) (b15 .sides .ensures .small) (λ i. omega (arith, (b26 .slice-known .given) i)) (b9 .walk .last .1 .1 .0) (b5 .put .last .0) (b13 .exchange .result) (λ i. omega (arith, (c .before .before .before .slice-known4 .given) i)) (b9 .walk .ensures .1 ∙ b13 .exchange .ensures .1) (b13 .exchange .ensures .0) (b5 .put .ensures)))
+    let less-side = c .before .before in
+    let first = less-side .before .before .before .before .before .before .before in
+    let key = first .before .before .before .before .before .before .before .before in
+    let start = key .before .before .before .before .before .before .before .before .before .before .before in
+    let some = c .before .before .if6 .left in
+    let less-entries = no-less (start .pre .1 .0) (less t first) (omega (arith, some)) (c .before .count-behind .ensures) (c .if7 .taken) in
+    (less-entries, kept t (c .before .before .before))
 
 -- src/lib.rt:453:9
 walk-count-at-requires : (t : ℕ) → walk-lts.Need-count-at-requires (claims t) (walk-at t) walk.Post
 walk-count-at-requires t c κs =
-    let b24 = c .before .before .before .before .before .before .before .before .before .before .before .before .before .before .before .before .before .before .before .before .before .before .before .before in
-    let b28 = b24 .before .before .before .before in
-    ((b28 .pre .1 .0), omega (arith, b24 .if1 .left))
+    let less-side = c .before .before in
+    let first = less-side .before .before .before .before .before .before .before in
+    let key = first .before .before .before .before .before .before .before .before in
+    let start = key .before .before .before .before .before .before .before .before .before .before .before in
+    (start .pre .1 .0, omega (arith, key .before .before .before .before .before .before .before .if1 .left))
 
 -- src/lib.rt:454:45
 walk-add-walk-2 : (t : ℕ) → walk-lts.Need-add-walk-2 (claims t) (walk-at t) walk.Post
 walk-add-walk-2 t c =
-    let b23 = c .before .before .before .before .before .before .before .before .before .before .before .before .before .before .before .before .before .before .before .before .before .before .before in
-    let b26 = b23 .before .before .before in
-    let b30 = b26 .before .before .before .before in
-    omega (arith, b26 .if1 .left, b30 .pre .1 .1 .1 .1, b23 .if2 .left, b30 .pre .1 .0 .range .few, b30 .pre .1 .0 .range .cap-to, b30 .pre .1 .0 .range .nodes-to)
+    let less-side = c .before .before .before .before in
+    let first = less-side .before .before .before .before .before .before .before in
+    let key = first .before .before .before .before .before .before .before .before in
+    let start = key .before .before .before .before .before .before .before .before .before .before .before in
+    omega (arith, key .before .before .before .before .before .before .before .if1 .left, numbers t start)
 
 -- src/lib.rt:454:45
 walk-add-walk-3 : (t : ℕ) → walk-lts.Need-add-walk-3 (claims t) (walk-at t) walk.Post
 walk-add-walk-3 t c =
-    let b11 = c .before .before .before .before .before .before .before .before .before .before .before in
-    let b15 = b11 .before .before .before .before in
-    let b17 = b15 .before .before in
-    let b19 = b17 .before .before in
-    let b20 = b19 .before in
-    let b21 = b20 .before in
-    let b22 = b21 .before in
-    let b23 = b22 .before in
-    let b24 = b23 .before in
-    let b25 = b24 .before in
-    let b26 = b25 .before in
-    let b30 = b26 .before .before .before .before in
-    omega (arith, (one-is (words (b30 .args .image .now)) (b30 .args .s) (b30 .pre .1 .0) (words (b30 .args .hi .now)) (b30 .args .ll) (b30 .args .lh) (b30 .args .k) (b30 .args .lo) (b30 .args .avail) (b30 .pre .1 .1 .1 .1) (b24 .get .result) (rw (b25 .node-at .ensures) at (b24 .get .ensures)) (omega (arith, b26 .if1 .left)) (omega (arith, b23 .if2 .left)) (b22 .get2 .result) (rw (b25 .node-at .ensures) at (b22 .get2 .ensures)) (b21 .if3 .left) (rw (b25 .node-at .ensures) at (passed (b20 .key-ok .result) (b20 .key-ok .ensures) (b19 .if5 .left))) (b17 .sides .result) (rw (b25 .node-at .ensures) at (b17 .sides .ensures)) (b11 .walk .result) (rw (words-put (b30 .args .s .variables) (b30 .args .hi .now) (b30 .pre .1 .1 .0) (b17 .sides .result .variable) (b17 .sides .result .power) (b17 .sides .ensures .known) (b17 .sides .ensures .small) (b15 .exchange .last .0) (b15 .exchange .ensures .1)) at (b11 .walk .ensures .0)) (omega (arith, c .before .before .before .before .if6 .left))) .inside, b30 .pre .1 .1 .1 .1, b23 .if2 .left, b30 .pre .1 .0 .range .few, b30 .pre .1 .0 .range .cap-to, b30 .pre .1 .0 .range .nodes-to)
+    let less-side = c .before .before .before .before in
+    let first = less-side .before .before .before .before .before .before .before in
+    let key = first .before .before .before .before .before .before .before .before in
+    let start = key .before .before .before .before .before .before .before .before .before .before .before in
+    omega (arith, one t (c .before .before .before .before) .inside, numbers t start)
 
 -- src/lib.rt:454:56
 walk-add-walk-4 : (t : ℕ) → walk-lts.Need-add-walk-4 (claims t) (walk-at t) walk.Post
 walk-add-walk-4 t c =
-    let b11 = c .before .before .before .before .before .before .before .before .before .before .before in
-    let b15 = b11 .before .before .before .before in
-    let b17 = b15 .before .before in
-    let b19 = b17 .before .before in
-    let b20 = b19 .before in
-    let b21 = b20 .before in
-    let b22 = b21 .before in
-    let b23 = b22 .before in
-    let b24 = b23 .before in
-    let b25 = b24 .before in
-    let b26 = b25 .before in
-    let b30 = b26 .before .before .before .before in
-    omega (arith, (one-is (words (b30 .args .image .now)) (b30 .args .s) (b30 .pre .1 .0) (words (b30 .args .hi .now)) (b30 .args .ll) (b30 .args .lh) (b30 .args .k) (b30 .args .lo) (b30 .args .avail) (b30 .pre .1 .1 .1 .1) (b24 .get .result) (rw (b25 .node-at .ensures) at (b24 .get .ensures)) (omega (arith, b26 .if1 .left)) (omega (arith, b23 .if2 .left)) (b22 .get2 .result) (rw (b25 .node-at .ensures) at (b22 .get2 .ensures)) (b21 .if3 .left) (rw (b25 .node-at .ensures) at (passed (b20 .key-ok .result) (b20 .key-ok .ensures) (b19 .if5 .left))) (b17 .sides .result) (rw (b25 .node-at .ensures) at (b17 .sides .ensures)) (b11 .walk .result) (rw (words-put (b30 .args .s .variables) (b30 .args .hi .now) (b30 .pre .1 .1 .0) (b17 .sides .result .variable) (b17 .sides .result .power) (b17 .sides .ensures .known) (b17 .sides .ensures .small) (b15 .exchange .last .0) (b15 .exchange .ensures .1)) at (b11 .walk .ensures .0)) (omega (arith, c .before .before .before .before .if6 .left))) .few, c .before .before .before .count-behind .ensures, b30 .pre .1 .1 .1 .1, b23 .if2 .left, b30 .pre .1 .0 .range .few, b30 .pre .1 .0 .range .cap-to, b30 .pre .1 .0 .range .nodes-to)
+    let less-side = c .before .before .before .before in
+    let first = less-side .before .before .before .before .before .before .before in
+    let key = first .before .before .before .before .before .before .before .before in
+    let start = key .before .before .before .before .before .before .before .before .before .before .before in
+    omega (arith, one t (c .before .before .before .before) .few, c .before .before .before .count-behind .ensures, start .pre .1 .1 .1 .1, key .before .before .before .before .if2 .left, numbers t start)
 
 -- src/lib.rt:454:65
 walk-sub-walk-2 : (t : ℕ) → walk-lts.Need-sub-walk-2 (claims t) (walk-at t) walk.Post
-walk-sub-walk-2 t c =
-    let b11 = c .before .before .before .before .before .before .before .before .before .before .before in
-    let b15 = b11 .before .before .before .before in
-    let b17 = b15 .before .before in
-    let b19 = b17 .before .before in
-    let b20 = b19 .before in
-    let b21 = b20 .before in
-    let b22 = b21 .before in
-    let b23 = b22 .before in
-    let b24 = b23 .before in
-    let b25 = b24 .before in
-    let b26 = b25 .before in
-    let b30 = b26 .before .before .before .before in
-    omega (arith, (c .before .count-at .ensures ∙ sym (rw (b25 .node-at .ensures) at (b24 .get .ensures))), (one-is (words (b30 .args .image .now)) (b30 .args .s) (b30 .pre .1 .0) (words (b30 .args .hi .now)) (b30 .args .ll) (b30 .args .lh) (b30 .args .k) (b30 .args .lo) (b30 .args .avail) (b30 .pre .1 .1 .1 .1) (b24 .get .result) (rw (b25 .node-at .ensures) at (b24 .get .ensures)) (omega (arith, (c .before .count-at .ensures ∙ sym (rw (b25 .node-at .ensures) at (b24 .get .ensures))), b26 .if1 .left)) (omega (arith, (c .before .count-at .ensures ∙ sym (rw (b25 .node-at .ensures) at (b24 .get .ensures))), b23 .if2 .left)) (b22 .get2 .result) (rw (b25 .node-at .ensures) at (b22 .get2 .ensures)) (b21 .if3 .left) (rw (b25 .node-at .ensures) at (passed (b20 .key-ok .result) (b20 .key-ok .ensures) (b19 .if5 .left))) (b17 .sides .result) (rw (b25 .node-at .ensures) at (b17 .sides .ensures)) (b11 .walk .result) (rw (words-put (b30 .args .s .variables) (b30 .args .hi .now) (b30 .pre .1 .1 .0) (b17 .sides .result .variable) (b17 .sides .result .power) (b17 .sides .ensures .known) (b17 .sides .ensures .small) (b15 .exchange .last .0) (b15 .exchange .ensures .1)) at (b11 .walk .ensures .0)) (omega (arith, (c .before .count-at .ensures ∙ sym (rw (b25 .node-at .ensures) at (b24 .get .ensures))), c .before .before .before .before .if6 .left))) .few, c .before .before .before .count-behind .ensures)
+walk-sub-walk-2 t c = omega (arith, count-same t (c .before), one t (c .before .before .before .before) .few, c .before .before .before .count-behind .ensures)
 
 -- src/lib.rt:454:9
 walk-walk-requires-2 : (t : ℕ) → walk-lts.Need-walk-requires-2 (claims t) (walk-at t) walk.Post
 walk-walk-requires-2 t c κs =
-    let b4 = c .before .before .before .before in
-    let b7 = b4 .before .before .before in
-    let b11 = b7 .before .before .before .before in
-    let b15 = b11 .before .before .before .before in
-    let b17 = b15 .before .before in
-    let b19 = b17 .before .before in
-    let b20 = b19 .before in
-    let b21 = b20 .before in
-    let b22 = b21 .before in
-    let b23 = b22 .before in
-    let b24 = b23 .before in
-    let b25 = b24 .before in
-    let b26 = b25 .before in
-    let b28 = b26 .before .before in
-    let b30 = b28 .before .before in
-    (omega (arith, (c .before .count-at .ensures ∙ sym (rw (b25 .node-at .ensures) at (b24 .get .ensures))), b30 .pre .0, b23 .if2 .left, (passed (b20 .key-ok .result) (b20 .key-ok .ensures) (b19 .if5 .left)) .two, b24 .get .ensures, c .before .before .if7 .left), ((b30 .pre .1 .0), (rw (put-back (b30 .args .s .variables) (b30 .args .hi .now) (b30 .pre .1 .1 .0) (b17 .sides .result .variable) (b17 .sides .result .power) (b17 .sides .ensures .known) (b17 .sides .ensures .small) (λ i. omega (arith, (c .before .count-at .ensures ∙ sym (rw (b25 .node-at .ensures) at (b24 .get .ensures))), (b28 .slice-known .given) i)) (b11 .walk .last .1 .1 .0) (b7 .put .last .0) (b15 .exchange .result) (λ i. omega (arith, (c .before .count-at .ensures ∙ sym (rw (b25 .node-at .ensures) at (b24 .get .ensures))), (c .before .before .before .before .before .slice-known4 .given) i)) (b11 .walk .ensures .1 ∙ b15 .exchange .ensures .1) (b15 .exchange .ensures .0) (b7 .put .ensures)) (b30 .pre .1 .1 .0), ((one-is (words (b30 .args .image .now)) (b30 .args .s) (b30 .pre .1 .0) (words (b30 .args .hi .now)) (b30 .args .ll) (b30 .args .lh) (b30 .args .k) (b30 .args .lo) (b30 .args .avail) (b30 .pre .1 .1 .1 .1) (b24 .get .result) (rw (b25 .node-at .ensures) at (b24 .get .ensures)) (omega (arith, (c .before .count-at .ensures ∙ sym (rw (b25 .node-at .ensures) at (b24 .get .ensures))), b26 .if1 .left)) (omega (arith, (c .before .count-at .ensures ∙ sym (rw (b25 .node-at .ensures) at (b24 .get .ensures))), b23 .if2 .left)) (b22 .get2 .result) (rw (b25 .node-at .ensures) at (b22 .get2 .ensures)) (b21 .if3 .left) (rw (b25 .node-at .ensures) at (passed (b20 .key-ok .result) (b20 .key-ok .ensures) (b19 .if5 .left))) (b17 .sides .result) (rw (b25 .node-at .ensures) at (b17 .sides .ensures)) (b11 .walk .result) (rw (words-put (b30 .args .s .variables) (b30 .args .hi .now) (b30 .pre .1 .1 .0) (b17 .sides .result .variable) (b17 .sides .result .power) (b17 .sides .ensures .known) (b17 .sides .ensures .small) (b15 .exchange .last .0) (b15 .exchange .ensures .1)) at (b11 .walk .ensures .0)) (omega (arith, (c .before .count-at .ensures ∙ sym (rw (b25 .node-at .ensures) at (b24 .get .ensures))), b4 .if6 .left))) .inside, omega (arith, (c .before .count-at .ensures ∙ sym (rw (b25 .node-at .ensures) at (b24 .get .ensures))), (one-is (words (b30 .args .image .now)) (b30 .args .s) (b30 .pre .1 .0) (words (b30 .args .hi .now)) (b30 .args .ll) (b30 .args .lh) (b30 .args .k) (b30 .args .lo) (b30 .args .avail) (b30 .pre .1 .1 .1 .1) (b24 .get .result) (rw (b25 .node-at .ensures) at (b24 .get .ensures)) (omega (arith, (c .before .count-at .ensures ∙ sym (rw (b25 .node-at .ensures) at (b24 .get .ensures))), b26 .if1 .left)) (omega (arith, (c .before .count-at .ensures ∙ sym (rw (b25 .node-at .ensures) at (b24 .get .ensures))), b23 .if2 .left)) (b22 .get2 .result) (rw (b25 .node-at .ensures) at (b22 .get2 .ensures)) (b21 .if3 .left) (rw (b25 .node-at .ensures) at (passed (b20 .key-ok .result) (b20 .key-ok .ensures) (b19 .if5 .left))) (b17 .sides .result) (rw (b25 .node-at .ensures) at (b17 .sides .ensures)) (b11 .walk .result) (rw (words-put (b30 .args .s .variables) (b30 .args .hi .now) (b30 .pre .1 .1 .0) (b17 .sides .result .variable) (b17 .sides .result .power) (b17 .sides .ensures .known) (b17 .sides .ensures .small) (b15 .exchange .last .0) (b15 .exchange .ensures .1)) at (b11 .walk .ensures .0)) (omega (arith, (c .before .count-at .ensures ∙ sym (rw (b25 .node-at .ensures) at (b24 .get .ensures))), b4 .if6 .left))) .few, c .before .before .before .count-behind .ensures, b30 .pre .1 .1 .1 .1, b23 .if2 .left, b30 .pre .1 .0 .range .few, b30 .pre .1 .0 .range .cap-to, b30 .pre .1 .0 .range .nodes-to)))))
+    let less-side = c .before .before .before .before in
+    let first = less-side .before .before .before .before .before .before .before in
+    let key = first .before .before .before .before .before .before .before .before in
+    let start = key .before .before .before .before .before .before .before .before .before .before .before in
+    let numbers-of = one t (c .before .before .before .before) in
+    let if2 = key .before .before .before .before .if2 in
+    let count-behind = c .before .before .before .count-behind in
+    let if7 = c .before .before .if7 in (
+      omega (arith, count-same t (c .before), start .pre .0, if2 .left, keyed t key .two, key .before .before .before .before .before .get .ensures, if7 .left),
+      (
+        start .pre .1 .0,
+        (
+          rw (kept t (less-side .before)) (start .pre .1 .1 .0),
+          (
+            numbers-of .inside,
+            omega (arith, count-same t (c .before), numbers-of .few, count-behind .ensures, start .pre .1 .1 .1 .1, if2 .left),
+          ),
+        ),
+      ),
+    )
 
 -- src/lib.rt:456:9
 walk-same-length-5 : (t : ℕ) → walk-lts.Need-same-length-5 (claims t) (walk-at t) walk.Post
 walk-same-length-5 t c =
-    let b9 = c .before .before .before .before .before .before .before .before .before in
-    let b11 = b9 .before .before in
-    let b15 = b11 .before .before .before .before in
-    let b19 = b15 .before .before .before .before in
-    let b21 = b19 .before .before in
-    let b32 = b21 .before .before .before .before .before .before .before .before .before .before .before in
-    let b34 = b32 .before .before in
-    ap length (c .before .before .before .walk2 .ensures .1 ∙ (put-back (b34 .args .s .variables) (b34 .args .hi .now) (b34 .pre .1 .1 .0) (b21 .sides .result .variable) (b21 .sides .result .power) (b21 .sides .ensures .known) (b21 .sides .ensures .small) (λ i. omega (arith, (b32 .slice-known .given) i)) (b15 .walk .last .1 .1 .0) (b11 .put .last .0) (b19 .exchange .result) (λ i. omega (arith, (b9 .slice-known4 .given) i)) (b15 .walk .ensures .1 ∙ b19 .exchange .ensures .1) (b19 .exchange .ensures .0) (b11 .put .ensures)))
+    let less-side = c .before .before .before .before .before .before .before .before in
+    ap length (c .before .before .before .walk2 .ensures .1 ∙ kept t (less-side .before))
 
 -- src/lib.rt:456:9
 walk-returns-8 : (t : ℕ) → walk-lts.Need-returns-8 (claims t) (walk-at t) walk.Post
 walk-returns-8 t c =
-    let b3 = c .before .before .before in
-    let b7 = b3 .before .before .before .before in
-    let b8 = b7 .before in
-    let b9 = b8 .before in
-    let b11 = b9 .before .before in
-    let b15 = b11 .before .before .before .before in
-    let b19 = b15 .before .before .before .before in
-    let b21 = b19 .before .before in
-    let b23 = b21 .before .before in
-    let b24 = b23 .before in
-    let b25 = b24 .before in
-    let b26 = b25 .before in
-    let b27 = b26 .before in
-    let b28 = b27 .before in
-    let b29 = b28 .before in
-    let b30 = b29 .before in
-    let b32 = b30 .before .before in
-    let b34 = b32 .before .before in
-    (no-second (words (b34 .args .image .now)) (b34 .args .s) (b34 .pre .1 .0) (words (b34 .args .hi .now)) (b34 .args .ll) (b34 .args .lh) (b34 .args .k) (b34 .args .lo) (b34 .args .avail) (b34 .pre .1 .1 .1 .1) (b28 .get .result) (rw (b29 .node-at .ensures) at (b28 .get .ensures)) (omega (arith, b30 .if1 .left)) (omega (arith, b27 .if2 .left)) (b26 .get2 .result) (rw (b29 .node-at .ensures) at (b26 .get2 .ensures)) (b25 .if3 .left) (rw (b29 .node-at .ensures) at (passed (b24 .key-ok .result) (b24 .key-ok .ensures) (b23 .if5 .left))) (b21 .sides .result) (rw (b29 .node-at .ensures) at (b21 .sides .ensures)) (b15 .walk .result) (rw (words-put (b34 .args .s .variables) (b34 .args .hi .now) (b34 .pre .1 .1 .0) (b21 .sides .result .variable) (b21 .sides .result .power) (b21 .sides .ensures .known) (b21 .sides .ensures .small) (b19 .exchange .last .0) (b19 .exchange .ensures .1)) at (b15 .walk .ensures .0)) (omega (arith, b8 .if6 .left)) (b7 .count-behind .result) (b7 .count-behind .ensures) (b3 .walk2 .result) (rw (put-back (b34 .args .s .variables) (b34 .args .hi .now) (b34 .pre .1 .1 .0) (b21 .sides .result .variable) (b21 .sides .result .power) (b21 .sides .ensures .known) (b21 .sides .ensures .small) (λ i. omega (arith, (b32 .slice-known .given) i)) (b15 .walk .last .1 .1 .0) (b11 .put .last .0) (b19 .exchange .result) (λ i. omega (arith, (b9 .slice-known4 .given) i)) (b15 .walk .ensures .1 ∙ b19 .exchange .ensures .1) (b19 .exchange .ensures .0) (b11 .put .ensures)) at ((rw (c .before .before .before .before .before .count-at .ensures ∙ sym (rw (b29 .node-at .ensures) at (b28 .get .ensures))) at (b3 .walk2 .ensures .0)))) (c .if8 .taken), b3 .walk2 .ensures .1 ∙ (put-back (b34 .args .s .variables) (b34 .args .hi .now) (b34 .pre .1 .1 .0) (b21 .sides .result .variable) (b21 .sides .result .power) (b21 .sides .ensures .known) (b21 .sides .ensures .small) (λ i. omega (arith, (b32 .slice-known .given) i)) (b15 .walk .last .1 .1 .0) (b11 .put .last .0) (b19 .exchange .result) (λ i. omega (arith, (b9 .slice-known4 .given) i)) (b15 .walk .ensures .1 ∙ b19 .exchange .ensures .1) (b19 .exchange .ensures .0) (b11 .put .ensures)))
+    let second = c .before .before .before in
+    let less-side = second .before .before .before .before .before in
+    let first = less-side .before .before .before .before .before .before .before in
+    let key = first .before .before .before .before .before .before .before .before in
+    let start = key .before .before .before .before .before .before .before .before .before .before .before in
+    let found = less t first in
+    let some = less-side .if6 .left in
+    let count-behind = second .before .before .before .before .count-behind in (
+      no-second (start .pre .1 .0) found (omega (arith, some)) (count-behind .ensures) (other t (c .before .before .before)) (c .if8 .taken),
+      c .before .before .before .walk2 .ensures .1 ∙ kept t (less-side .before),
+    )
 
 -- src/lib.rt:458:8
 walk-over-ok-requires : (t : ℕ) → walk-lts.Need-over-ok-requires (claims t) (walk-at t) walk.Post
 walk-over-ok-requires t c κs =
-    let b3 = c .before .before .before in
-    let b5 = b3 .before .before in
-    let b7 = b5 .before .before in
-    let b8 = b7 .before in
-    let b9 = b8 .before in
-    let b11 = b9 .before .before in
-    let b15 = b11 .before .before .before .before in
-    let b19 = b15 .before .before .before .before in
-    let b21 = b19 .before .before in
-    let b23 = b21 .before .before in
-    let b24 = b23 .before in
-    let b25 = b24 .before in
-    let b26 = b25 .before in
-    let b27 = b26 .before in
-    let b28 = b27 .before in
-    let b29 = b28 .before in
-    let b30 = b29 .before in
-    let b32 = b30 .before .before in
-    let b34 = b32 .before .before in
-    ((b34 .pre .1 .0), (omega (arith, (two-is (words (b34 .args .image .now)) (b34 .args .s) (b34 .pre .1 .0) (words (b34 .args .hi .now)) (b34 .args .ll) (b34 .args .lh) (b34 .args .k) (b34 .args .lo) (b34 .args .avail) (b34 .pre .1 .1 .1 .1) (b28 .get .result) (rw (b29 .node-at .ensures) at (b28 .get .ensures)) (omega (arith, b30 .if1 .left)) (omega (arith, b27 .if2 .left)) (b26 .get2 .result) (rw (b29 .node-at .ensures) at (b26 .get2 .ensures)) (b25 .if3 .left) (rw (b29 .node-at .ensures) at (passed (b24 .key-ok .result) (b24 .key-ok .ensures) (b23 .if5 .left))) (b21 .sides .result) (rw (b29 .node-at .ensures) at (b21 .sides .ensures)) (b15 .walk .result) (rw (words-put (b34 .args .s .variables) (b34 .args .hi .now) (b34 .pre .1 .1 .0) (b21 .sides .result .variable) (b21 .sides .result .power) (b21 .sides .ensures .known) (b21 .sides .ensures .small) (b19 .exchange .last .0) (b19 .exchange .ensures .1)) at (b15 .walk .ensures .0)) (omega (arith, b8 .if6 .left)) (b7 .count-behind .result) (b7 .count-behind .ensures) (b3 .walk2 .result) (rw (put-back (b34 .args .s .variables) (b34 .args .hi .now) (b34 .pre .1 .1 .0) (b21 .sides .result .variable) (b21 .sides .result .power) (b21 .sides .ensures .known) (b21 .sides .ensures .small) (λ i. omega (arith, (b32 .slice-known .given) i)) (b15 .walk .last .1 .1 .0) (b11 .put .last .0) (b19 .exchange .result) (λ i. omega (arith, (b9 .slice-known4 .given) i)) (b15 .walk .ensures .1 ∙ b19 .exchange .ensures .1) (b19 .exchange .ensures .0) (b11 .put .ensures)) at ((rw (b5 .count-at .ensures ∙ sym (rw (b29 .node-at .ensures) at (b28 .get .ensures))) at (b3 .walk2 .ensures .0)))) (omega (arith, c .if8 .left))) .inside, c .if8 .left), ((rw (b29 .node-at .ensures) at (passed (b24 .key-ok .result) (b24 .key-ok .ensures) (b23 .if5 .left))), (two-is (words (b34 .args .image .now)) (b34 .args .s) (b34 .pre .1 .0) (words (b34 .args .hi .now)) (b34 .args .ll) (b34 .args .lh) (b34 .args .k) (b34 .args .lo) (b34 .args .avail) (b34 .pre .1 .1 .1 .1) (b28 .get .result) (rw (b29 .node-at .ensures) at (b28 .get .ensures)) (omega (arith, b30 .if1 .left)) (omega (arith, b27 .if2 .left)) (b26 .get2 .result) (rw (b29 .node-at .ensures) at (b26 .get2 .ensures)) (b25 .if3 .left) (rw (b29 .node-at .ensures) at (passed (b24 .key-ok .result) (b24 .key-ok .ensures) (b23 .if5 .left))) (b21 .sides .result) (rw (b29 .node-at .ensures) at (b21 .sides .ensures)) (b15 .walk .result) (rw (words-put (b34 .args .s .variables) (b34 .args .hi .now) (b34 .pre .1 .1 .0) (b21 .sides .result .variable) (b21 .sides .result .power) (b21 .sides .ensures .known) (b21 .sides .ensures .small) (b19 .exchange .last .0) (b19 .exchange .ensures .1)) at (b15 .walk .ensures .0)) (omega (arith, b8 .if6 .left)) (b7 .count-behind .result) (b7 .count-behind .ensures) (b3 .walk2 .result) (rw (put-back (b34 .args .s .variables) (b34 .args .hi .now) (b34 .pre .1 .1 .0) (b21 .sides .result .variable) (b21 .sides .result .power) (b21 .sides .ensures .known) (b21 .sides .ensures .small) (λ i. omega (arith, (b32 .slice-known .given) i)) (b15 .walk .last .1 .1 .0) (b11 .put .last .0) (b19 .exchange .result) (λ i. omega (arith, (b9 .slice-known4 .given) i)) (b15 .walk .ensures .1 ∙ b19 .exchange .ensures .1) (b19 .exchange .ensures .0) (b11 .put .ensures)) at ((rw (b5 .count-at .ensures ∙ sym (rw (b29 .node-at .ensures) at (b28 .get .ensures))) at (b3 .walk2 .ensures .0)))) (omega (arith, c .if8 .left))) .slots)))
+    let second = c .before .before .before in
+    let less-side = second .before .before .before .before .before in
+    let first = less-side .before .before .before .before .before .before .before in
+    let key = first .before .before .before .before .before .before .before .before in
+    let start = key .before .before .before .before .before .before .before .before .before .before .before in
+    let node-at = key .before .before .before .before .before .before .node-at in
+    let both = two t c in
+    (start .pre .1 .0, (omega (arith, both .inside, c .if8 .left), (rw (node-at .ensures) at (keyed t key), both .slots)))
 
 -- src/lib.rt:459:16
 walk-add-result : (t : ℕ) → walk-lts.Need-add-result (claims t) (walk-at t) walk.Post
 walk-add-result t c =
-    let b5 = c .before .before .before .before .before in
-    let b7 = b5 .before .before in
-    let b9 = b7 .before .before in
-    let b10 = b9 .before in
-    let b11 = b10 .before in
-    let b13 = b11 .before .before in
-    let b17 = b13 .before .before .before .before in
-    let b21 = b17 .before .before .before .before in
-    let b23 = b21 .before .before in
-    let b25 = b23 .before .before in
-    let b26 = b25 .before in
-    let b27 = b26 .before in
-    let b28 = b27 .before in
-    let b29 = b28 .before in
-    let b30 = b29 .before in
-    let b31 = b30 .before in
-    let b32 = b31 .before in
-    let b34 = b32 .before .before in
-    let b36 = b34 .before .before in
-    omega (arith, (two-is (words (b36 .args .image .now)) (b36 .args .s) (b36 .pre .1 .0) (words (b36 .args .hi .now)) (b36 .args .ll) (b36 .args .lh) (b36 .args .k) (b36 .args .lo) (b36 .args .avail) (b36 .pre .1 .1 .1 .1) (b30 .get .result) (rw (b31 .node-at .ensures) at (b30 .get .ensures)) (omega (arith, b32 .if1 .left)) (omega (arith, b29 .if2 .left)) (b28 .get2 .result) (rw (b31 .node-at .ensures) at (b28 .get2 .ensures)) (b27 .if3 .left) (rw (b31 .node-at .ensures) at (passed (b26 .key-ok .result) (b26 .key-ok .ensures) (b25 .if5 .left))) (b23 .sides .result) (rw (b31 .node-at .ensures) at (b23 .sides .ensures)) (b17 .walk .result) (rw (words-put (b36 .args .s .variables) (b36 .args .hi .now) (b36 .pre .1 .1 .0) (b23 .sides .result .variable) (b23 .sides .result .power) (b23 .sides .ensures .known) (b23 .sides .ensures .small) (b21 .exchange .last .0) (b21 .exchange .ensures .1)) at (b17 .walk .ensures .0)) (omega (arith, b10 .if6 .left)) (b9 .count-behind .result) (b9 .count-behind .ensures) (b5 .walk2 .result) (rw (put-back (b36 .args .s .variables) (b36 .args .hi .now) (b36 .pre .1 .1 .0) (b23 .sides .result .variable) (b23 .sides .result .power) (b23 .sides .ensures .known) (b23 .sides .ensures .small) (λ i. omega (arith, (b34 .slice-known .given) i)) (b17 .walk .last .1 .1 .0) (b13 .put .last .0) (b21 .exchange .result) (λ i. omega (arith, (b11 .slice-known4 .given) i)) (b17 .walk .ensures .1 ∙ b21 .exchange .ensures .1) (b21 .exchange .ensures .0) (b13 .put .ensures)) at ((rw (b7 .count-at .ensures ∙ sym (rw (b31 .node-at .ensures) at (b30 .get .ensures))) at (b5 .walk2 .ensures .0)))) (omega (arith, c .before .before .if8 .left))) .inside, b36 .pre .1 .1 .1 .1, b29 .if2 .left, b36 .pre .1 .0 .range .few, b36 .pre .1 .0 .range .cap-to, b36 .pre .1 .0 .range .nodes-to)
+    let second = c .before .before .before .before .before in
+    let less-side = second .before .before .before .before .before in
+    let first = less-side .before .before .before .before .before .before .before in
+    let key = first .before .before .before .before .before .before .before .before in
+    let start = key .before .before .before .before .before .before .before .before .before .before .before in
+    omega (arith, two t (c .before .before) .inside, numbers t start)
 
 -- src/lib.rt:459:16
 walk-add-result-2 : (t : ℕ) → walk-lts.Need-add-result-2 (claims t) (walk-at t) walk.Post
 walk-add-result-2 t c =
-    let b5 = c .before .before .before .before .before in
-    let b7 = b5 .before .before in
-    let b9 = b7 .before .before in
-    let b10 = b9 .before in
-    let b11 = b10 .before in
-    let b13 = b11 .before .before in
-    let b17 = b13 .before .before .before .before in
-    let b21 = b17 .before .before .before .before in
-    let b23 = b21 .before .before in
-    let b25 = b23 .before .before in
-    let b26 = b25 .before in
-    let b27 = b26 .before in
-    let b28 = b27 .before in
-    let b29 = b28 .before in
-    let b30 = b29 .before in
-    let b31 = b30 .before in
-    let b32 = b31 .before in
-    let b34 = b32 .before .before in
-    let b36 = b34 .before .before in
-    omega (arith, (two-is (words (b36 .args .image .now)) (b36 .args .s) (b36 .pre .1 .0) (words (b36 .args .hi .now)) (b36 .args .ll) (b36 .args .lh) (b36 .args .k) (b36 .args .lo) (b36 .args .avail) (b36 .pre .1 .1 .1 .1) (b30 .get .result) (rw (b31 .node-at .ensures) at (b30 .get .ensures)) (omega (arith, b32 .if1 .left)) (omega (arith, b29 .if2 .left)) (b28 .get2 .result) (rw (b31 .node-at .ensures) at (b28 .get2 .ensures)) (b27 .if3 .left) (rw (b31 .node-at .ensures) at (passed (b26 .key-ok .result) (b26 .key-ok .ensures) (b25 .if5 .left))) (b23 .sides .result) (rw (b31 .node-at .ensures) at (b23 .sides .ensures)) (b17 .walk .result) (rw (words-put (b36 .args .s .variables) (b36 .args .hi .now) (b36 .pre .1 .1 .0) (b23 .sides .result .variable) (b23 .sides .result .power) (b23 .sides .ensures .known) (b23 .sides .ensures .small) (b21 .exchange .last .0) (b21 .exchange .ensures .1)) at (b17 .walk .ensures .0)) (omega (arith, b10 .if6 .left)) (b9 .count-behind .result) (b9 .count-behind .ensures) (b5 .walk2 .result) (rw (put-back (b36 .args .s .variables) (b36 .args .hi .now) (b36 .pre .1 .1 .0) (b23 .sides .result .variable) (b23 .sides .result .power) (b23 .sides .ensures .known) (b23 .sides .ensures .small) (λ i. omega (arith, (b34 .slice-known .given) i)) (b17 .walk .last .1 .1 .0) (b13 .put .last .0) (b21 .exchange .result) (λ i. omega (arith, (b11 .slice-known4 .given) i)) (b17 .walk .ensures .1 ∙ b21 .exchange .ensures .1) (b21 .exchange .ensures .0) (b13 .put .ensures)) at ((rw (b7 .count-at .ensures ∙ sym (rw (b31 .node-at .ensures) at (b30 .get .ensures))) at (b5 .walk2 .ensures .0)))) (omega (arith, c .before .before .if8 .left))) .inside, b36 .pre .1 .1 .1 .1, b29 .if2 .left, b36 .pre .1 .0 .range .few, b36 .pre .1 .0 .range .cap-to, b36 .pre .1 .0 .range .nodes-to)
+    let second = c .before .before .before .before .before in
+    let less-side = second .before .before .before .before .before in
+    let first = less-side .before .before .before .before .before .before .before in
+    let key = first .before .before .before .before .before .before .before .before in
+    let start = key .before .before .before .before .before .before .before .before .before .before .before in
+    omega (arith, two t (c .before .before) .inside, numbers t start)
 
 -- src/lib.rt:459:9
 walk-same-length-6 : (t : ℕ) → walk-lts.Need-same-length-6 (claims t) (walk-at t) walk.Post
 walk-same-length-6 t c =
-    let b11 = c .before .before .before .before .before .before .before .before .before .before .before in
-    let b13 = b11 .before .before in
-    let b17 = b13 .before .before .before .before in
-    let b21 = b17 .before .before .before .before in
-    let b23 = b21 .before .before in
-    let b34 = b23 .before .before .before .before .before .before .before .before .before .before .before in
-    let b36 = b34 .before .before in
-    ap length (c .before .before .before .before .before .walk2 .ensures .1 ∙ (put-back (b36 .args .s .variables) (b36 .args .hi .now) (b36 .pre .1 .1 .0) (b23 .sides .result .variable) (b23 .sides .result .power) (b23 .sides .ensures .known) (b23 .sides .ensures .small) (λ i. omega (arith, (b34 .slice-known .given) i)) (b17 .walk .last .1 .1 .0) (b13 .put .last .0) (b21 .exchange .result) (λ i. omega (arith, (b11 .slice-known4 .given) i)) (b17 .walk .ensures .1 ∙ b21 .exchange .ensures .1) (b21 .exchange .ensures .0) (b13 .put .ensures)))
+    let second = c .before .before .before .before .before in
+    let less-side = second .before .before .before .before .before in
+    ap length (second .walk2 .ensures .1 ∙ kept t (less-side .before))
 
 -- src/lib.rt:459:9
 walk-returns-9 : (t : ℕ) → walk-lts.Need-returns-9 (claims t) (walk-at t) walk.Post
 walk-returns-9 t c =
-    let b5 = c .before .before .before .before .before in
-    let b7 = b5 .before .before in
-    let b9 = b7 .before .before in
-    let b10 = b9 .before in
-    let b11 = b10 .before in
-    let b13 = b11 .before .before in
-    let b17 = b13 .before .before .before .before in
-    let b21 = b17 .before .before .before .before in
-    let b23 = b21 .before .before in
-    let b25 = b23 .before .before in
-    let b26 = b25 .before in
-    let b27 = b26 .before in
-    let b28 = b27 .before in
-    let b29 = b28 .before in
-    let b30 = b29 .before in
-    let b31 = b30 .before in
-    let b32 = b31 .before in
-    let b34 = b32 .before .before in
-    let b36 = b34 .before .before in
-    (a-branch (words (b36 .args .image .now)) (b36 .args .s) (b36 .pre .1 .0) (words (b36 .args .hi .now)) (b36 .args .ll) (b36 .args .lh) (b36 .args .k) (b36 .args .lo) (b36 .args .avail) (b36 .pre .1 .1 .1 .1) (b30 .get .result) (rw (b31 .node-at .ensures) at (b30 .get .ensures)) (omega (arith, b32 .if1 .left)) (omega (arith, b29 .if2 .left)) (b28 .get2 .result) (rw (b31 .node-at .ensures) at (b28 .get2 .ensures)) (b27 .if3 .left) (rw (b31 .node-at .ensures) at (passed (b26 .key-ok .result) (b26 .key-ok .ensures) (b25 .if5 .left))) (b23 .sides .result) (rw (b31 .node-at .ensures) at (b23 .sides .ensures)) (b17 .walk .result) (rw (words-put (b36 .args .s .variables) (b36 .args .hi .now) (b36 .pre .1 .1 .0) (b23 .sides .result .variable) (b23 .sides .result .power) (b23 .sides .ensures .known) (b23 .sides .ensures .small) (b21 .exchange .last .0) (b21 .exchange .ensures .1)) at (b17 .walk .ensures .0)) (omega (arith, b10 .if6 .left)) (b9 .count-behind .result) (b9 .count-behind .ensures) (b5 .walk2 .result) (rw (put-back (b36 .args .s .variables) (b36 .args .hi .now) (b36 .pre .1 .1 .0) (b23 .sides .result .variable) (b23 .sides .result .power) (b23 .sides .ensures .known) (b23 .sides .ensures .small) (λ i. omega (arith, (b34 .slice-known .given) i)) (b17 .walk .last .1 .1 .0) (b13 .put .last .0) (b21 .exchange .result) (λ i. omega (arith, (b11 .slice-known4 .given) i)) (b17 .walk .ensures .1 ∙ b21 .exchange .ensures .1) (b21 .exchange .ensures .0) (b13 .put .ensures)) at ((rw (b7 .count-at .ensures ∙ sym (rw (b31 .node-at .ensures) at (b30 .get .ensures))) at (b5 .walk2 .ensures .0)))) (omega (arith, c .before .before .if8 .left)) ((c .before .over-ok .ensures .0) (c .if9 .taken)), b5 .walk2 .ensures .1 ∙ (put-back (b36 .args .s .variables) (b36 .args .hi .now) (b36 .pre .1 .1 .0) (b23 .sides .result .variable) (b23 .sides .result .power) (b23 .sides .ensures .known) (b23 .sides .ensures .small) (λ i. omega (arith, (b34 .slice-known .given) i)) (b17 .walk .last .1 .1 .0) (b13 .put .last .0) (b21 .exchange .result) (λ i. omega (arith, (b11 .slice-known4 .given) i)) (b17 .walk .ensures .1 ∙ b21 .exchange .ensures .1) (b21 .exchange .ensures .0) (b13 .put .ensures)))
+    let second = c .before .before .before .before .before in
+    let less-side = second .before .before .before .before .before in
+    let first = less-side .before .before .before .before .before .before .before in
+    let key = first .before .before .before .before .before .before .before .before in
+    let start = key .before .before .before .before .before .before .before .before .before .before .before in
+    let found = less t first in
+    let some = less-side .if6 .left in
+    let count-behind = second .before .before .before .before .count-behind in
+    let some-other = c .before .before .if8 .left in (
+      a-branch (start .pre .1 .0) found (omega (arith, some)) (count-behind .ensures) (other t second) (omega (arith, some-other))
+          (c .before .over-ok .ensures .0 (c .if9 .taken)),
+      second .walk2 .ensures .1 ∙ kept t (less-side .before),
+    )
 
 -- src/lib.rt:408:1
 walk-same-length-7 : (t : ℕ) → walk-lts.Need-same-length-7 (claims t) (walk-at t) walk.Post
 walk-same-length-7 t c =
-    let b11 = c .before .before .before .before .before .before .before .before .before .before .before in
-    let b13 = b11 .before .before in
-    let b17 = b13 .before .before .before .before in
-    let b21 = b17 .before .before .before .before in
-    let b23 = b21 .before .before in
-    let b34 = b23 .before .before .before .before .before .before .before .before .before .before .before in
-    let b36 = b34 .before .before in
-    ap length (c .before .before .before .before .before .walk2 .ensures .1 ∙ (put-back (b36 .args .s .variables) (b36 .args .hi .now) (b36 .pre .1 .1 .0) (b23 .sides .result .variable) (b23 .sides .result .power) (b23 .sides .ensures .known) (b23 .sides .ensures .small) (λ i. omega (arith, (b34 .slice-known .given) i)) (b17 .walk .last .1 .1 .0) (b13 .put .last .0) (b21 .exchange .result) (λ i. omega (arith, (b11 .slice-known4 .given) i)) (b17 .walk .ensures .1 ∙ b21 .exchange .ensures .1) (b21 .exchange .ensures .0) (b13 .put .ensures)))
+    let second = c .before .before .before .before .before in
+    let less-side = second .before .before .before .before .before in
+    ap length (second .walk2 .ensures .1 ∙ kept t (less-side .before))
 
 -- src/lib.rt:408:1
 walk-returns-10 : (t : ℕ) → walk-lts.Need-returns-10 (claims t) (walk-at t) walk.Post
 walk-returns-10 t c =
-    let b5 = c .before .before .before .before .before in
-    let b7 = b5 .before .before in
-    let b9 = b7 .before .before in
-    let b10 = b9 .before in
-    let b11 = b10 .before in
-    let b13 = b11 .before .before in
-    let b17 = b13 .before .before .before .before in
-    let b21 = b17 .before .before .before .before in
-    let b23 = b21 .before .before in
-    let b25 = b23 .before .before in
-    let b26 = b25 .before in
-    let b27 = b26 .before in
-    let b28 = b27 .before in
-    let b29 = b28 .before in
-    let b30 = b29 .before in
-    let b31 = b30 .before in
-    let b32 = b31 .before in
-    let b34 = b32 .before .before in
-    let b36 = b34 .before .before in
-    (no-branch (words (b36 .args .image .now)) (b36 .args .s) (b36 .pre .1 .0) (words (b36 .args .hi .now)) (b36 .args .ll) (b36 .args .lh) (b36 .args .k) (b36 .args .lo) (b36 .args .avail) (b36 .pre .1 .1 .1 .1) (b30 .get .result) (rw (b31 .node-at .ensures) at (b30 .get .ensures)) (omega (arith, b32 .if1 .left)) (omega (arith, b29 .if2 .left)) (b28 .get2 .result) (rw (b31 .node-at .ensures) at (b28 .get2 .ensures)) (b27 .if3 .left) (rw (b31 .node-at .ensures) at (passed (b26 .key-ok .result) (b26 .key-ok .ensures) (b25 .if5 .left))) (b23 .sides .result) (rw (b31 .node-at .ensures) at (b23 .sides .ensures)) (b17 .walk .result) (rw (words-put (b36 .args .s .variables) (b36 .args .hi .now) (b36 .pre .1 .1 .0) (b23 .sides .result .variable) (b23 .sides .result .power) (b23 .sides .ensures .known) (b23 .sides .ensures .small) (b21 .exchange .last .0) (b21 .exchange .ensures .1)) at (b17 .walk .ensures .0)) (omega (arith, b10 .if6 .left)) (b9 .count-behind .result) (b9 .count-behind .ensures) (b5 .walk2 .result) (rw (put-back (b36 .args .s .variables) (b36 .args .hi .now) (b36 .pre .1 .1 .0) (b23 .sides .result .variable) (b23 .sides .result .power) (b23 .sides .ensures .known) (b23 .sides .ensures .small) (λ i. omega (arith, (b34 .slice-known .given) i)) (b17 .walk .last .1 .1 .0) (b13 .put .last .0) (b21 .exchange .result) (λ i. omega (arith, (b11 .slice-known4 .given) i)) (b17 .walk .ensures .1 ∙ b21 .exchange .ensures .1) (b21 .exchange .ensures .0) (b13 .put .ensures)) at ((rw (b7 .count-at .ensures ∙ sym (rw (b31 .node-at .ensures) at (b30 .get .ensures))) at (b5 .walk2 .ensures .0)))) (λ o. never (sym (c .if9 .left) ∙ (c .before .over-ok .ensures .1) o)), b5 .walk2 .ensures .1 ∙ (put-back (b36 .args .s .variables) (b36 .args .hi .now) (b36 .pre .1 .1 .0) (b23 .sides .result .variable) (b23 .sides .result .power) (b23 .sides .ensures .known) (b23 .sides .ensures .small) (λ i. omega (arith, (b34 .slice-known .given) i)) (b17 .walk .last .1 .1 .0) (b13 .put .last .0) (b21 .exchange .result) (λ i. omega (arith, (b11 .slice-known4 .given) i)) (b17 .walk .ensures .1 ∙ b21 .exchange .ensures .1) (b21 .exchange .ensures .0) (b13 .put .ensures)))
+    let second = c .before .before .before .before .before in
+    let less-side = second .before .before .before .before .before in
+    let first = less-side .before .before .before .before .before .before .before in
+    let key = first .before .before .before .before .before .before .before .before in
+    let start = key .before .before .before .before .before .before .before .before .before .before .before in
+    let found = less t first in
+    let some = less-side .if6 .left in
+    let count-behind = second .before .before .before .before .count-behind in (
+      no-branch (start .pre .1 .0) found (omega (arith, some)) (count-behind .ensures) (other t second)
+          (λ o. never (sym (c .if9 .left) ∙ c .before .over-ok .ensures .1 o)),
+      second .walk2 .ensures .1 ∙ kept t (less-side .before),
+    )
 
 pub +walk-spec : {M : Type 1} → statement M
 +walk-spec = close μ-walk λ t. walk-lts.spec (claims t)

@@ -1,14 +1,16 @@
 use native.Mathlib.Omega.{arith}
-use mathlib.Core.Path.{sym, ap, _∙_}
+use mathlib.Core.Path.{_≡_, sym, ap, _∙_}
 use mathlib.Core.List.{List}
-use Prim.Native.Nat.{ℕ, _+_, _*_}
-use lib.ListN.{take}
+use Prim.Native.Nat.{ℕ, _*_, _≤_}
+use lib.ListN.{length, take}
 use lib.Seq.{length-take-le}
 use Rattle.words.specs.Words.{words}
+use Rattle.monomial.specs.Monomial.{Canonical}
 use Rattle.monomial.specs.Operations.{result}
 use Rattle.monomial.specs.declared.ordered_ops.Op.the-variants.{Gcd}
 use Rattle.monomial.proofs.Laws.{canonical-more}
 use Rattle.monomial.proofs.Firsts.{starts-wide, starts-whole, first-whole}
+use Rattle.index_image.specs.Shape as shape
 use Rattle.index_image.specs.Rows.{monomialIn}
 use Rattle.index_image.proofs.Gcds.{in-canonical}
 use Rattle.index_image.proofs.Reading.{front-pasted, gcd-fits, gcd-small}
@@ -21,6 +23,57 @@ use Rattle.index_walk.proofs.branch_gcd_ok.Lts as lts
 use Rattle.index_image.proofs.stored.monomial_in.Reads as monomial-in-reads
 use Rattle.index_walk.proofs.node_ok.Reads as node-ok-reads
 use Rattle.monomial.proofs.gcd.Reads as gcd-reads
+
+-- helpers
+-- the gcds of both rows
+abbrev one : tie.Start → List ℕ
+one a = monomialIn (words (a .args .image .now)) (a .args .s .variables) (shape.gcdAt (a .args .a))
+
+abbrev two : tie.Start → List ℕ
+two a = monomialIn (words (a .args .image .now)) (a .args .s .variables) (shape.gcdAt (a .args .b))
+
+one-good : (a : tie.Start) → Canonical 1 64 (one a)
+one-good a =
+    canonical-more (omega arith) (a .pre .0 .range .vars-to)
+    (in-canonical (words (a .args .image .now)) (a .args .s .variables) (shape.gcdAt (a .args .a)) (a .pre .1 .1 .0 .one))
+
+two-good : (a : tie.Start) → Canonical 1 64 (two a)
+two-good a =
+    canonical-more (omega arith) (a .pre .0 .range .vars-to)
+    (in-canonical (words (a .args .image .now)) (a .args .s .variables) (shape.gcdAt (a .args .b)) (a .pre .1 .1 .0 .two))
+
+fits : (a : tie.Start) → length (result Gcd (one a) (two a)) ≤ 65
+fits a = gcd-fits (one a) (two a) (one-good a) (two-good a)
+
+-- what the call made of them
+made-length : (c : tie.After-gcd)
+    → c .gcd .result ≡ length (result Gcd (one (c .before .before .before .before .before)) (two (c .before .before .before .before .before)))
+made-length c =
+    let start = c .before .before .before .before .before in
+    rw (
+      c .before .before .before .monomial-in .ensures .is,
+      c .before .before .monomial-in2 .ensures .is,
+      first-whole (one-good start),
+      first-whole
+          (two-good start),
+    ) at (c .gcd .ensures .0)
+
+made : (c : tie.After-gcd)
+    → words (take (4 * c .gcd .result) (c .gcd .last .1 .1 .0)) ≡ result Gcd (one (c .before .before .before .before .before))
+    (two (c .before .before .before .before .before))
+made c =
+    let start = c .before .before .before .before .before in
+    let written = rw (
+      c .before .before .before .monomial-in .ensures .is,
+      c .before .before .monomial-in2 .ensures .is,
+      first-whole
+          (one-good start),
+      first-whole (two-good start),
+    ) at (c .gcd .ensures .1) in
+    ap (λ (l : List ℕ). words (take (4 * c .gcd .result) l)) written
+    ∙ front-pasted _ (result Gcd (one start) (two start)) (c .gcd .result) (gcd-small (one start) (two start) (one-good start) (two-good start)) (made-length c)
+
+-- end of helpers
 
 -- src/lib.rt:288:35
 add-monomial-in : tie.Need-add-monomial-in
@@ -44,27 +97,39 @@ slice-aggregate-gcd c = search needs
 
 -- src/lib.rt:287:11
 gcd-requires : tie.Need-gcd-requires
-gcd-requires c κs = let ca = canonical-more (omega arith) (c .before .before .before .before .pre .0 .range .vars-to) (in-canonical (words (c .before .before .before .before .args .image .now)) (c .before .before .before .before .args .s .variables) ((c .before .before .before .before .args .a) + 5) (c .before .before .before .before .pre .1 .1 .0 .one)) in let cb = canonical-more (omega arith) (c .before .before .before .before .pre .0 .range .vars-to) (in-canonical (words (c .before .before .before .before .args .image .now)) (c .before .before .before .before .args .s .variables) ((c .before .before .before .before .args .b) + 5) (c .before .before .before .before .pre .1 .1 .0 .two)) in rw (c .before .before .monomial-in .ensures .is, c .before .monomial-in2 .ensures .is) (starts-wide (starts-whole ca), (starts-wide (starts-whole cb), rw (first-whole ca, first-whole cb) (omega (arith, gcd-fits (monomialIn (words (c .before .before .before .before .args .image .now)) (c .before .before .before .before .args .s .variables) ((c .before .before .before .before .args .a) + 5)) (monomialIn (words (c .before .before .before .before .args .image .now)) (c .before .before .before .before .args .s .variables) ((c .before .before .before .before .args .b) + 5)) ca cb))))
+gcd-requires c κs =
+    let start = c .before .before .before .before in
+    let ca = one-good start in
+    let cb = two-good start in
+    rw (c .before .before .monomial-in .ensures .is, c .before .monomial-in2 .ensures .is)
+    (starts-wide (starts-whole ca), (starts-wide (starts-whole cb), rw (first-whole ca, first-whole cb) (omega (arith, fits start))))
 
 -- src/lib.rt:286:13
 mul-e : tie.Need-mul-e
-mul-e c = omega (arith, gcd-fits (monomialIn (words (c .before .before .before .before .before .before .args .image .now)) (c .before .before .before .before .before .before .args .s .variables) ((c .before .before .before .before .before .before .args .a) + 5)) (monomialIn (words (c .before .before .before .before .before .before .args .image .now)) (c .before .before .before .before .before .before .args .s .variables) ((c .before .before .before .before .before .before .args .b) + 5)) (canonical-more (omega arith) (c .before .before .before .before .before .before .pre .0 .range .vars-to) (in-canonical (words (c .before .before .before .before .before .before .args .image .now)) (c .before .before .before .before .before .before .args .s .variables) ((c .before .before .before .before .before .before .args .a) + 5) (c .before .before .before .before .before .before .pre .1 .1 .0 .one))) (canonical-more (omega arith) (c .before .before .before .before .before .before .pre .0 .range .vars-to) (in-canonical (words (c .before .before .before .before .before .before .args .image .now)) (c .before .before .before .before .before .before .args .s .variables) ((c .before .before .before .before .before .before .args .b) + 5) (c .before .before .before .before .before .before .pre .1 .1 .0 .two))), (rw (c .before .before .before .before .monomial-in .ensures .is, c .before .before .before .monomial-in2 .ensures .is, first-whole (canonical-more (omega arith) (c .before .before .before .before .before .before .pre .0 .range .vars-to) (in-canonical (words (c .before .before .before .before .before .before .args .image .now)) (c .before .before .before .before .before .before .args .s .variables) ((c .before .before .before .before .before .before .args .a) + 5) (c .before .before .before .before .before .before .pre .1 .1 .0 .one))), first-whole (canonical-more (omega arith) (c .before .before .before .before .before .before .pre .0 .range .vars-to) (in-canonical (words (c .before .before .before .before .before .before .args .image .now)) (c .before .before .before .before .before .before .args .s .variables) ((c .before .before .before .before .before .before .args .b) + 5) (c .before .before .before .before .before .before .pre .1 .1 .0 .two)))) at (c .before .gcd .ensures .0)))
+mul-e c = omega (arith, fits (c .before .before .before .before .before .before), made-length (c .before))
 
 -- src/lib.rt:292:27
 array-share-prefix-made : tie.Need-array-share-prefix-made
-array-share-prefix-made c = omega (arith, gcd-fits (monomialIn (words (c .before .before .before .before .before .before .args .image .now)) (c .before .before .before .before .before .before .args .s .variables) ((c .before .before .before .before .before .before .args .a) + 5)) (monomialIn (words (c .before .before .before .before .before .before .args .image .now)) (c .before .before .before .before .before .before .args .s .variables) ((c .before .before .before .before .before .before .args .b) + 5)) (canonical-more (omega arith) (c .before .before .before .before .before .before .pre .0 .range .vars-to) (in-canonical (words (c .before .before .before .before .before .before .args .image .now)) (c .before .before .before .before .before .before .args .s .variables) ((c .before .before .before .before .before .before .args .a) + 5) (c .before .before .before .before .before .before .pre .1 .1 .0 .one))) (canonical-more (omega arith) (c .before .before .before .before .before .before .pre .0 .range .vars-to) (in-canonical (words (c .before .before .before .before .before .before .args .image .now)) (c .before .before .before .before .before .before .args .s .variables) ((c .before .before .before .before .before .before .args .b) + 5) (c .before .before .before .before .before .before .pre .1 .1 .0 .two))), (rw (c .before .before .before .before .monomial-in .ensures .is, c .before .before .before .monomial-in2 .ensures .is, first-whole (canonical-more (omega arith) (c .before .before .before .before .before .before .pre .0 .range .vars-to) (in-canonical (words (c .before .before .before .before .before .before .args .image .now)) (c .before .before .before .before .before .before .args .s .variables) ((c .before .before .before .before .before .before .args .a) + 5) (c .before .before .before .before .before .before .pre .1 .1 .0 .one))), first-whole (canonical-more (omega arith) (c .before .before .before .before .before .before .pre .0 .range .vars-to) (in-canonical (words (c .before .before .before .before .before .before .args .image .now)) (c .before .before .before .before .before .before .args .s .variables) ((c .before .before .before .before .before .before .args .b) + 5) (c .before .before .before .before .before .before .pre .1 .1 .0 .two)))) at (c .before .gcd .ensures .0)), c .before .gcd .kept .1 .1 .0)
+array-share-prefix-made c = omega (arith, fits (c .before .before .before .before .before .before), made-length (c .before), c .before .gcd .kept .1 .1 .0)
 
 -- src/lib.rt:292:27
 slice-aggregate-node-ok : tie.Need-slice-aggregate-node-ok
-slice-aggregate-node-ok c = sym (length-take-le (4 * (c .before .before .gcd .result)) (c .before .before .gcd .last .1 .1 .0) (omega (arith, gcd-fits (monomialIn (words (c .before .before .before .before .before .before .before .args .image .now)) (c .before .before .before .before .before .before .before .args .s .variables) ((c .before .before .before .before .before .before .before .args .a) + 5)) (monomialIn (words (c .before .before .before .before .before .before .before .args .image .now)) (c .before .before .before .before .before .before .before .args .s .variables) ((c .before .before .before .before .before .before .before .args .b) + 5)) (canonical-more (omega arith) (c .before .before .before .before .before .before .before .pre .0 .range .vars-to) (in-canonical (words (c .before .before .before .before .before .before .before .args .image .now)) (c .before .before .before .before .before .before .before .args .s .variables) ((c .before .before .before .before .before .before .before .args .a) + 5) (c .before .before .before .before .before .before .before .pre .1 .1 .0 .one))) (canonical-more (omega arith) (c .before .before .before .before .before .before .before .pre .0 .range .vars-to) (in-canonical (words (c .before .before .before .before .before .before .before .args .image .now)) (c .before .before .before .before .before .before .before .args .s .variables) ((c .before .before .before .before .before .before .before .args .b) + 5) (c .before .before .before .before .before .before .before .pre .1 .1 .0 .two))), (rw (c .before .before .before .before .before .monomial-in .ensures .is, c .before .before .before .before .monomial-in2 .ensures .is, first-whole (canonical-more (omega arith) (c .before .before .before .before .before .before .before .pre .0 .range .vars-to) (in-canonical (words (c .before .before .before .before .before .before .before .args .image .now)) (c .before .before .before .before .before .before .before .args .s .variables) ((c .before .before .before .before .before .before .before .args .a) + 5) (c .before .before .before .before .before .before .before .pre .1 .1 .0 .one))), first-whole (canonical-more (omega arith) (c .before .before .before .before .before .before .before .pre .0 .range .vars-to) (in-canonical (words (c .before .before .before .before .before .before .before .args .image .now)) (c .before .before .before .before .before .before .before .args .s .variables) ((c .before .before .before .before .before .before .before .args .b) + 5) (c .before .before .before .before .before .before .before .pre .1 .1 .0 .two)))) at (c .before .before .gcd .ensures .0)), c .before .before .gcd .kept .1 .1 .0)))
+slice-aggregate-node-ok c =
+    let gcd = c .before .before .gcd in
+    sym (length-take-le (4 * gcd .result) (gcd .last .1 .1 .0)
+    (omega (arith, fits (c .before .before .before .before .before .before .before), made-length (c .before .before), gcd .kept .1 .1 .0)))
 
 -- src/lib.rt:292:5
 node-ok-requires : tie.Need-node-ok-requires
-node-ok-requires c κs = (c .before .before .before .before .before .before .before .pre .0, (c .before .before .before .before .before .before .before .pre .1 .0, rw (ap (λ (l : List ℕ). words (take (4 * (c .before .before .gcd .result)) l)) (rw (c .before .before .before .before .before .monomial-in .ensures .is, c .before .before .before .before .monomial-in2 .ensures .is, first-whole (canonical-more (omega arith) (c .before .before .before .before .before .before .before .pre .0 .range .vars-to) (in-canonical (words (c .before .before .before .before .before .before .before .args .image .now)) (c .before .before .before .before .before .before .before .args .s .variables) ((c .before .before .before .before .before .before .before .args .a) + 5) (c .before .before .before .before .before .before .before .pre .1 .1 .0 .one))), first-whole (canonical-more (omega arith) (c .before .before .before .before .before .before .before .pre .0 .range .vars-to) (in-canonical (words (c .before .before .before .before .before .before .before .args .image .now)) (c .before .before .before .before .before .before .before .args .s .variables) ((c .before .before .before .before .before .before .before .args .b) + 5) (c .before .before .before .before .before .before .before .pre .1 .1 .0 .two)))) at (c .before .before .gcd .ensures .1)) ∙ front-pasted _ (result Gcd (monomialIn (words (c .before .before .before .before .before .before .before .args .image .now)) (c .before .before .before .before .before .before .before .args .s .variables) ((c .before .before .before .before .before .before .before .args .a) + 5)) (monomialIn (words (c .before .before .before .before .before .before .before .args .image .now)) (c .before .before .before .before .before .before .before .args .s .variables) ((c .before .before .before .before .before .before .before .args .b) + 5))) (c .before .before .gcd .result) (gcd-small (monomialIn (words (c .before .before .before .before .before .before .before .args .image .now)) (c .before .before .before .before .before .before .before .args .s .variables) ((c .before .before .before .before .before .before .before .args .a) + 5)) (monomialIn (words (c .before .before .before .before .before .before .before .args .image .now)) (c .before .before .before .before .before .before .before .args .s .variables) ((c .before .before .before .before .before .before .before .args .b) + 5)) (canonical-more (omega arith) (c .before .before .before .before .before .before .before .pre .0 .range .vars-to) (in-canonical (words (c .before .before .before .before .before .before .before .args .image .now)) (c .before .before .before .before .before .before .before .args .s .variables) ((c .before .before .before .before .before .before .before .args .a) + 5) (c .before .before .before .before .before .before .before .pre .1 .1 .0 .one))) (canonical-more (omega arith) (c .before .before .before .before .before .before .before .pre .0 .range .vars-to) (in-canonical (words (c .before .before .before .before .before .before .before .args .image .now)) (c .before .before .before .before .before .before .before .args .s .variables) ((c .before .before .before .before .before .before .before .args .b) + 5) (c .before .before .before .before .before .before .before .pre .1 .1 .0 .two)))) (rw (c .before .before .before .before .before .monomial-in .ensures .is, c .before .before .before .before .monomial-in2 .ensures .is, first-whole (canonical-more (omega arith) (c .before .before .before .before .before .before .before .pre .0 .range .vars-to) (in-canonical (words (c .before .before .before .before .before .before .before .args .image .now)) (c .before .before .before .before .before .before .before .args .s .variables) ((c .before .before .before .before .before .before .before .args .a) + 5) (c .before .before .before .before .before .before .before .pre .1 .1 .0 .one))), first-whole (canonical-more (omega arith) (c .before .before .before .before .before .before .before .pre .0 .range .vars-to) (in-canonical (words (c .before .before .before .before .before .before .before .args .image .now)) (c .before .before .before .before .before .before .before .args .s .variables) ((c .before .before .before .before .before .before .before .args .b) + 5) (c .before .before .before .before .before .before .before .pre .1 .1 .0 .two)))) at (c .before .before .gcd .ensures .0))) (slots-gcd (words (c .before .before .before .before .before .before .before .args .image .now)) (c .before .before .before .before .before .before .before .args .s .variables) (c .before .before .before .before .before .before .before .args .a) (c .before .before .before .before .before .before .before .args .b) (c .before .before .before .before .before .before .before .pre .0 .range .vars-to) (c .before .before .before .before .before .before .before .pre .1 .1 .0))))
+node-ok-requires c κs =
+    let start = c .before .before .before .before .before .before .before in
+    let good = slots-gcd (words (start .args .image .now)) (start .args .s .variables) (start .args .a) (start .args .b)
+    (start .pre .0 .range .vars-to) (start .pre .1 .1 .0) in
+    (start .pre .0, (start .pre .1 .0, rw (made (c .before .before)) good))
 
 -- src/lib.rt:278:1
 returns : tie.Need-returns
-returns c = rw (ap (λ (l : List ℕ). words (take (4 * (c .before .before .before .gcd .result)) l)) (rw (c .before .before .before .before .before .before .monomial-in .ensures .is, c .before .before .before .before .before .monomial-in2 .ensures .is, first-whole (canonical-more (omega arith) (c .before .before .before .before .before .before .before .before .pre .0 .range .vars-to) (in-canonical (words (c .before .before .before .before .before .before .before .before .args .image .now)) (c .before .before .before .before .before .before .before .before .args .s .variables) ((c .before .before .before .before .before .before .before .before .args .a) + 5) (c .before .before .before .before .before .before .before .before .pre .1 .1 .0 .one))), first-whole (canonical-more (omega arith) (c .before .before .before .before .before .before .before .before .pre .0 .range .vars-to) (in-canonical (words (c .before .before .before .before .before .before .before .before .args .image .now)) (c .before .before .before .before .before .before .before .before .args .s .variables) ((c .before .before .before .before .before .before .before .before .args .b) + 5) (c .before .before .before .before .before .before .before .before .pre .1 .1 .0 .two)))) at (c .before .before .before .gcd .ensures .1)) ∙ front-pasted _ (result Gcd (monomialIn (words (c .before .before .before .before .before .before .before .before .args .image .now)) (c .before .before .before .before .before .before .before .before .args .s .variables) ((c .before .before .before .before .before .before .before .before .args .a) + 5)) (monomialIn (words (c .before .before .before .before .before .before .before .before .args .image .now)) (c .before .before .before .before .before .before .before .before .args .s .variables) ((c .before .before .before .before .before .before .before .before .args .b) + 5))) (c .before .before .before .gcd .result) (gcd-small (monomialIn (words (c .before .before .before .before .before .before .before .before .args .image .now)) (c .before .before .before .before .before .before .before .before .args .s .variables) ((c .before .before .before .before .before .before .before .before .args .a) + 5)) (monomialIn (words (c .before .before .before .before .before .before .before .before .args .image .now)) (c .before .before .before .before .before .before .before .before .args .s .variables) ((c .before .before .before .before .before .before .before .before .args .b) + 5)) (canonical-more (omega arith) (c .before .before .before .before .before .before .before .before .pre .0 .range .vars-to) (in-canonical (words (c .before .before .before .before .before .before .before .before .args .image .now)) (c .before .before .before .before .before .before .before .before .args .s .variables) ((c .before .before .before .before .before .before .before .before .args .a) + 5) (c .before .before .before .before .before .before .before .before .pre .1 .1 .0 .one))) (canonical-more (omega arith) (c .before .before .before .before .before .before .before .before .pre .0 .range .vars-to) (in-canonical (words (c .before .before .before .before .before .before .before .before .args .image .now)) (c .before .before .before .before .before .before .before .before .args .s .variables) ((c .before .before .before .before .before .before .before .before .args .b) + 5) (c .before .before .before .before .before .before .before .before .pre .1 .1 .0 .two)))) (rw (c .before .before .before .before .before .before .monomial-in .ensures .is, c .before .before .before .before .before .monomial-in2 .ensures .is, first-whole (canonical-more (omega arith) (c .before .before .before .before .before .before .before .before .pre .0 .range .vars-to) (in-canonical (words (c .before .before .before .before .before .before .before .before .args .image .now)) (c .before .before .before .before .before .before .before .before .args .s .variables) ((c .before .before .before .before .before .before .before .before .args .a) + 5) (c .before .before .before .before .before .before .before .before .pre .1 .1 .0 .one))), first-whole (canonical-more (omega arith) (c .before .before .before .before .before .before .before .before .pre .0 .range .vars-to) (in-canonical (words (c .before .before .before .before .before .before .before .before .args .image .now)) (c .before .before .before .before .before .before .before .before .args .s .variables) ((c .before .before .before .before .before .before .before .before .args .b) + 5) (c .before .before .before .before .before .before .before .before .pre .1 .1 .0 .two)))) at (c .before .before .before .gcd .ensures .0))) at (c .node-ok .ensures)
+returns c = rw (made (c .before .before .before)) at (c .node-ok .ensures)
 
 pub branch-gcd-ok-spec : {M : Type 1} → statement M
 branch-gcd-ok-spec =

@@ -60,7 +60,8 @@ add-if3 c = search needs
 
 -- src/lib.rt:331:9
 returns-3 : tie.Need-returns-3
-returns-3 c = refuse (λ o. (c .if3 .taken) (omega (arith, o .count, c .before .before .before .before .before .get .ensures, c .before .before .before .get2 .ensures, c .before .get3 .ensures)))
+returns-3 c =
+    refuse (λ o. (c .if3 .taken) (omega (arith, o .count, c .before .before .before .before .before .get .ensures, c .before .before .before .get2 .ensures, c .before .get3 .ensures)))
 
 -- src/lib.rt:333:26
 add-get-4 : tie.Need-add-get-4
@@ -80,7 +81,14 @@ returns-4 c = refuse (λ o. (c .if4 .taken) (c .before .get4 .ensures ∙ o .ski
 
 -- src/lib.rt:336:9
 other-ok-requires : tie.Need-other-ok-requires
-other-ok-requires c κs = (c .before .before .before .before .before .before .before .before .before .pre .0 .range, (omega (arith, c .before .before .before .before .before .before .before .before .before .pre .1 .0), (c .before .before .before .before .before .before .before .before .before .pre .1 .1 .1 .0, (record { one = c .before .before .before .before .before .before .before .before .before .pre .1 .1 .1 .1 .two; two = (c .before .before .before .before .before .before .before .before .before .pre .1 .1 .1 .1 .two) }, c .before .before .before .before .before .before .before .before .before .pre .1 .1 .0 .1))))
+other-ok-requires c κs =
+    let start = c .before .before .before .before .before .before .before .before .before in (
+      start .pre .0 .range,
+      (
+        omega (arith, start .pre .1 .0),
+        (start .pre .1 .1 .1 .0, (record { one = start .pre .1 .1 .1 .1 .two; two = start .pre .1 .1 .1 .1 .two }, start .pre .1 .1 .0 .1)),
+      ),
+    )
 
 -- src/lib.rt:337:9
 returns-5 : tie.Need-returns-5
@@ -88,11 +96,32 @@ returns-5 c = refuse (λ o. failed (c .before .other-ok .result) (c .before .oth
 
 -- src/lib.rt:339:5
 branch-gcd-ok-requires : tie.Need-branch-gcd-ok-requires
-branch-gcd-ok-requires c κs = (c .before .before .before .before .before .before .before .before .before .before .before .pre .0, (c .before .before .before .before .before .before .before .before .before .before .before .pre .1 .0, (c .before .before .before .before .before .before .before .before .before .before .before .pre .1 .1 .1 .1, c .before .before .before .before .before .before .before .before .before .before .before .pre .1 .1 .0)))
+branch-gcd-ok-requires c κs =
+    let start = c .before .before .before .before .before .before .before .before .before .before .before in
+    (start .pre .0, (start .pre .1 .0, (start .pre .1 .1 .1 .1, start .pre .1 .1 .0)))
 
 -- src/lib.rt:314:1
 returns-6 : tie.Need-returns-6
-returns-6 c = (λ z. record { some-less = omega (arith, c .before .before .before .before .before .before .before .before .before .before .get .ensures, c .before .before .before .before .before .before .before .before .before .if1 .left); some-other = omega (arith, c .before .before .before .before .before .before .before .before .get2 .ensures, c .before .before .before .before .before .before .before .if2 .left); count = omega (arith, c .before .before .before .before .before .before .before .before .before .before .get .ensures, c .before .before .before .before .before .before .before .before .get2 .ensures, c .before .before .before .before .before .before .get3 .ensures, c .before .before .before .before .before .if3 .left); skip = sym (c .before .before .before .before .get4 .ensures) ∙ c .before .before .before .if4 .left; node = (c .branch-gcd-ok .ensures .0) z; other = passed (c .before .before .other-ok .result) (c .before .before .other-ok .ensures) (c .before .if5 .left) }, λ o. (c .branch-gcd-ok .ensures .1) (o .node))
+returns-6 c =
+    let get = c .before .before .before .before .before .before .before .before .before .before .get in
+    let if1 = c .before .before .before .before .before .before .before .before .before .if1 in
+    let get2 = c .before .before .before .before .before .before .before .before .get2 in
+    let if2 = c .before .before .before .before .before .before .before .if2 in
+    let get3 = c .before .before .before .before .before .before .get3 in
+    let if3 = c .before .before .before .before .before .if3 in
+    let get4 = c .before .before .before .before .get4 in
+    let if4 = c .before .before .before .if4 in
+    let other-ok = c .before .before .other-ok in (
+      λ z. record {
+        some-less = omega (arith, get .ensures, if1 .left);
+        some-other = omega (arith, get2 .ensures, if2 .left);
+        count = omega (arith, get .ensures, get2 .ensures, get3 .ensures, if3 .left);
+        skip = sym (get4 .ensures) ∙ if4 .left;
+        node = c .branch-gcd-ok .ensures .0 z;
+        other = passed (other-ok .result) (other-ok .ensures) (c .before .if5 .left);
+      },
+      λ o. c .branch-gcd-ok .ensures .1 (o .node),
+    )
 
 pub branch-ok-spec : {M : Type 1} → statement M
 branch-ok-spec =

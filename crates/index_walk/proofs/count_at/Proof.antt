@@ -1,6 +1,9 @@
 use native.Mathlib.Omega.{arith}
 use Rattle.index_image.proofs.Places.{node-room}
 use mathlib.Core.Path.{_∙_}
+use Prim.Native.Nat.{_+_, _*_, _≤_}
+use lib.ListN.{length}
+use Rattle.index_image.specs.Shape as shape
 use borrow.Author.Needs.{needs}
 use Rattle.index_walk.proofs.count_at.Statement.{statement}
 use Rattle.index_walk.proofs.count_at.Tie as tie
@@ -9,17 +12,26 @@ use Rattle.index_walk.proofs.count_at.Lts as lts
 use Rattle.index_image.proofs.Shape.node_at.Reads as node-at-reads
 use Rattle.words.proofs.get.Reads as get-reads
 
+-- helpers
+-- the row lies within the image, whose rows are few
+room : (a : tie.Start) → 4 * (shape.nodeAt (a .args .s) (a .args .k) + shape.nodeWidth (a .args .s .variables)) ≤ length (a .args .image .now)
+room a = node-room (a .args .image .now) (a .args .s) (a .pre .0) (a .args .k) (a .pre .1)
+
+-- end of helpers
+
 -- src/lib.rt:348:23
 node-at-requires : tie.Need-node-at-requires
-node-at-requires c κs = (c .before .pre .0 .range, omega (arith, node-room (c .before .args .image .now) (c .before .args .s) (c .before .pre .0) (c .before .args .k) (c .before .pre .1), c .before .pre .0 .range .nodes-to, c .before .pre .0 .range .cap-to))
+node-at-requires c κs =
+    let range = c .before .pre .0 .range in
+    (range, omega (arith, room (c .before), range .nodes-to, range .cap-to))
 
 -- src/lib.rt:348:23
 add-get : tie.Need-add-get
-add-get c = omega (arith, node-room (c .before .before .args .image .now) (c .before .before .args .s) (c .before .before .pre .0) (c .before .before .args .k) (c .before .before .pre .1), c .before .before .pre .0 .range .nodes-to, c .before .before .pre .0 .range .cap-to, c .node-at .ensures)
+add-get c = omega (arith, room (c .before .before), c .node-at .ensures)
 
 -- src/lib.rt:348:5
 get-requires : tie.Need-get-requires
-get-requires c κs = omega (arith, node-room (c .before .before .args .image .now) (c .before .before .args .s) (c .before .before .pre .0) (c .before .before .args .k) (c .before .before .pre .1), c .before .before .pre .0 .range .nodes-to, c .before .before .pre .0 .range .cap-to, c .node-at .ensures)
+get-requires c κs = omega (arith, room (c .before .before), c .node-at .ensures)
 
 -- src/lib.rt:348:5
 cast-result : tie.Need-cast-result

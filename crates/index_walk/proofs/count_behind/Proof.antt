@@ -1,7 +1,7 @@
 use native.Mathlib.Omega.{arith}
 use mathlib.Core.Path.{_≡_, ap, _∙_}
-use Prim.Native.Nat.{ℕ, _+_}
-use lib.ListN.{getD}
+use Prim.Native.Nat.{ℕ, _+_, _*_, _≤_}
+use lib.ListN.{length, getD}
 use Rattle.words.specs.Words.{words}
 use Rattle.index_image.specs.Shape as shape
 use Rattle.index_image.proofs.Places.{node-room, row-behind}
@@ -12,21 +12,29 @@ use Rattle.index_walk.proofs.count_behind.Reads as reads
 use Rattle.index_walk.proofs.count_behind.Lts as lts
 use Rattle.words.proofs.get.Reads as get-reads
 
+-- helpers
+-- the row behind lies within the image
+room : (a : tie.Start) → 4 * (a .args .at + (shape.nodeWidth (a .args .s .variables) + shape.nodeWidth (a .args .s .variables))) ≤ length (a .args .image .now)
+room a =
+    omega (arith, node-room (a .args .image .now) (a .args .s) (a .pre .0) (a .args .k + 1) (a .pre .1 .0), row-behind (a .args .s) (a .args .k), a .pre .1 .1)
+
+-- end of helpers
+
 -- src/lib.rt:380:44
 add-get : tie.Need-add-get
-add-get c = omega (arith, node-room (c .before .args .image .now) (c .before .args .s) (c .before .pre .0) ((c .before .args .k) + 1) (c .before .pre .1 .0), row-behind (c .before .args .s) (c .before .args .k), c .before .pre .1 .1)
+add-get c = omega (arith, room (c .before))
 
 -- src/lib.rt:380:29
 add-get-2 : tie.Need-add-get-2
-add-get-2 c = omega (arith, node-room (c .before .before .args .image .now) (c .before .before .args .s) (c .before .before .pre .0) ((c .before .before .args .k) + 1) (c .before .before .pre .1 .0), row-behind (c .before .before .args .s) (c .before .before .args .k), c .before .before .pre .1 .1)
+add-get-2 c = omega (arith, room (c .before .before))
 
 -- src/lib.rt:380:23
 add-get-3 : tie.Need-add-get-3
-add-get-3 c = omega (arith, node-room (c .before .before .args .image .now) (c .before .before .args .s) (c .before .before .pre .0) ((c .before .before .args .k) + 1) (c .before .before .pre .1 .0), row-behind (c .before .before .args .s) (c .before .before .args .k), c .before .before .pre .1 .1)
+add-get-3 c = omega (arith, room (c .before .before))
 
 -- src/lib.rt:380:5
 get-requires : tie.Need-get-requires
-get-requires c κs = omega (arith, node-room (c .before .before .args .image .now) (c .before .before .args .s) (c .before .before .pre .0) ((c .before .before .args .k) + 1) (c .before .before .pre .1 .0), row-behind (c .before .before .args .s) (c .before .before .args .k), c .before .before .pre .1 .1)
+get-requires c κs = omega (arith, room (c .before .before))
 
 -- src/lib.rt:380:5
 cast-result : tie.Need-cast-result
@@ -34,7 +42,11 @@ cast-result c = search needs
 
 -- src/lib.rt:375:1
 returns : tie.Need-returns
-returns c = let e : (c .before .before .before .args .at) + ((c .before .before .before .args .s .variables) + 8) ≡ shape.countAt (shape.nodeAt (c .before .before .before .args .s) ((c .before .before .before .args .k) + 1)) = omega (arith, row-behind (c .before .before .before .args .s) (c .before .before .before .args .k), c .before .before .before .pre .1 .1) in (c .get .ensures) ∙ ap (λ (x : ℕ). getD (words (c .before .before .before .args .image .now)) x 0) e
+returns c =
+    let start = c .before .before .before in
+    let e : start .args .at + (start .args .s .variables + shape.countAt (shape.nodeWidth 0)) ≡ shape.countAt (shape.nodeAt (start .args .s) (start .args .k + 1)) =
+    omega (arith, row-behind (start .args .s) (start .args .k), start .pre .1 .1) in
+    c .get .ensures ∙ ap (λ (x : ℕ). getD (words (start .args .image .now)) x 0) e
 
 pub count-behind-spec : {M : Type 1} → statement M
 count-behind-spec =

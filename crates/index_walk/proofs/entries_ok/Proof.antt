@@ -32,7 +32,13 @@ permutation-at-requires c κs = c .before .before .pre .0 .range
 
 -- src/lib.rt:96:13
 add-p : tie.Need-add-p Inv-loop μ-loop
-add-p c = omega (arith, place-room (c .before .before .before .args .image .now) (c .before .before .before .args .s) (c .before .before .before .pre .0) ((c .before .before .before .args .lo) + (c .before .before .before .args .c)) (c .before .before .before .pre .1 .1), c .permutation-at .ensures)
+add-p c =
+    let start = c .before .before .before in
+    omega (
+      arith,
+      place-room (start .args .image .now) (start .args .s) (start .pre .0) (start .args .lo + start .args .c) (start .pre .1 .1),
+      c .permutation-at .ensures,
+    )
 
 -- src/lib.rt:98:5
 loop-holds : tie.Need-loop-holds Inv-loop μ-loop
@@ -40,11 +46,23 @@ loop-holds c = (omega arith, λ k h. absurd (omega arith))
 
 -- src/lib.rt:99:35
 add-get : tie.Need-add-get Inv-loop μ-loop
-add-get c = omega (arith, place-room (c .before .before .before .before .before .args .image .now) (c .before .before .before .before .before .args .s) (c .before .before .before .before .before .pre .0) ((c .before .before .before .before .before .args .lo) + (c .before .before .before .before .before .args .c)) (c .before .before .before .before .before .pre .1 .1), c .before .before .permutation-at .ensures)
+add-get c =
+    let start = c .before .before .before .before .before in
+    omega (
+      arith,
+      place-room (start .args .image .now) (start .args .s) (start .pre .0) (start .args .lo + start .args .c) (start .pre .1 .1),
+      c .before .before .permutation-at .ensures,
+    )
 
 -- src/lib.rt:99:17
 get-requires : tie.Need-get-requires Inv-loop μ-loop
-get-requires c κs = omega (arith, place-room (c .before .before .before .before .before .args .image .now) (c .before .before .before .before .before .args .s) (c .before .before .before .before .before .pre .0) ((c .before .before .before .before .before .args .lo) + (c .before .before .before .before .before .args .c)) (c .before .before .before .before .before .pre .1 .1), c .before .before .permutation-at .ensures)
+get-requires c κs =
+    let start = c .before .before .before .before .before in
+    omega (
+      arith,
+      place-room (start .args .image .now) (start .args .s) (start .pre .0) (start .args .lo + start .args .c) (start .pre .1 .1),
+      c .before .before .permutation-at .ensures,
+    )
 
 -- src/lib.rt:99:17
 cast-e : tie.Need-cast-e Inv-loop μ-loop
@@ -52,11 +70,38 @@ cast-e c = omega arith
 
 -- src/lib.rt:100:13
 entry-ok-requires : tie.Need-entry-ok-requires Inv-loop μ-loop
-entry-ok-requires c κs = (c .before .before .before .before .before .before .pre .0, (c .before .before .before .before .before .before .pre .1 .0, (let z : (c .before .before .before .permutation-at .result) + (c .before .before .before .before .before .before .args .lo) + (c .before .before .loop .i) ≡ at.permutationAt (c .before .before .before .before .before .before .args .s) + ((c .before .before .before .before .before .before .args .lo) + (c .before .before .loop .i)) = omega (arith, c .before .before .before .permutation-at .ensures) in rw (c .get .ensures, z) ((c .before .before .before .before .before .before .pre .0 .places) ((c .before .before .before .before .before .before .args .lo) + (c .before .before .loop .i)) (omega arith)))))
+entry-ok-requires c κs =
+    let start = c .before .before .before .before .before .before in
+    let permutation-at = c .before .before .before .permutation-at in
+    let loop = c .before .before .loop in (
+      start .pre .0,
+      (
+        start .pre .1 .0,
+        let z : permutation-at .result + start .args .lo + loop .i ≡ at.permutationAt (start .args .s) + (start .args .lo + loop .i) =
+            omega (arith, permutation-at .ensures) in rw (c .get .ensures, z)
+            (start .pre .0 .places (start .args .lo + loop .i) (omega arith)),
+      ),
+    )
 
 -- src/lib.rt:101:13
 returns : tie.Need-returns Inv-loop μ-loop
-returns c = refuse (not-bounded (words (c .before .before .before .before .before .before .before .before .args .image .now)) (c .before .before .before .before .before .before .before .before .args .s) (words (c .before .before .before .before .before .before .before .before .args .hi .now)) (c .before .before .before .before .before .before .before .before .args .ll) (c .before .before .before .before .before .before .before .before .args .lh) (at.permutationAt (c .before .before .before .before .before .before .before .before .args .s) + (c .before .before .before .before .before .before .before .before .args .lo)) (c .before .before .before .before .before .before .before .before .args .c) (c .before .before .before .before .loop .i) (omega (arith, place-fits (words (c .before .before .before .before .before .before .before .before .args .image .now)) (c .before .before .before .before .before .before .before .before .args .s) (c .before .before .before .before .before .before .before .before .pre .0) ((c .before .before .before .before .before .before .before .before .args .lo) + (c .before .before .before .before .before .before .before .before .args .c)) (c .before .before .before .before .before .before .before .before .pre .1 .1))) (c .before .before .before .loop-test .taken) (λ h. failed (c .before .entry-ok .result) (c .before .entry-ok .ensures) (c .if1 .taken) (rw (c .before .before .get .ensures, c .before .before .before .before .before .permutation-at .ensures) h)))
+returns c =
+    let start = c .before .before .before .before .before .before .before .before in
+    let permutation-at = c .before .before .before .before .before .permutation-at in
+    let loop = c .before .before .before .before .loop in
+    let loop-test = c .before .before .before .loop-test in
+    let entry-ok = c .before .entry-ok in
+    refuse
+    (not-bounded (words (start .args .image .now)) (start .args .s) (words (start .args .hi .now)) (start .args .ll) (start .args .lh)
+    (at.permutationAt (start .args .s) + start .args .lo) (start .args .c) (loop .i)
+    (omega (
+      arith,
+      place-fits (words (start .args .image .now)) (start .args .s) (start .pre .0) (start .args .lo + start .args .c)
+          (start .pre .1 .1),
+    ))
+    (loop-test .taken)
+    (λ h. failed (entry-ok .result) (entry-ok .ensures) (c .if1 .taken)
+    (rw (c .before .before .get .ensures, permutation-at .ensures) h)))
 
 -- src/lib.rt:103:9
 add-i : tie.Need-add-i Inv-loop μ-loop
@@ -68,11 +113,26 @@ loop-less c = omega arith
 
 -- src/lib.rt:98:5
 loop-again : tie.Need-loop-again Inv-loop μ-loop
-loop-again c = (omega arith, below-more _ _ (c .before .before .before .before .loop .inv .1) (rw (c .before .before .get .ensures) at (passed (c .before .entry-ok .result) (c .before .entry-ok .ensures) (c .if1 .left))))
+loop-again c =
+    let loop = c .before .before .before .before .loop in
+    let entry-ok = c .before .entry-ok in (
+      omega arith,
+      below-more _ _ (loop .inv .1) (rw (c .before .before .get .ensures) at (passed (entry-ok .result) (entry-ok .ensures) (c .if1 .left))),
+    )
 
 -- src/lib.rt:90:1
 returns-2 : tie.Need-returns-2 Inv-loop μ-loop
-returns-2 c = accept (bounded-part (words (c .before .before .before .before .before .args .image .now)) (c .before .before .before .before .before .args .s) (words (c .before .before .before .before .before .args .hi .now)) (c .before .before .before .before .before .args .ll) (c .before .before .before .before .before .args .lh) (at.permutationAt (c .before .before .before .before .before .args .s) + (c .before .before .before .before .before .args .lo)) (c .before .before .before .before .before .args .c) (omega (arith, place-fits (words (c .before .before .before .before .before .args .image .now)) (c .before .before .before .before .before .args .s) (c .before .before .before .before .before .pre .0) ((c .before .before .before .before .before .args .lo) + (c .before .before .before .before .before .args .c)) (c .before .before .before .before .before .pre .1 .1))) .1 (λ k h. rw (c .before .before .permutation-at .ensures) at ((c .before .loop .inv .1) k (omega arith))))
+returns-2 c =
+    let start = c .before .before .before .before .before in
+    accept
+    (bounded-part (words (start .args .image .now)) (start .args .s) (words (start .args .hi .now)) (start .args .ll) (start .args .lh)
+    (at.permutationAt (start .args .s) + start .args .lo) (start .args .c)
+    (omega (
+      arith,
+      place-fits (words (start .args .image .now)) (start .args .s) (start .pre .0) (start .args .lo + start .args .c)
+          (start .pre .1 .1),
+    )) .1
+    (λ k h. rw (c .before .before .permutation-at .ensures) at (c .before .loop .inv .1 k (omega arith))))
 
 pub entries-ok-spec : {M : Type 1} → statement M
 entries-ok-spec =

@@ -23,7 +23,11 @@ entry-at-requires c κs = search needs
 monomial-from-requires : tie.Need-monomial-from-requires
 monomial-from-requires c κs =
     let o = c .before .before .before in
-    rw (c .entry-at .ensures) (o .pre .0 .lms (o .args .e) (o .pre .1 .1), omega (arith, entry-room (o .args .image .now) (o .args .s) (o .pre .0) (o .args .e) (o .pre .1 .1)))
+    rw (c .entry-at .ensures) (
+      o .pre .0 .lms (o .args .e) (o .pre .1 .1),
+      omega
+          (arith, entry-room (o .args .image .now) (o .args .s) (o .pre .0) (o .args .e) (o .pre .1 .1)),
+    )
 
 -- src/lib.rt:76:9
 powers-below-requires : tie.Need-powers-below-requires
@@ -33,23 +37,61 @@ powers-below-requires c κs =
 
 -- src/lib.rt:77:9
 returns : tie.Need-returns
-returns c = no-powers (words (c .before .before .before .before .before .before .args .image .now)) (c .before .before .before .before .before .before .args .s) (words (c .before .before .before .before .before .before .args .hi .now)) (c .before .before .before .before .before .before .args .ll) (c .before .before .before .before .before .before .args .lh) (c .before .before .before .before .before .before .args .e) (first 1 (words (c .before .before .monomial-from .result .now))) (c .before .powers-below .result) (lm-read (words (c .before .before .before .before .before .before .args .image .now)) (c .before .before .before .before .before .before .args .s) (c .before .before .before .before .before .before .args .e) (c .before .before .before .entry-at .result) (first 1 (words (c .before .before .monomial-from .result .now))) (c .before .before .before .entry-at .ensures) (c .before .before .monomial-from .ensures .is)) (c .before .powers-below .ensures) (c .if1 .taken)
+returns c =
+    let start = c .before .before .before .before .before .before in
+    let entry-at = c .before .before .before .entry-at in
+    let monomial-from = c .before .before .monomial-from in
+    let powers-below = c .before .powers-below in
+    no-powers _ _ _ _ _ _ _ _ (lm-read _ _ _ _ _ (entry-at .ensures) (monomial-from .ensures .is)) (powers-below .ensures) (c .if1 .taken)
 
 -- src/lib.rt:80:9
 returns-2 : tie.Need-returns-2
-returns-2 c = no-labels (words (c .before .before .before .before .before .before .before .before .args .image .now)) (c .before .before .before .before .before .before .before .before .args .s) (words (c .before .before .before .before .before .before .before .before .args .hi .now)) (c .before .before .before .before .before .before .before .before .args .ll) (c .before .before .before .before .before .before .before .before .args .lh) (c .before .before .before .before .before .before .before .before .args .e) (first 1 (words (c .before .before .before .before .monomial-from .result .now))) (c .before .before .before .powers-below .result) (lm-read (words (c .before .before .before .before .before .before .before .before .args .image .now)) (c .before .before .before .before .before .before .before .before .args .s) (c .before .before .before .before .before .before .before .before .args .e) (c .before .before .before .before .before .entry-at .result) (first 1 (words (c .before .before .before .before .monomial-from .result .now))) (c .before .before .before .before .before .entry-at .ensures) (c .before .before .before .before .monomial-from .ensures .is)) (c .before .before .before .powers-below .ensures) (c .before .before .if1 .left) (c .if2 .taken)
+returns-2 c =
+    let start = c .before .before .before .before .before .before .before .before in
+    let entry-at = c .before .before .before .before .before .entry-at in
+    let monomial-from = c .before .before .before .before .monomial-from in
+    let powers-below = c .before .before .before .powers-below in
+    no-labels _ _ _ _ _ _ _ _ (lm-read _ _ _ _ _ (entry-at .ensures) (monomial-from .ensures .is)) (powers-below .ensures)
+    (c .before .before .if1 .left) (c .if2 .taken)
 
 -- src/lib.rt:82:9
 label-in-requires : tie.Need-label-in-requires
-label-in-requires c κs = (c .before .before .before .before .before .before .before .before .pre .0 .range, (omega (arith, c .before .before .before .before .before .before .before .before .pre .0 .room, length-words (c .before .before .before .before .before .before .before .before .args .image .now)), (((omega (arith, c .before .before .before .before .before .before .before .before .pre .0 .range .kind-to, c .if2 .left)), omega (arith, c .before .before .before .before .before .before .before .before .pre .0 .range .few, c .before .before .before .before .before .before .before .before .pre .1 .1)), (c .before .before .before .before .before .before .before .before .pre .0 .rows) (omega (arith, c .before .before .before .before .before .before .before .before .pre .0 .range .kind-to, c .if2 .left)) (c .before .before .before .before .before .before .before .before .args .e) (c .before .before .before .before .before .before .before .before .pre .1 .1))))
+label-in-requires c κs =
+    let start = c .before .before .before .before .before .before .before .before in (
+      start .pre .0 .range,
+      (
+        omega (arith, start .pre .0 .room, length-words (start .args .image .now)),
+        (
+          (omega (arith, start .pre .0 .range .kind-to, c .if2 .left), omega (arith, start .pre .0 .range .few, start .pre .1 .1)),
+          start .pre .0 .rows (omega (arith, start .pre .0 .range .kind-to, c .if2 .left)) (start .args .e) (start .pre .1 .1),
+        ),
+      ),
+    )
 
 -- src/lib.rt:84:9
 returns-3 : tie.Need-returns-3
-returns-3 c = too-low (words (c .before .before .before .before .before .before .before .before .before .before .args .image .now)) (c .before .before .before .before .before .before .before .before .before .before .args .s) (words (c .before .before .before .before .before .before .before .before .before .before .args .hi .now)) (c .before .before .before .before .before .before .before .before .before .before .args .ll) (c .before .before .before .before .before .before .before .before .before .before .args .lh) (c .before .before .before .before .before .before .before .before .before .before .args .e) (first 1 (words (c .before .before .before .before .before .before .monomial-from .result .now))) (c .before .before .before .before .before .powers-below .result) (lm-read (words (c .before .before .before .before .before .before .before .before .before .before .args .image .now)) (c .before .before .before .before .before .before .before .before .before .before .args .s) (c .before .before .before .before .before .before .before .before .before .before .args .e) (c .before .before .before .before .before .before .before .entry-at .result) (first 1 (words (c .before .before .before .before .before .before .monomial-from .result .now))) (c .before .before .before .before .before .before .before .entry-at .ensures) (c .before .before .before .before .before .before .monomial-from .ensures .is)) (c .before .before .before .before .before .powers-below .ensures) (omega (arith, c .before .before .before .before .before .before .before .before .before .before .pre .0 .range .kind-to, c .before .before .if2 .left)) (c .before .label-in .result) (c .before .label-in .ensures) (c .if3 .taken)
+returns-3 c =
+    let start = c .before .before .before .before .before .before .before .before .before .before in
+    let entry-at = c .before .before .before .before .before .before .before .entry-at in
+    let monomial-from = c .before .before .before .before .before .before .monomial-from in
+    let powers-below = c .before .before .before .before .before .powers-below in
+    let label-in = c .before .label-in in
+    too-low _ _ _ _ _ _ _ _ (lm-read _ _ _ _ _ (entry-at .ensures) (monomial-from .ensures .is)) (powers-below .ensures)
+    (omega (arith, start .pre .0 .range .kind-to, c .before .before .if2 .left)) (label-in .result)
+    (label-in .ensures) (c .if3 .taken)
 
 -- src/lib.rt:69:1
 returns-4 : tie.Need-returns-4
-returns-4 c = by-label (words (c .before .before .before .before .before .before .before .before .before .before .args .image .now)) (c .before .before .before .before .before .before .before .before .before .before .args .s) (words (c .before .before .before .before .before .before .before .before .before .before .args .hi .now)) (c .before .before .before .before .before .before .before .before .before .before .args .ll) (c .before .before .before .before .before .before .before .before .before .before .args .lh) (c .before .before .before .before .before .before .before .before .before .before .args .e) (first 1 (words (c .before .before .before .before .before .before .monomial-from .result .now))) (c .before .before .before .before .before .powers-below .result) (lm-read (words (c .before .before .before .before .before .before .before .before .before .before .args .image .now)) (c .before .before .before .before .before .before .before .before .before .before .args .s) (c .before .before .before .before .before .before .before .before .before .before .args .e) (c .before .before .before .before .before .before .before .entry-at .result) (first 1 (words (c .before .before .before .before .before .before .monomial-from .result .now))) (c .before .before .before .before .before .before .before .entry-at .ensures) (c .before .before .before .before .before .before .monomial-from .ensures .is)) (c .before .before .before .before .before .powers-below .ensures) (omega (arith, c .before .before .before .before .before .before .before .before .before .before .pre .0 .range .kind-to, c .before .before .if2 .left)) (c .before .label-in .result) (c .before .label-in .ensures) (c .before .before .before .before .if1 .left) (c .if3 .left)
+returns-4 c =
+    let start = c .before .before .before .before .before .before .before .before .before .before in
+    let entry-at = c .before .before .before .before .before .before .before .entry-at in
+    let monomial-from = c .before .before .before .before .before .before .monomial-from in
+    let powers-below = c .before .before .before .before .before .powers-below in
+    let if1 = c .before .before .before .before .if1 in
+    let label-in = c .before .label-in in
+    by-label _ _ _ _ _ _ _ _ (lm-read _ _ _ _ _ (entry-at .ensures) (monomial-from .ensures .is)) (powers-below .ensures)
+    (omega (arith, start .pre .0 .range .kind-to, c .before .before .if2 .left)) (label-in .result)
+    (label-in .ensures) (if1 .left) (c .if3 .left)
 
 pub entry-ok-spec : {M : Type 1} → statement M
 entry-ok-spec =

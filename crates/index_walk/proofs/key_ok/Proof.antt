@@ -55,11 +55,43 @@ cast-key c = search needs
 
 -- src/lib.rt:231:9
 returns-4 : tie.Need-returns-4
-returns-4 c = (λ z. record { two = omega (arith, c .before .before .before .before .before .before .before .before .before .get .ensures, c .before .before .before .before .before .before .before .before .if1 .left); from = omega (arith, c .before .before .before .before .before .before .before .get2 .ensures, c .before .before .before .before .before .before .if2 .left); to = omega (arith, c .before .before .before .before .before .before .before .get2 .ensures, c .before .before .before .before .if3 .left); ratio = λ e. omega (arith, ltb-true (c .before .before .before .get3 .result) (c .before .before .before .before .before .before .before .before .before .before .before .args .s .entries) z, c .before .before .before .get3 .ensures); variable = λ n. absurd (n (sym (c .before .before .before .before .before .before .before .get2 .ensures) ∙ c .before .if4 .taken)) }, λ h. lt-ltb (c .before .before .before .get3 .result) (c .before .before .before .before .before .before .before .before .before .before .before .args .s .entries) (omega (arith, h .ratio (sym (c .before .before .before .before .before .before .before .get2 .ensures) ∙ c .before .if4 .taken), c .before .before .before .get3 .ensures)))
+returns-4 c =
+    let start = c .before .before .before .before .before .before .before .before .before .before .before in
+    let get = c .before .before .before .before .before .before .before .before .before .get in
+    let if1 = c .before .before .before .before .before .before .before .before .if1 in
+    let get2 = c .before .before .before .before .before .before .before .get2 in
+    let if2 = c .before .before .before .before .before .before .if2 in
+    let if3 = c .before .before .before .before .if3 in
+    let get3 = c .before .before .before .get3 in
+    let if4 = c .before .if4 in (
+      λ z. record {
+        two = omega (arith, get .ensures, if1 .left);
+        from = omega (arith, get2 .ensures, if2 .left);
+        to = omega (arith, get2 .ensures, if3 .left);
+        ratio = λ e. omega (arith, ltb-true (get3 .result) (start .args .s .entries) z, get3 .ensures);
+        variable = λ n. absurd (n (sym (get2 .ensures) ∙ if4 .taken));
+      },
+      λ h. lt-ltb (get3 .result) (start .args .s .entries) (omega (arith, h .ratio (sym (get2 .ensures) ∙ if4 .taken), get3 .ensures)),
+    )
 
 -- src/lib.rt:214:1
 returns-5 : tie.Need-returns-5
-returns-5 c = (λ z. record { two = omega (arith, c .before .before .before .before .before .before .before .before .get .ensures, c .before .before .before .before .before .before .before .if1 .left); from = omega (arith, c .before .before .before .before .before .before .get2 .ensures, c .before .before .before .before .before .if2 .left); to = omega (arith, c .before .before .before .before .before .before .get2 .ensures, c .before .before .before .if3 .left); ratio = λ e. absurd ((c .if4 .left) (c .before .before .before .before .before .before .get2 .ensures ∙ e)); variable = λ n. omega (arith, leb-true 1 (c .before .before .get3 .result) z, c .before .before .get3 .ensures) }, λ h. le-leb 1 (c .before .before .get3 .result) (omega (arith, h .variable (λ e. (c .if4 .left) (c .before .before .before .before .before .before .get2 .ensures ∙ e)), c .before .before .get3 .ensures)))
+returns-5 c =
+    let get = c .before .before .before .before .before .before .before .before .get in
+    let if1 = c .before .before .before .before .before .before .before .if1 in
+    let get2 = c .before .before .before .before .before .before .get2 in
+    let if2 = c .before .before .before .before .before .if2 in
+    let if3 = c .before .before .before .if3 in
+    let get3 = c .before .before .get3 in (
+      λ z. record {
+        two = omega (arith, get .ensures, if1 .left);
+        from = omega (arith, get2 .ensures, if2 .left);
+        to = omega (arith, get2 .ensures, if3 .left);
+        ratio = λ e. absurd (c .if4 .left (get2 .ensures ∙ e));
+        variable = λ n. omega (arith, leb-true 1 (get3 .result) z, get3 .ensures);
+      },
+      λ h. le-leb 1 (get3 .result) (omega (arith, h .variable (λ e. c .if4 .left (get2 .ensures ∙ e)), get3 .ensures)),
+    )
 
 pub key-ok-spec : {M : Type 1} → statement M
 key-ok-spec =

@@ -33,15 +33,31 @@ array-share-prefix-acc c = omega (arith, c .before .gcd-of .ensures .0, c .befor
 
 -- src/lib.rt:181:27
 slice-aggregate-node-ok : tie.Need-slice-aggregate-node-ok
-slice-aggregate-node-ok c = sym (length-take-le (4 * (c .before .before .gcd-of .result)) (c .before .before .gcd-of .last .1 .1 .1 .1 .0) (omega (arith, c .before .before .gcd-of .ensures .0, c .before .before .gcd-of .kept .1 .1 .1 .1 .0)))
+slice-aggregate-node-ok c =
+    let gcd-of = c .before .before .gcd-of in
+    sym (length-take-le (4 * gcd-of .result) (gcd-of .last .1 .1 .1 .1 .0) (omega (arith, gcd-of .ensures .0, gcd-of .kept .1 .1 .1 .1 .0)))
 
 -- src/lib.rt:181:5
 node-ok-requires : tie.Need-node-ok-requires
-node-ok-requires c κs = (c .before .before .before .before .before .pre .0, (c .before .before .before .before .before .pre .1 .0, rw (front-words (c .before .before .gcd-of .last .1 .1 .1 .1 .0) (c .before .before .gcd-of .result) ∙ c .before .before .gcd-of .ensures .1) (gcd-canonical (c .before .before .before .before .before .args .s .variables) (power (words (c .before .before .before .before .before .args .image .now)) (c .before .before .before .before .before .args .s)) (image-powers (words (c .before .before .before .before .before .args .image .now)) (c .before .before .before .before .before .args .s) (c .before .before .before .before .before .pre .0 .range .vars-to)) (entriesFrom (words (c .before .before .before .before .before .args .image .now)) (c .before .before .before .before .before .args .s) (c .before .before .before .before .before .args .lo) (c .before .before .before .before .before .args .c)))))
+node-ok-requires c κs =
+    let start = c .before .before .before .before .before in
+    let gcd-of = c .before .before .gcd-of in
+    let W = words (start .args .image .now) in (
+      start .pre .0,
+      (
+        start .pre .1 .0,
+        rw (front-words (gcd-of .last .1 .1 .1 .1 .0) (gcd-of .result) ∙ gcd-of .ensures .1)
+            (gcd-canonical (start .args .s .variables) (power W (start .args .s))
+            (image-powers W (start .args .s) (start .pre .0 .range .vars-to))
+            (entriesFrom W (start .args .s) (start .args .lo) (start .args .c))),
+      ),
+    )
 
 -- src/lib.rt:173:1
 returns : tie.Need-returns
-returns c = rw (front-words (c .before .before .before .gcd-of .last .1 .1 .1 .1 .0) (c .before .before .before .gcd-of .result) ∙ c .before .before .before .gcd-of .ensures .1) at (c .node-ok .ensures)
+returns c =
+    let gcd-of = c .before .before .before .gcd-of in
+    rw (front-words (gcd-of .last .1 .1 .1 .1 .0) (gcd-of .result) ∙ gcd-of .ensures .1) at (c .node-ok .ensures)
 
 pub leaf-gcd-ok-spec : {M : Type 1} → statement M
 leaf-gcd-ok-spec =

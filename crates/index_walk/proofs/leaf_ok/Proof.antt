@@ -47,7 +47,20 @@ entries-ok-requires c κs = search needs
 
 -- src/lib.rt:185:1
 returns-4 : tie.Need-returns-4
-returns-4 c = (λ z. record { key = sym (c .before .before .before .before .before .before .get .ensures) ∙ c .before .before .before .before .before .if1 .left; skip = sym (c .before .before .before .before .get2 .ensures) ∙ c .before .before .before .if2 .left; node = passed (c .before .before .leaf-gcd-ok .result) (c .before .before .leaf-gcd-ok .ensures) (c .before .if3 .left); bounded = (c .entries-ok .ensures .0) z }, λ o. (c .entries-ok .ensures .1) (o .bounded))
+returns-4 c =
+    let get = c .before .before .before .before .before .before .get in
+    let if1 = c .before .before .before .before .before .if1 in
+    let get2 = c .before .before .before .before .get2 in
+    let if2 = c .before .before .before .if2 in
+    let leaf-gcd-ok = c .before .before .leaf-gcd-ok in (
+      λ z. record {
+        key = sym (get .ensures) ∙ if1 .left;
+        skip = sym (get2 .ensures) ∙ if2 .left;
+        node = passed (leaf-gcd-ok .result) (leaf-gcd-ok .ensures) (c .before .if3 .left);
+        bounded = c .entries-ok .ensures .0 z;
+      },
+      λ o. c .entries-ok .ensures .1 (o .bounded),
+    )
 
 pub leaf-ok-spec : {M : Type 1} → statement M
 leaf-ok-spec =

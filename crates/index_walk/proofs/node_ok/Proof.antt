@@ -1,16 +1,17 @@
 use Rattle.index_image.proofs.Places.{place-room}
 use native.Mathlib.Omega.{arith}
-use mathlib.Core.Path.{sym, _∙_}
+use mathlib.Core.Path.{_≡_, sym, _∙_}
 use Rattle.words.specs.Tables.{part}
 use Rattle.monomial.proofs.Firsts.{starts-whole}
 use Rattle.divmask.proofs.Masks.{mask-whole}
-use Prim.Native.Nat.{_+_, _-_, _*_, _/_}
-use lib.ListN.{length}
+use Prim.Native.Nat.{ℕ, _+_, _-_, _*_, _/_, _≤_}
+use lib.ListN.{length, take, drop}
 use Rattle.words.specs.Words.{words}
 use Rattle.words.proofs.Laws.{length-words}
 use Rattle.monomial.proofs.Powers.{canonical-length}
-use Rattle.index_image.proofs.Reading.{part-words}
-use Rattle.index_walk.proofs.Testing.{other-mask, other-words, by-zeros}
+use Rattle.index_image.specs.Shape as at
+use Rattle.index_image.proofs.Slots.{range-words}
+use Rattle.index_walk.proofs.Testing.{RowRead, other-mask, other-words, by-zeros}
 use borrow.Author.Needs.{needs}
 use Rattle.index_walk.proofs.node_ok.Statement.{statement}
 use Rattle.index_walk.proofs.node_ok.Tie as tie
@@ -20,6 +21,41 @@ use Rattle.divmask.proofs.map.Reads as map-reads
 use Rattle.monomial.proofs.eq.Reads as eq-reads
 use Rattle.words.proofs.get.Reads as get-reads
 use Rattle.words.proofs.runs.is_blank.Reads as is-blank-reads
+
+-- helpers
+-- the maxima of the map, and the words of the gcd, as they are lent
+abbrev map-at : tie.Start → ℕ
+map-at a = at.mapAt (a .args .s .variables)
+
+maxima-lent : (a : tie.Start) → words (take (4 * map-at a + 4 * a .args .s .variables - 4 * map-at a) (drop (4 * map-at a) (a .args .image .now))) ≡ part (words (a .args .image .now)) (map-at a) (a .args .s .variables)
+maxima-lent a = range-words (a .args .image .now) (map-at a) (a .args .s .variables)
+
+-- the gcd fits in its slot
+short : (a : tie.Start) → length (a .args .gcd .now) / 4 ≤ at.slotWidth (a .args .s .variables)
+short a =
+    omega (
+      arith,
+      length-words (a .args .gcd .now),
+      canonical-length 1 (a .args .s .variables) (words (a .args .gcd .now)) (omega arith)
+          (omega (arith, a .pre .0 .range .vars-to)) (a .pre .1 .1),
+    )
+
+row-read : (c : tie.After-map)
+    → let start = c .before .before .before .before .before in
+    RowRead (words (start .args .image .now)) (start .args .s) (start .args .at) (words (start .args .gcd .now))
+    (c .before .before .get .result) (c .map .result)
+row-read c =
+    let start = c .before .before .before .before .before in
+    record {
+      few = start .pre .0 .range .vars-to;
+      canonical = start .pre .1 .1;
+      fits = omega (arith, length-words (start .args .image .now), start .pre .1 .0);
+      mask-read = c .before .before .get .ensures;
+      mask-made = rw (maxima-lent start) at (c .map .ensures) ∙ mask-whole
+          (part (words (start .args .image .now)) (map-at start) (start .args .s .variables)) (start .pre .1 .1);
+    }
+
+-- end of helpers
 
 -- src/lib.rt:158:18
 add-x : tie.Need-add-x
@@ -55,7 +91,9 @@ part-map-start c = search needs
 
 -- src/lib.rt:160:50
 part-map-end : tie.Need-part-map-end
-part-map-end c = omega (arith, place-room (c .before .before .before .args .image .now) (c .before .before .before .args .s) (c .before .before .before .pre .0) 0 (omega arith))
+part-map-end c =
+    let start = c .before .before .before in
+    omega (arith, place-room (start .args .image .now) (start .args .s) (start .pre .0) 0 (omega arith))
 
 -- src/lib.rt:160:64
 cast-map : tie.Need-cast-map
@@ -63,11 +101,13 @@ cast-map c = search needs
 
 -- src/lib.rt:160:37
 map-requires : tie.Need-map-requires
-map-requires c κs = (rw (part-words (c .before .before .before .before .args .image .now) (24 + (c .before .before .before .before .args .s .variables)) (c .before .before .before .before .args .s .variables) (4 * (24 + (c .before .before .before .before .args .s .variables)) + 4 * (c .before .before .before .before .args .s .variables) - 4 * (24 + (c .before .before .before .before .args .s .variables))) (omega arith)) (c .before .before .before .before .pre .0 .map), starts-whole (c .before .before .before .before .pre .1 .1))
+map-requires c κs =
+    let start = c .before .before .before .before in
+    (rw (maxima-lent start) (start .pre .0 .map), starts-whole (start .pre .1 .1))
 
 -- src/lib.rt:161:9
 returns : tie.Need-returns
-returns c = other-mask (words (c .before .before .before .before .before .before .args .image .now)) (c .before .before .before .before .before .before .args .s) (c .before .before .before .before .before .before .args .at) (words (c .before .before .before .before .before .before .args .gcd .now)) (c .before .before .before .before .before .before .pre .0 .range .vars-to) (c .before .before .before .before .before .before .pre .1 .1) (omega (arith, length-words (c .before .before .before .before .before .before .args .image .now), c .before .before .before .before .before .before .pre .1 .0)) (c .before .before .before .get .result) (c .before .map .result) (c .before .before .before .get .ensures) (rw (part-words (c .before .before .before .before .before .before .args .image .now) (24 + (c .before .before .before .before .before .before .args .s .variables)) (c .before .before .before .before .before .before .args .s .variables) (4 * (24 + (c .before .before .before .before .before .before .args .s .variables)) + 4 * (c .before .before .before .before .before .before .args .s .variables) - 4 * (24 + (c .before .before .before .before .before .before .args .s .variables))) (omega arith)) at (c .before .map .ensures) ∙ mask-whole (part (words (c .before .before .before .before .before .before .args .image .now)) (24 + (c .before .before .before .before .before .before .args .s .variables)) (c .before .before .before .before .before .before .args .s .variables)) (c .before .before .before .before .before .before .pre .1 .1)) (c .if1 .taken)
+returns c = other-mask (row-read (c .before)) (c .if1 .taken)
 
 -- src/lib.rt:164:18
 add-g : tie.Need-add-g
@@ -95,7 +135,7 @@ part-eq-start c = search needs
 
 -- src/lib.rt:166:22
 part-eq-end : tie.Need-part-eq-end
-part-eq-end c = omega (arith, length-words (c .before .before .before .before .before .before .args .gcd .now), canonical-length 1 (c .before .before .before .before .before .before .args .s .variables) (words (c .before .before .before .before .before .before .args .gcd .now)) (omega arith) (omega (arith, (c .before .before .before .before .before .before .pre .0 .range .vars-to))) (c .before .before .before .before .before .before .pre .1 .1), c .before .before .before .before .before .before .pre .1 .0)
+part-eq-end c = omega (arith, short (c .before .before .before .before .before .before), c .before .before .before .before .before .before .pre .1 .0)
 
 -- src/lib.rt:166:9
 eq-requires : tie.Need-eq-requires
@@ -103,7 +143,11 @@ eq-requires c κs = search needs
 
 -- src/lib.rt:167:9
 returns-2 : tie.Need-returns-2
-returns-2 c = other-words (words (c .before .before .before .before .before .before .before .before .before .args .image .now)) (c .before .before .before .before .before .before .before .before .before .args .s) (c .before .before .before .before .before .before .before .before .before .args .at) (words (c .before .before .before .before .before .before .before .before .before .args .gcd .now)) (c .before .before .before .before .before .before .before .before .before .pre .0 .range .vars-to) (c .before .before .before .before .before .before .before .before .before .pre .1 .1) (omega (arith, length-words (c .before .before .before .before .before .before .before .before .before .args .image .now), c .before .before .before .before .before .before .before .before .before .pre .1 .0)) (c .before .before .before .before .before .before .get .result) (c .before .before .before .before .map .result) (c .before .before .before .before .before .before .get .ensures) (rw (part-words (c .before .before .before .before .before .before .before .before .before .args .image .now) (24 + (c .before .before .before .before .before .before .before .before .before .args .s .variables)) (c .before .before .before .before .before .before .before .before .before .args .s .variables) (4 * (24 + (c .before .before .before .before .before .before .before .before .before .args .s .variables)) + 4 * (c .before .before .before .before .before .before .before .before .before .args .s .variables) - 4 * (24 + (c .before .before .before .before .before .before .before .before .before .args .s .variables))) (omega arith)) at (c .before .before .before .before .map .ensures) ∙ mask-whole (part (words (c .before .before .before .before .before .before .before .before .before .args .image .now)) (24 + (c .before .before .before .before .before .before .before .before .before .args .s .variables)) (c .before .before .before .before .before .before .before .before .before .args .s .variables)) (c .before .before .before .before .before .before .before .before .before .pre .1 .1)) (length (c .before .before .before .before .before .before .before .before .before .args .gcd .now) / 4) (sym (length-words (c .before .before .before .before .before .before .before .before .before .args .gcd .now))) _ (part-words (c .before .before .before .before .before .before .before .before .before .args .image .now) ((c .before .before .before .before .before .before .before .before .before .args .at) + 5) (length (c .before .before .before .before .before .before .before .before .before .args .gcd .now) / 4) (4 * ((c .before .before .before .before .before .before .before .before .before .args .at) + 5) + 4 * (length (c .before .before .before .before .before .before .before .before .before .args .gcd .now) / 4) - 4 * ((c .before .before .before .before .before .before .before .before .before .args .at) + 5)) (omega arith)) (c .before .eq .result) (c .before .eq .ensures) (c .if2 .taken)
+returns-2 c =
+    let start = c .before .before .before .before .before .before .before .before .before in
+    let eq = c .before .eq in
+    other-words (row-read (c .before .before .before .before)) _ (sym (length-words (start .args .gcd .now)))
+    (range-words (start .args .image .now) (at.gcdAt (start .args .at)) (length (start .args .gcd .now) / 4)) (eq .result) (eq .ensures) (c .if2 .taken)
 
 -- src/lib.rt:169:34
 add-is-blank : tie.Need-add-is-blank
@@ -119,15 +163,21 @@ add-is-blank-3 c = search needs
 
 -- src/lib.rt:169:46
 sub-is-blank : tie.Need-sub-is-blank
-sub-is-blank c = omega (arith, length-words (c .before .before .before .before .before .before .before .before .before .args .gcd .now), canonical-length 1 (c .before .before .before .before .before .before .before .before .before .args .s .variables) (words (c .before .before .before .before .before .before .before .before .before .args .gcd .now)) (omega arith) (omega (arith, (c .before .before .before .before .before .before .before .before .before .pre .0 .range .vars-to))) (c .before .before .before .before .before .before .before .before .before .pre .1 .1))
+sub-is-blank c = omega (arith, short (c .before .before .before .before .before .before .before .before .before))
 
 -- src/lib.rt:169:5
 is-blank-requires : tie.Need-is-blank-requires
-is-blank-requires c κs = omega (arith, length-words (c .before .before .before .before .before .before .before .before .before .args .gcd .now), canonical-length 1 (c .before .before .before .before .before .before .before .before .before .args .s .variables) (words (c .before .before .before .before .before .before .before .before .before .args .gcd .now)) (omega arith) (omega (arith, (c .before .before .before .before .before .before .before .before .before .pre .0 .range .vars-to))) (c .before .before .before .before .before .before .before .before .before .pre .1 .1), c .before .before .before .before .before .before .before .before .before .pre .1 .0)
+is-blank-requires c κs =
+    omega (arith, short (c .before .before .before .before .before .before .before .before .before), c .before .before .before .before .before .before .before .before .before .pre .1 .0)
 
 -- src/lib.rt:151:1
 returns-3 : tie.Need-returns-3
-returns-3 c = by-zeros (words (c .before .before .before .before .before .before .before .before .before .before .args .image .now)) (c .before .before .before .before .before .before .before .before .before .before .args .s) (c .before .before .before .before .before .before .before .before .before .before .args .at) (words (c .before .before .before .before .before .before .before .before .before .before .args .gcd .now)) (c .before .before .before .before .before .before .before .before .before .before .pre .0 .range .vars-to) (c .before .before .before .before .before .before .before .before .before .before .pre .1 .1) (omega (arith, length-words (c .before .before .before .before .before .before .before .before .before .before .args .image .now), c .before .before .before .before .before .before .before .before .before .before .pre .1 .0)) (c .before .before .before .before .before .before .before .get .result) (c .before .before .before .before .before .map .result) (c .before .before .before .before .before .before .before .get .ensures) (rw (part-words (c .before .before .before .before .before .before .before .before .before .before .args .image .now) (24 + (c .before .before .before .before .before .before .before .before .before .before .args .s .variables)) (c .before .before .before .before .before .before .before .before .before .before .args .s .variables) (4 * (24 + (c .before .before .before .before .before .before .before .before .before .before .args .s .variables)) + 4 * (c .before .before .before .before .before .before .before .before .before .before .args .s .variables) - 4 * (24 + (c .before .before .before .before .before .before .before .before .before .before .args .s .variables))) (omega arith)) at (c .before .before .before .before .before .map .ensures) ∙ mask-whole (part (words (c .before .before .before .before .before .before .before .before .before .before .args .image .now)) (24 + (c .before .before .before .before .before .before .before .before .before .before .args .s .variables)) (c .before .before .before .before .before .before .before .before .before .before .args .s .variables)) (c .before .before .before .before .before .before .before .before .before .before .pre .1 .1)) (length (c .before .before .before .before .before .before .before .before .before .before .args .gcd .now) / 4) (sym (length-words (c .before .before .before .before .before .before .before .before .before .before .args .gcd .now))) _ (part-words (c .before .before .before .before .before .before .before .before .before .before .args .image .now) ((c .before .before .before .before .before .before .before .before .before .before .args .at) + 5) (length (c .before .before .before .before .before .before .before .before .before .before .args .gcd .now) / 4) (4 * ((c .before .before .before .before .before .before .before .before .before .before .args .at) + 5) + 4 * (length (c .before .before .before .before .before .before .before .before .before .before .args .gcd .now) / 4) - 4 * ((c .before .before .before .before .before .before .before .before .before .before .args .at) + 5)) (omega arith)) (c .before .before .eq .result) (c .before .before .eq .ensures) (c .before .before .before .before .if1 .left) (c .before .if2 .left) (c .is-blank .result) (c .is-blank .ensures)
+returns-3 c =
+    let start = c .before .before .before .before .before .before .before .before .before .before in
+    let eq = c .before .before .eq in
+    by-zeros (row-read (c .before .before .before .before .before)) _ (sym (length-words (start .args .gcd .now)))
+    (range-words (start .args .image .now) (at.gcdAt (start .args .at)) (length (start .args .gcd .now) / 4)) (eq .result) (eq .ensures)
+    (c .before .before .before .before .if1 .left) (c .before .if2 .left) (c .is-blank .result) (c .is-blank .ensures)
 
 pub node-ok-spec : {M : Type 1} → statement M
 node-ok-spec =

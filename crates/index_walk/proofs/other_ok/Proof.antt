@@ -1,6 +1,8 @@
 use native.Mathlib.Omega.{arith}
-use Prim.Native.Nat.{_+_}
 use Rattle.words.specs.Words.{words}
+use Rattle.monomial.specs.Monomial.{Canonical}
+use Rattle.index_image.specs.Shape as shape
+use Rattle.index_image.specs.Rows.{monomialIn}
 use Rattle.index_walk.proofs.Testing.{other-answer}
 use Rattle.index_image.proofs.Gcds.{in-canonical}
 use Rattle.monomial.proofs.Firsts.{starts-wide, starts-whole, first-whole}
@@ -12,6 +14,13 @@ use Rattle.index_walk.proofs.other_ok.Lts as lts
 use Rattle.index_image.proofs.stored.monomial_in.Reads as monomial-in-reads
 use Rattle.monomial.proofs.power_of.Reads as power-of-reads
 use Rattle.words.proofs.get.Reads as get-reads
+
+-- helpers
+-- the gcd of the other side's row
+good : (a : tie.Start) → Canonical 1 (a .args .s .variables) (monomialIn (words (a .args .image .now)) (a .args .s .variables) (shape.gcdAt (a .args .b)))
+good a = in-canonical (words (a .args .image .now)) (a .args .s .variables) (shape.gcdAt (a .args .b)) (a .pre .1 .1 .1 .0 .one)
+
+-- end of helpers
 
 -- src/lib.rt:304:15
 get-requires : tie.Need-get-requires
@@ -47,7 +56,12 @@ cast-power-of c = search needs
 
 -- src/lib.rt:309:9
 power-of-requires : tie.Need-power-of-requires
-power-of-requires c κs = ((omega arith, (omega arith, omega (arith, c .before .before .before .before .get .ensures, c .before .before .before .before .before .before .pre .1 .1 .0 .to, c .before .before .before .before .before .before .pre .0 .vars-to))), rw (c .monomial-in .ensures .is) (starts-wide (starts-whole (in-canonical (words (c .before .before .before .before .before .before .args .image .now)) (c .before .before .before .before .before .before .args .s .variables) ((c .before .before .before .before .before .before .args .b) + 5) (c .before .before .before .before .before .before .pre .1 .1 .1 .0 .one)))))
+power-of-requires c κs =
+    let start = c .before .before .before .before .before .before in
+    let get = c .before .before .before .before .get in (
+      (omega arith, (omega arith, omega (arith, get .ensures, start .pre .1 .1 .0 .to, start .pre .0 .vars-to))),
+      rw (c .monomial-in .ensures .is) (starts-wide (starts-whole (good start))),
+    )
 
 -- src/lib.rt:310:23
 add-get : tie.Need-add-get
@@ -59,7 +73,13 @@ get-requires-2 c κs = search needs
 
 -- src/lib.rt:296:1
 returns-2 : tie.Need-returns-2
-returns-2 c = other-answer (words (c .before .before .before .before .before .before .before .before .args .image .now)) (c .before .before .before .before .before .before .before .before .args .s) (c .before .before .before .before .before .before .before .before .args .at) (c .before .before .before .before .before .before .before .before .args .b) (c .before .before .before .before .before .before .get .result) (c .get2 .result) (c .before .power-of .result) (c .before .before .before .before .before .before .get .ensures) (c .get2 .ensures) (c .before .before .before .before .if1 .left) (rw (c .before .before .monomial-in .ensures .is, first-whole (in-canonical (words (c .before .before .before .before .before .before .before .before .args .image .now)) (c .before .before .before .before .before .before .before .before .args .s .variables) ((c .before .before .before .before .before .before .before .before .args .b) + 5) (c .before .before .before .before .before .before .before .before .pre .1 .1 .1 .0 .one))) at (c .before .power-of .ensures))
+returns-2 c =
+    let start = c .before .before .before .before .before .before .before .before in
+    let get = c .before .before .before .before .before .before .get in
+    let power-of = c .before .power-of in
+    other-answer (words (start .args .image .now)) (start .args .s) (start .args .at) (start .args .b) (get .result) (c .get2 .result)
+    (power-of .result) (get .ensures) (c .get2 .ensures) (c .before .before .before .before .if1 .left)
+    (rw (c .before .before .monomial-in .ensures .is, first-whole (good start)) at (power-of .ensures))
 
 pub other-ok-spec : {M : Type 1} → statement M
 other-ok-spec =

@@ -19,7 +19,11 @@ add-node-at c = search needs
 
 -- src/lib.rt:363:9
 node-at-requires-2 : tie.Need-node-at-requires-2
-node-at-requires-2 c κs = (c .before .before .pre .0 .range, omega (arith, c .before .before .pre .1 .0, c .before .before .pre .0 .range .nodes-to, c .before .before .pre .0 .range .cap-to))
+node-at-requires-2 c κs = (
+  c .before .before .pre .0 .range,
+  omega
+      (arith, c .before .before .pre .1 .0, c .before .before .pre .0 .range .nodes-to, c .before .before .pre .0 .range .cap-to),
+)
 
 -- src/lib.rt:364:19
 add-node-at-2 : tie.Need-add-node-at-2
@@ -31,11 +35,41 @@ add-node-at-3 c = search needs
 
 -- src/lib.rt:364:9
 node-at-requires-3 : tie.Need-node-at-requires-3
-node-at-requires-3 c κs = (c .before .before .before .pre .0 .range, omega (arith, c .before .before .before .pre .1 .0, c .before .before .before .pre .0 .range .nodes-to, c .before .before .before .pre .0 .range .cap-to))
+node-at-requires-3 c κs =
+    let start = c .before .before .before in
+    (start .pre .0 .range, omega (arith, start .pre .1 .0, start .pre .0 .range .nodes-to, start .pre .0 .range .cap-to))
 
 -- src/lib.rt:359:5
 branch-ok-requires : tie.Need-branch-ok-requires
-branch-ok-requires c κs = (c .before .before .before .before .pre .0, (omega (arith, node-room (c .before .before .before .before .args .image .now) (c .before .before .before .before .args .s) (c .before .before .before .before .pre .0) (c .before .before .before .before .args .k) (omega (arith, c .before .before .before .before .pre .1 .0)), c .before .before .node-at .ensures), ((omega (arith, node-room (c .before .before .before .before .args .image .now) (c .before .before .before .before .args .s) (c .before .before .before .before .pre .0) ((c .before .before .before .before .args .k) + 1) (omega (arith, c .before .before .before .before .pre .1 .0)), c .before .node-at2 .ensures), omega (arith, node-room (c .before .before .before .before .args .image .now) (c .before .before .before .before .args .s) (c .before .before .before .before .pre .0) ((c .before .before .before .before .args .k) + 1 + (c .before .before .before .before .args .t)) (omega (arith, c .before .before .before .before .pre .1 .0)), c .node-at3 .ensures)), rw (c .before .before .node-at .ensures, c .before .node-at2 .ensures, c .node-at3 .ensures) (c .before .before .before .before .pre .1 .1))))
+branch-ok-requires c κs =
+    let start = c .before .before .before .before in
+    let node-at = c .before .before .node-at in
+    let node-at2 = c .before .node-at2 in (
+      start .pre .0,
+      (
+        omega (
+          arith,
+          node-room (start .args .image .now) (start .args .s) (start .pre .0) (start .args .k) (omega (arith, start .pre .1 .0)),
+          node-at .ensures,
+        ),
+        (
+          (
+            omega (
+              arith,
+              node-room (start .args .image .now) (start .args .s) (start .pre .0) (start .args .k + 1) (omega (arith, start .pre .1 .0)),
+              node-at2 .ensures,
+            ),
+            omega (
+              arith,
+              node-room (start .args .image .now) (start .args .s) (start .pre .0) (start .args .k + 1 + start .args .t)
+                  (omega (arith, start .pre .1 .0)),
+              c .node-at3 .ensures,
+            ),
+          ),
+          rw (node-at .ensures, node-at2 .ensures, c .node-at3 .ensures) (start .pre .1 .1),
+        ),
+      ),
+    )
 
 -- src/lib.rt:352:1
 returns : tie.Need-returns

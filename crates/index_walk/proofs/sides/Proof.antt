@@ -36,7 +36,24 @@ cast-label-in c = search needs
 
 -- src/lib.rt:259:13
 label-in-requires : tie.Need-label-in-requires
-label-in-requires c κs = let z : (c .before .before .get2 .result) < (c .before .before .before .before .before .before .args .s .entries) = rw (c .before .before .get2 .ensures) ((c .before .before .before .before .before .before .pre .1 .1 .1 .ratio) (sym (c .before .before .before .get .ensures) ∙ c .if1 .taken)) in (c .before .before .before .before .before .before .pre .0 .range, (omega (arith, c .before .before .before .before .before .before .pre .0 .room, length-words (c .before .before .before .before .before .before .args .image .now)), (((omega (arith, c .before .before .before .before .before .before .pre .1 .1 .1 .from, c .before .before .before .before .before .before .pre .0 .range .kind-to, c .before .before .before .get .ensures, c .if1 .taken)), omega (arith, c .before .before .before .before .before .before .pre .0 .range .few, z)), (c .before .before .before .before .before .before .pre .0 .rows) (omega (arith, c .before .before .before .before .before .before .pre .1 .1 .1 .from, c .before .before .before .before .before .before .pre .0 .range .kind-to, c .before .before .before .get .ensures, c .if1 .taken)) (c .before .before .get2 .result) z)))
+label-in-requires c κs =
+    let start = c .before .before .before .before .before .before in
+    let get = c .before .before .before .get in
+    let get2 = c .before .before .get2 in
+    let z : get2 .result < start .args .s .entries = rw (get2 .ensures) (start .pre .1 .1 .1 .ratio (sym (get .ensures) ∙ c .if1 .taken)) in (
+      start .pre .0 .range,
+      (
+        omega (arith, start .pre .0 .room, length-words (start .args .image .now)),
+        (
+          (
+            omega (arith, start .pre .1 .1 .1 .from, start .pre .0 .range .kind-to, get .ensures, c .if1 .taken),
+            omega (arith, start .pre .0 .range .few, z),
+          ),
+          start .pre .0 .rows (omega (arith, start .pre .1 .1 .1 .from, start .pre .0 .range .kind-to, get .ensures, c .if1 .taken))
+              (get2 .result) z,
+        ),
+      ),
+    )
 
 -- src/lib.rt:262:20
 get-requires-3 : tie.Need-get-requires-3
@@ -52,7 +69,19 @@ greater-requires c κs = search needs
 
 -- src/lib.rt:260:9
 returns : tie.Need-returns
-returns c = cut-ratio (words (c .before .before .before .before .before .before .before .before .before .before .args .image .now)) (c .before .before .before .before .before .before .before .before .before .before .args .s) (words (c .before .before .before .before .before .before .before .before .before .before .args .hi .now)) (c .before .before .before .before .before .before .before .before .before .before .args .ll) (c .before .before .before .before .before .before .before .before .before .before .args .lh) (c .before .before .before .before .before .before .before .before .before .before .args .at) (c .before .before .before .before .before .before .before .before .before .before .pre .0 .range) (omega (arith, length-words (c .before .before .before .before .before .before .before .before .before .before .args .hi .now), c .before .before .before .before .before .before .before .before .before .before .pre .1 .0 .one-each)) (c .before .before .before .before .before .before .before .before .before .before .pre .1 .0 .some) (c .before .before .before .before .before .before .before .before .before .before .pre .1 .1 .1) (c .before .before .before .before .before .before .before .get .result) (c .before .before .before .before .before .before .before .get .ensures) (c .before .before .before .before .if1 .taken) (c .before .before .before .before .before .before .get2 .result) (c .before .before .before .label-in .result) (c .before .before .get3 .result) (c .before .lesser .result) (c .greater .result) (c .before .before .before .before .before .before .get2 .ensures) (c .before .before .before .label-in .ensures) (c .before .before .get3 .ensures) (omega (arith, c .before .before .get3 .ok)) (c .before .lesser .ensures) (c .greater .ensures)
+returns c =
+    let start = c .before .before .before .before .before .before .before .before .before .before in
+    let get = c .before .before .before .before .before .before .before .get in
+    let get2 = c .before .before .before .before .before .before .get2 in
+    let if1 = c .before .before .before .before .if1 in
+    let label-in = c .before .before .before .label-in in
+    let get3 = c .before .before .get3 in
+    let lesser = c .before .lesser in
+    cut-ratio (words (start .args .image .now)) (start .args .s) (words (start .args .hi .now)) (start .args .ll) (start .args .lh)
+    (start .args .at) (start .pre .0 .range) (omega (arith, length-words (start .args .hi .now), start .pre .1 .0 .one-each))
+    (start .pre .1 .0 .some) (start .pre .1 .1 .1) (get .result) (get .ensures) (if1 .taken) (get2 .result) (label-in .result)
+    (get3 .result) (lesser .result) (c .greater .result) (get2 .ensures) (label-in .ensures) (get3 .ensures) (omega (arith, get3 .ok))
+    (lesser .ensures) (c .greater .ensures)
 
 -- src/lib.rt:267:13
 sub-v : tie.Need-sub-v
@@ -84,7 +113,15 @@ cast-x c = search needs
 
 -- src/lib.rt:249:1
 returns-2 : tie.Need-returns-2
-returns-2 c = cut-variable (words (c .before .before .before .before .before .before .before .before .before .args .image .now)) (c .before .before .before .before .before .before .before .before .before .args .s) (words (c .before .before .before .before .before .before .before .before .before .args .hi .now)) (c .before .before .before .before .before .before .before .before .before .args .ll) (c .before .before .before .before .before .before .before .before .before .args .lh) (c .before .before .before .before .before .before .before .before .before .args .at) (c .before .before .before .before .before .before .before .before .before .pre .0 .range) (omega (arith, length-words (c .before .before .before .before .before .before .before .before .before .args .hi .now), c .before .before .before .before .before .before .before .before .before .pre .1 .0 .one-each)) (c .before .before .before .before .before .before .before .before .before .pre .1 .0 .some) (c .before .before .before .before .before .before .before .before .before .pre .1 .1 .1) (c .before .before .before .before .before .before .get .result) (c .before .before .before .before .before .before .get .ensures) (c .before .before .before .if1 .left) (c .before .before .before .before .before .get2 .result) (c .lesser2 .result) (c .before .before .before .before .before .get2 .ensures) (omega (arith, c .before .before .before .before .before .get2 .ok)) (rw (c .before .get4 .ensures) at (c .lesser2 .ensures))
+returns-2 c =
+    let start = c .before .before .before .before .before .before .before .before .before in
+    let get = c .before .before .before .before .before .before .get in
+    let get2 = c .before .before .before .before .before .get2 in
+    let if1 = c .before .before .before .if1 in
+    cut-variable (words (start .args .image .now)) (start .args .s) (words (start .args .hi .now)) (start .args .ll) (start .args .lh)
+    (start .args .at) (start .pre .0 .range) (omega (arith, length-words (start .args .hi .now), start .pre .1 .0 .one-each))
+    (start .pre .1 .0 .some) (start .pre .1 .1 .1) (get .result) (get .ensures) (if1 .left) (get2 .result) (c .lesser2 .result)
+    (get2 .ensures) (omega (arith, get2 .ok)) (rw (c .before .get4 .ensures) at (c .lesser2 .ensures))
 
 pub sides-spec : {M : Type 1} → statement M
 sides-spec =

@@ -27,7 +27,8 @@ use Rattle.words.proofs.is_end.Reads as is-end-reads
 use Rattle.words.proofs.power.Reads as power-reads
 
 abbrev Inv-loop : tie.InvT-loop
-Inv-loop maxima variables monomial whole extra mask₀ vector₀ i₀ mask vector i = (Mapping variables (words maxima) (first 1 (words monomial)) i mask) × (Mapping variables (bitCounts variables) (first 1 (words monomial)) i vector)
+Inv-loop maxima variables monomial whole extra mask₀ vector₀ i₀ mask vector i =
+    (Mapping variables (words maxima) (first 1 (words monomial)) i mask) × (Mapping variables (bitCounts variables) (first 1 (words monomial)) i vector)
 
 abbrev μ-loop : tie.MeasureT-loop
 μ-loop maxima variables monomial whole extra mask₀ vector₀ i₀ mask vector i = length (first 1 (words monomial)) - i
@@ -56,19 +57,29 @@ variable c =
     let loop = c .before .before .before .loop in
     step (loop .inv .0) (seen _ (loop .inv .0 .ra) (c .before .before .get .ensures)) (is-end-false _ (c .before .is-end .ensures) (c .if1 .left))
 
-stepped-at : (c : tie.After-field Inv-loop μ-loop) → Added (c .before .before .before .before .before .before .before .before .before) (c .before .first-bit .result) (c .field .result)
+stepped-at : (c : tie.After-field Inv-loop μ-loop)
+    → Added (c .before .before .before .before .before .before .before .before .before) (c .before .first-bit .result) (c .field .result)
 stepped-at c =
+    let id = c .before .before .before .before .before .id in
+    let power = c .before .before .before .before .power in
+    let get2 = c .before .before .before .get2 in
     let b = c .before .before .before .before .before .before in
     let loop = b .before .before .before .loop in
-    stepped (loop .inv .0) (seen _ (loop .inv .0 .ra) (b .before .before .get .ensures)) (is-end-false _ (b .before .is-end .ensures) (b .if1 .left))
-    (c .before .before .before .before .before .id .ensures) (c .before .before .before .before .power .ensures) (c .before .before .before .get2 .ensures) (c .before .before .bits-of .ensures) (c .field .ensures) (c .before .first-bit .ensures)
+    stepped (loop .inv .0) (seen _ (loop .inv .0 .ra) (b .before .before .get .ensures))
+    (is-end-false _ (b .before .is-end .ensures) (b .if1 .left)) (id .ensures) (power .ensures) (get2 .ensures)
+    (c .before .before .bits-of .ensures) (c .field .ensures) (c .before .first-bit .ensures)
 
-short-at : (c : tie.After-short-field Inv-loop μ-loop) → AddedShort (c .before .before .before .before .before .before .before .before .before .before) (c .before .before .first-bit .result) (c .short-field .result)
+short-at : (c : tie.After-short-field Inv-loop μ-loop)
+    → AddedShort (c .before .before .before .before .before .before .before .before .before .before) (c .before .before .first-bit .result) (c .short-field .result)
 short-at c =
+    let id = c .before .before .before .before .before .before .id in
+    let power = c .before .before .before .before .before .power in
+    let bits-of = c .before .before .before .bits-of in
     let b = c .before .before .before .before .before .before .before in
     let loop = b .before .before .before .loop in
-    short-stepped (loop .inv .1) (seen _ (loop .inv .0 .ra) (b .before .before .get .ensures)) (is-end-false _ (b .before .is-end .ensures) (b .if1 .left))
-    (c .before .before .before .before .before .before .id .ensures) (c .before .before .before .before .before .power .ensures) (c .before .before .before .bits-of .ensures) (c .short-field .ensures) (c .before .before .first-bit .ensures)
+    short-stepped (loop .inv .1) (seen _ (loop .inv .0 .ra) (b .before .before .get .ensures))
+    (is-end-false _ (b .before .is-end .ensures) (b .if1 .left)) (id .ensures) (power .ensures) (bits-of .ensures) (c .short-field .ensures)
+    (c .before .before .first-bit .ensures)
 
 -- end of helpers
 

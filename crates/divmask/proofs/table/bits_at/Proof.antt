@@ -38,9 +38,19 @@ first-bit-requires c κs = (div-le-self 32 (c .before .before .before .args .var
 
 -- src/table.rt:23:16
 field-requires : tie.Need-field-requires
-field-requires c κs = let p = (c .before .before .before .before .pre) in let v = (c .before .before .before .before .args .v) in
-    let e = bits-are (c .before .before .before .before .args .variables) v (c .before .bits-of .result) (c .before .bits-of .ensures) in
-    ((omega (arith, in-all (c .before .before .before .before .args .variables) v (p .1 .0)), (omega (arith, c .before .before .get .ensures, p .0 .low v (p .1 .0)), omega (arith, c .before .before .get .ensures, p .0 .high v (p .1 .0)))), p .1 .1)
+field-requires c κs =
+    let start = c .before .before .before .before in
+    let get = c .before .before .get in
+    let bits-of = c .before .bits-of in
+    let p = start .pre in
+    let v = start .args .v in
+    let e = bits-are (start .args .variables) v (bits-of .result) (bits-of .ensures) in (
+      (
+        omega (arith, in-all (start .args .variables) v (p .1 .0)),
+        (omega (arith, get .ensures, p .0 .low v (p .1 .0)), omega (arith, get .ensures, p .0 .high v (p .1 .0))),
+      ),
+      p .1 .1,
+    )
 
 -- src/table.rt:23:45
 cast-mask : tie.Need-cast-mask
@@ -48,12 +58,22 @@ cast-mask c = search needs
 
 -- src/table.rt:23:16
 shl-mask : tie.Need-shl-mask
-shl-mask c = omega (arith, c .before .first-bit .ensures, first-closed (c .before .before .before .before .before .args .variables) (c .before .before .before .before .before .args .v), in-all (c .before .before .before .before .before .args .variables) (c .before .before .before .before .before .args .v) (c .before .before .before .before .before .pre .1 .0))
+shl-mask c =
+    let start = c .before .before .before .before .before in
+    omega (
+      arith,
+      c .before .first-bit .ensures,
+      first-closed (start .args .variables) (start .args .v),
+      in-all (start .args .variables) (start .args .v) (start .pre .1 .0),
+    )
 
 -- src/table.rt:24:18
 short-field-requires : tie.Need-short-field-requires
-short-field-requires c κs = let e = bits-are (c .before .before .before .before .before .args .variables) (c .before .before .before .before .before .args .v) (c .before .before .bits-of .result) (c .before .before .bits-of .ensures) in
-    omega (arith, in-all (c .before .before .before .before .before .args .variables) (c .before .before .before .before .before .args .v) (c .before .before .before .before .before .pre .1 .0))
+short-field-requires c κs =
+    let start = c .before .before .before .before .before in
+    let bits-of = c .before .before .bits-of in
+    let e = bits-are (start .args .variables) (start .args .v) (bits-of .result) (bits-of .ensures) in
+    omega (arith, in-all (start .args .variables) (start .args .v) (start .pre .1 .0))
 
 -- src/table.rt:24:50
 cast-vector : tie.Need-cast-vector
@@ -61,19 +81,47 @@ cast-vector c = search needs
 
 -- src/table.rt:24:18
 shl-vector : tie.Need-shl-vector
-shl-vector c = omega (arith, c .before .before .first-bit .ensures, first-closed (c .before .before .before .before .before .before .args .variables) (c .before .before .before .before .before .before .args .v), in-all (c .before .before .before .before .before .before .args .variables) (c .before .before .before .before .before .before .args .v) (c .before .before .before .before .before .before .pre .1 .0))
+shl-vector c =
+    let start = c .before .before .before .before .before .before in
+    omega (
+      arith,
+      c .before .before .first-bit .ensures,
+      first-closed (start .args .variables) (start .args .v),
+      in-all (start .args .variables) (start .args .v) (start .pre .1 .0),
+    )
 
 -- src/table.rt:25:12
 mul-result : tie.Need-mul-result
-mul-result c = omega (arith, made (c .before .before .before .before .before .before .args .variables) (words (c .before .before .before .before .before .before .args .maxima .now)) (c .before .before .before .before .before .before .args .v) (c .before .before .before .before .before .before .args .power) (c .before .before .before .before .before .before .pre .1 .0) (c .before .before .before .before .get .ensures) (c .before .before .before .bits-of .ensures) (c .before .field .ensures) (c .short-field .ensures) (c .before .before .first-bit .ensures) .high)
+mul-result c =
+    let start = c .before .before .before .before .before .before in
+    let get = c .before .before .before .before .get in
+    let bits-of = c .before .before .before .bits-of in
+    omega (
+      arith,
+      made (start .args .variables) (words (start .args .maxima .now)) (start .args .v) (start .args .power) (start .pre .1 .0)
+          (get .ensures) (bits-of .ensures) (c .before .field .ensures) (c .short-field .ensures) (c .before .before .first-bit .ensures) .high,
+    )
 
 -- src/table.rt:25:5
 add-result : tie.Need-add-result
-add-result c = omega (arith, made (c .before .before .before .before .before .before .args .variables) (words (c .before .before .before .before .before .before .args .maxima .now)) (c .before .before .before .before .before .before .args .v) (c .before .before .before .before .before .before .args .power) (c .before .before .before .before .before .before .pre .1 .0) (c .before .before .before .before .get .ensures) (c .before .before .before .bits-of .ensures) (c .before .field .ensures) (c .short-field .ensures) (c .before .before .first-bit .ensures) .low, made (c .before .before .before .before .before .before .args .variables) (words (c .before .before .before .before .before .before .args .maxima .now)) (c .before .before .before .before .before .before .args .v) (c .before .before .before .before .before .before .args .power) (c .before .before .before .before .before .before .pre .1 .0) (c .before .before .before .before .get .ensures) (c .before .before .before .bits-of .ensures) (c .before .field .ensures) (c .short-field .ensures) (c .before .before .first-bit .ensures) .high)
+add-result c =
+    let start = c .before .before .before .before .before .before in
+    let get = c .before .before .before .before .get in
+    let bits-of = c .before .before .before .bits-of in
+    let first-bit = c .before .before .first-bit in
+    let field = c .before .field in
+    let k = made (start .args .variables) (words (start .args .maxima .now)) (start .args .v) (start .args .power) (start .pre .1 .0)
+    (get .ensures) (bits-of .ensures) (field .ensures) (c .short-field .ensures) (first-bit .ensures) in
+    omega (arith, k .low, k .high)
 
 -- src/table.rt:13:1
 returns : tie.Need-returns
-returns c = made (c .before .before .before .before .before .before .args .variables) (words (c .before .before .before .before .before .before .args .maxima .now)) (c .before .before .before .before .before .before .args .v) (c .before .before .before .before .before .before .args .power) (c .before .before .before .before .before .before .pre .1 .0) (c .before .before .before .before .get .ensures) (c .before .before .before .bits-of .ensures) (c .before .field .ensures) (c .short-field .ensures) (c .before .before .first-bit .ensures) .is
+returns c =
+    let start = c .before .before .before .before .before .before in
+    let get = c .before .before .before .before .get in
+    let bits-of = c .before .before .before .bits-of in
+    made (start .args .variables) (words (start .args .maxima .now)) (start .args .v) (start .args .power) (start .pre .1 .0) (get .ensures)
+    (bits-of .ensures) (c .before .field .ensures) (c .short-field .ensures) (c .before .before .first-bit .ensures) .is
 
 pub bits-at-spec : {M : Type 1} → statement M
 bits-at-spec =

@@ -56,8 +56,25 @@ loop-less c = omega arith
 
 -- src/table.rt:46:5
 loop-again : tie.Need-loop-again Inv-loop μ-loop
-loop-again c = let l = ap length (c .before .before .put-pair .ensures) ∙ length-putW (putW (c .before .before .before .before .before .before .loop .table) (2 * (c .before .before .before .before .before .before .loop .k)) ((c .before .before .before .before .bits-at .result) % 4294967296)) (2 * (c .before .before .before .before .before .before .loop .k) + 1) ((c .before .before .before .before .bits-at .result) / 4294967296) ∙ length-putW (c .before .before .before .before .before .before .loop .table) (2 * (c .before .before .before .before .before .before .loop .k)) ((c .before .before .before .before .bits-at .result) % 4294967296) in
-    (l ∙ c .before .before .before .before .before .before .loop .inv .0, (c .before .before .before .before .before .before .loop .inv .1 .0, (refl, (omega arith, fill-more _ _ (c .before .before .before .before .before .before .loop .table) (c .before .before .put-pair .last .0) (c .before .before .before .before .before .before .loop .k) (c .before .before .before .before .bits-at .result) (omega (arith, c .before .before .before .before .before .before .loop .inv .0, c .before .before .before .before .before .before .loop .inv .1 .0)) (omega arith) (c .before .before .before .before .bits-at .ensures) (c .before .before .put-pair .ensures) (c .before .before .before .before .before .before .loop .inv .1 .1 .1 .1)))))
+loop-again c =
+    let loop = c .before .before .before .before .before .before .loop in
+    let bits-at = c .before .before .before .before .bits-at in
+    let put-pair = c .before .before .put-pair in
+    let l = ap length (put-pair .ensures) ∙ length-putW (putW (loop .table) (2 * loop .k) (bits-at .result % 4294967296)) (2 * loop .k + 1)
+    (bits-at .result / 4294967296) ∙ length-putW (loop .table) (2 * loop .k) (bits-at .result % 4294967296) in (
+      l ∙ loop .inv .0,
+      (
+        loop .inv .1 .0,
+        (
+          refl,
+          (
+            omega arith,
+            fill-more _ _ (loop .table) (put-pair .last .0) (loop .k) (bits-at .result) (omega (arith, loop .inv .0, loop .inv .1 .0))
+                (omega arith) (bits-at .ensures) (put-pair .ensures) (loop .inv .1 .1 .1 .1),
+          ),
+        ),
+      ),
+    )
 
 -- src/table.rt:38:1
 same-length : tie.Need-same-length Inv-loop μ-loop

@@ -9,8 +9,8 @@ use Rattle.divmask.proofs.table.judge.Statement.{statement}
 use Rattle.divmask.proofs.table.judge.Tie as tie
 use Rattle.divmask.proofs.table.judge.Reads as reads
 use Rattle.divmask.proofs.table.judge.Lts as lts
-use Rattle.divmask.proofs.table.is_power.Reads as is-power-reads
 use Rattle.divmask.proofs.table.look_up.Reads as look-up-reads
+use Rattle.monomial.proofs.is_variable.Reads as is-variable-reads
 use Rattle.std.proofs.num.wrapping_add_u64.Reads as wrapping-add-u64-reads
 use Rattle.words.proofs.get.Reads as get-reads
 use Rattle.words.proofs.id.Reads as id-reads
@@ -26,7 +26,9 @@ abbrev μ-loop : tie.MeasureT-loop
 
 -- src/table.rt:114:5
 loop-holds : tie.Need-loop-holds Inv-loop μ-loop
-loop-holds c = going (c .before .before .before .args .variables) (words (c .before .before .before .args .maxima .now)) (words (c .before .before .before .args .s .now)) (c .before .before .before .args .at) (c .before .before .before .pre .0 .few)
+loop-holds c =
+    let start = c .before .before .before in
+    going (start .args .variables) (words (start .args .maxima .now)) (words (start .args .s .now)) (start .args .at) (start .pre .0 .few)
 
 -- src/table.rt:115:13
 get-requires : tie.Need-get-requires Inv-loop μ-loop
@@ -50,23 +52,48 @@ cast-if2 c = omega arith
 
 -- src/table.rt:120:28
 add-t20 : tie.Need-add-t20 Inv-loop μ-loop
-add-t20 c = omega (arith, c .before .before .before .before .before .before .loop .inv .few, c .before .before .before .before .before .before .before .before .before .before .pre .0 .few)
+add-t20 c =
+    omega (arith, c .before .before .before .before .before .before .loop .inv .few, c .before .before .before .before .before .before .before .before .before .before .pre .0 .few)
 
 -- src/table.rt:119:17
 returns : tie.Need-returns Inv-loop μ-loop
-returns c = judged (c .before .before .before .before .before .before .before .before .before .before .args .variables) (words (c .before .before .before .before .before .before .before .before .before .before .args .maxima .now)) (words (c .before .before .before .before .before .before .before .before .before .before .args .s .now)) (c .before .before .before .before .before .before .before .before .before .before .pre .0 .few) (c .before .before .before .before .before .before .before .before .before .before .args .at) (c .before .before .before .before .before .before .loop .i) (c .before .before .before .before .before .before .loop .bound) (c .before .before .before .before .before .before .loop .masks) (c .before .before .before .before .before .before .loop .inv) (c .before .before .before .before .get .result) (omega (arith, length-words (c .before .before .before .before .before .before .before .before .before .before .args .s .now))) (c .before .before .before .before .get .ensures) ((c .before .before .before .before .before .before .loop .i) - (c .before .before .before .before .before .before .before .before .before .before .args .at)) refl (sym (c .before .before .before .kind .ensures) ∙ c .before .before .if1 .taken) (sym (c .before .payload .ensures) ∙ c .if2 .taken)
+returns c =
+    let start = c .before .before .before .before .before .before .before .before .before .before in
+    let loop = c .before .before .before .before .before .before .loop in
+    let get = c .before .before .before .before .get in
+    let kind = c .before .before .before .kind in
+    judged (start .args .variables) (words (start .args .maxima .now)) (words (start .args .s .now)) (start .pre .0 .few) (start .args .at)
+    (loop .i) (loop .bound) (loop .masks) (loop .inv) (get .result) (omega (arith, length-words (start .args .s .now))) (get .ensures)
+    (loop .i - start .args .at) refl (sym (kind .ensures) ∙ c .before .before .if1 .taken)
+    (sym (c .before .payload .ensures) ∙ c .if2 .taken)
 
 -- src/table.rt:124:13
 returns-2 : tie.Need-returns-2 Inv-loop μ-loop
-returns-2 c = wrong-end (c .before .before .before .before .before .before .before .before .before .before .args .variables) (words (c .before .before .before .before .before .before .before .before .before .before .args .maxima .now)) (words (c .before .before .before .before .before .before .before .before .before .before .args .s .now)) (c .before .before .before .before .before .before .before .before .before .before .pre .0 .few) (c .before .before .before .before .before .before .before .before .before .before .args .at) (c .before .before .before .before .before .before .loop .i) (c .before .before .before .before .before .before .loop .bound) (c .before .before .before .before .before .before .loop .masks) (c .before .before .before .before .before .before .loop .inv) (c .before .before .before .before .get .result) (omega (arith, length-words (c .before .before .before .before .before .before .before .before .before .before .args .s .now))) (c .before .before .before .before .get .ensures) ((c .before .before .before .before .before .before .loop .i) - (c .before .before .before .before .before .before .before .before .before .before .args .at)) 0 refl (sym (c .before .before .before .kind .ensures) ∙ c .before .before .if1 .taken) (λ q. (c .if2 .left) (c .before .payload .ensures ∙ q))
+returns-2 c =
+    let start = c .before .before .before .before .before .before .before .before .before .before in
+    let loop = c .before .before .before .before .before .before .loop in
+    let get = c .before .before .before .before .get in
+    let kind = c .before .before .before .kind in
+    wrong-end (start .args .variables) (words (start .args .maxima .now)) (words (start .args .s .now)) (start .pre .0 .few)
+    (start .args .at) (loop .i) (loop .bound) (loop .masks) (loop .inv) (get .result) (omega (arith, length-words (start .args .s .now)))
+    (get .ensures) (loop .i - start .args .at) 0 refl (sym (kind .ensures) ∙ c .before .before .if1 .taken)
+    (λ q. c .if2 .left (c .before .payload .ensures ∙ q))
 
 -- src/table.rt:126:13
-is-power-requires : tie.Need-is-power-requires Inv-loop μ-loop
-is-power-requires c κs = tt
+is-variable-requires : tie.Need-is-variable-requires Inv-loop μ-loop
+is-variable-requires c κs = (omega arith, omega arith)
 
 -- src/table.rt:127:13
 returns-3 : tie.Need-returns-3 Inv-loop μ-loop
-returns-3 c = no-power (c .before .before .before .before .before .before .before .before .before .before .args .variables) (words (c .before .before .before .before .before .before .before .before .before .before .args .maxima .now)) (words (c .before .before .before .before .before .before .before .before .before .before .args .s .now)) (c .before .before .before .before .before .before .before .before .before .before .pre .0 .few) (c .before .before .before .before .before .before .before .before .before .before .args .at) (c .before .before .before .before .before .before .loop .i) (c .before .before .before .before .before .before .loop .bound) (c .before .before .before .before .before .before .loop .masks) (c .before .before .before .before .before .before .loop .inv) (c .before .before .before .before .get .result) (omega (arith, length-words (c .before .before .before .before .before .before .before .before .before .before .args .s .now))) (c .before .before .before .before .get .ensures) 0 (λ q. (c .before .before .if1 .left) (c .before .before .before .kind .ensures ∙ q)) (sym (c .before .is-power .ensures) ∙ not-true _ (c .if3 .taken))
+returns-3 c =
+    let start = c .before .before .before .before .before .before .before .before .before .before in
+    let loop = c .before .before .before .before .before .before .loop in
+    let get = c .before .before .before .before .get in
+    let kind = c .before .before .before .kind in
+    no-power (start .args .variables) (words (start .args .maxima .now)) (words (start .args .s .now)) (start .pre .0 .few)
+    (start .args .at) (loop .i) (loop .bound) (loop .masks) (loop .inv) (get .result) (omega (arith, length-words (start .args .s .now)))
+    (get .ensures) 0 (λ q. c .before .before .if1 .left (kind .ensures ∙ q))
+    (sym (c .before .is-variable .ensures) ∙ not-true _ (c .if3 .taken))
 
 -- src/table.rt:129:9
 id-requires : tie.Need-id-requires Inv-loop μ-loop
@@ -78,7 +105,26 @@ power-requires c κs = tt
 
 -- src/table.rt:130:13
 look-up-requires : tie.Need-look-up-requires Inv-loop μ-loop
-look-up-requires c κs = (c .before .before .before .before .before .before .before .before .before .before .before .before .pre .0, (c .before .before .before .before .before .before .before .before .before .before .before .before .pre .1 .0, (c .before .before .before .before .before .before .before .before .before .before .before .before .pre .1 .1, rw (c .before .id .ensures, c .power .ensures) (known (c .before .before .before .before .before .before .before .before .before .before .before .before .args .variables) (words (c .before .before .before .before .before .before .before .before .before .before .before .before .args .maxima .now)) (words (c .before .before .before .before .before .before .before .before .before .before .before .before .args .s .now)) (c .before .before .before .before .before .before .before .before .before .before .before .before .pre .0 .few) (c .before .before .before .before .before .before .before .before .before .before .before .before .args .at) (c .before .before .before .before .before .before .before .before .loop .i) (c .before .before .before .before .before .before .before .before .loop .bound) (c .before .before .before .before .before .before .before .before .loop .masks) (c .before .before .before .before .before .before .before .before .loop .inv) (c .before .before .before .before .before .before .get .result) (omega (arith, length-words (c .before .before .before .before .before .before .before .before .before .before .before .before .args .s .now))) (c .before .before .before .before .before .before .get .ensures) (λ q. (c .before .before .before .before .if1 .left) (c .before .before .before .before .before .kind .ensures ∙ q)) (sym (c .before .before .before .is-power .ensures) ∙ not-false _ (c .before .before .if3 .left))))))
+look-up-requires c κs =
+    let start = c .before .before .before .before .before .before .before .before .before .before .before .before in
+    let loop = c .before .before .before .before .before .before .before .before .loop in
+    let get = c .before .before .before .before .before .before .get in
+    let kind = c .before .before .before .before .before .kind in
+    let if1 = c .before .before .before .before .if1 in
+    let is-variable = c .before .before .before .is-variable in (
+      start .pre .0,
+      (
+        start .pre .1 .0,
+        (
+          start .pre .1 .1,
+          rw (c .before .id .ensures, c .power .ensures)
+              (known (start .args .variables) (words (start .args .maxima .now)) (words (start .args .s .now)) (start .pre .0 .few)
+              (start .args .at) (loop .i) (loop .bound) (loop .masks) (loop .inv) (get .result)
+              (omega (arith, length-words (start .args .s .now))) (get .ensures) (λ q. if1 .left (kind .ensures ∙ q))
+              (sym (is-variable .ensures) ∙ not-false _ (c .before .before .if3 .left))),
+        ),
+      ),
+    )
 
 -- src/table.rt:131:9
 wrapping-add-u64-requires : tie.Need-wrapping-add-u64-requires Inv-loop μ-loop
@@ -94,11 +140,30 @@ loop-less c = omega arith
 
 -- src/table.rt:114:5
 loop-again : tie.Need-loop-again Inv-loop μ-loop
-loop-again c = rw (c .before .before .before .id .ensures) (go-on (c .before .before .before .before .before .before .before .before .before .before .before .before .before .before .args .variables) (words (c .before .before .before .before .before .before .before .before .before .before .before .before .before .before .args .maxima .now)) (words (c .before .before .before .before .before .before .before .before .before .before .before .before .before .before .args .s .now)) (c .before .before .before .before .before .before .before .before .before .before .before .before .before .before .pre .0 .few) (c .before .before .before .before .before .before .before .before .before .before .before .before .before .before .args .at) (c .before .before .before .before .before .before .before .before .before .before .loop .i) (c .before .before .before .before .before .before .before .before .before .before .loop .bound) (c .before .before .before .before .before .before .before .before .before .before .loop .masks) (c .before .before .before .before .before .before .before .before .before .before .loop .inv) (c .before .before .before .before .before .before .before .before .get .result) (omega (arith, length-words (c .before .before .before .before .before .before .before .before .before .before .before .before .before .before .args .s .now))) (c .before .before .before .before .before .before .before .before .get .ensures) (λ q. (c .before .before .before .before .before .before .if1 .left) (c .before .before .before .before .before .before .before .kind .ensures ∙ q)) (sym (c .before .before .before .before .before .is-power .ensures) ∙ not-false _ (c .before .before .before .before .if3 .left)) (c .before .look-up .result) (c .wrapping-add-u64 .result) (rw (c .before .before .before .id .ensures, c .before .before .power .ensures) at (c .before .look-up .ensures)) (c .wrapping-add-u64 .ensures))
+loop-again c =
+    let start = c .before .before .before .before .before .before .before .before .before .before .before .before .before .before in
+    let loop = c .before .before .before .before .before .before .before .before .before .before .loop in
+    let get = c .before .before .before .before .before .before .before .before .get in
+    let kind = c .before .before .before .before .before .before .before .kind in
+    let if1 = c .before .before .before .before .before .before .if1 in
+    let is-variable = c .before .before .before .before .before .is-variable in
+    let if3 = c .before .before .before .before .if3 in
+    let id = c .before .before .before .id in
+    let look-up = c .before .look-up in
+    rw (id .ensures)
+    (go-on (start .args .variables) (words (start .args .maxima .now)) (words (start .args .s .now)) (start .pre .0 .few)
+    (start .args .at) (loop .i) (loop .bound) (loop .masks) (loop .inv) (get .result)
+    (omega (arith, length-words (start .args .s .now))) (get .ensures) (λ q. if1 .left (kind .ensures ∙ q))
+    (sym (is-variable .ensures) ∙ not-false _ (if3 .left)) (look-up .result) (c .wrapping-add-u64 .result)
+    (rw (id .ensures, c .before .before .power .ensures) at (look-up .ensures)) (c .wrapping-add-u64 .ensures))
 
 -- src/table.rt:104:1
 returns-4 : tie.Need-returns-4 Inv-loop μ-loop
-returns-4 c = ran-out (c .before .before .before .before .before .args .variables) (words (c .before .before .before .before .before .args .maxima .now)) (words (c .before .before .before .before .before .args .s .now)) (c .before .before .before .before .before .pre .0 .few) (c .before .before .before .before .before .args .at) (c .before .loop .i) (c .before .loop .bound) (c .before .loop .masks) (c .before .loop .inv) (omega (arith, length-words (c .before .before .before .before .before .args .s .now))) 0
+returns-4 c =
+    let start = c .before .before .before .before .before in
+    let loop = c .before .loop in
+    ran-out (start .args .variables) (words (start .args .maxima .now)) (words (start .args .s .now)) (start .pre .0 .few) (start .args .at)
+    (loop .i) (loop .bound) (loop .masks) (loop .inv) (omega (arith, length-words (start .args .s .now))) 0
 
 pub judge-spec : {M : Type 1} → statement M
 judge-spec =
@@ -115,7 +180,7 @@ judge-spec =
     add-t20
     returns
     returns-2
-    is-power-requires
+    is-variable-requires
     returns-3
     id-requires
     power-requires

@@ -42,7 +42,10 @@ get-requires c κs = search needs
 
 -- src/table.rt:68:1
 returns-2 : tie.Need-returns-2
-returns-2 c = c .get .ensures ∙ (c .before .before .before .before .pre .1 .1 .0 .has) (c .before .before .before .before .args .v) (c .before .before .before .before .args .power) (c .before .before .before .before .pre .1 .1 .1 .0) (c .before .before .before .before .pre .1 .1 .1 .1 .0) (omega arith)
+returns-2 c =
+    let start = c .before .before .before .before in
+    c .get .ensures
+    ∙ start .pre .1 .1 .0 .has (start .args .v) (start .args .power) (start .pre .1 .1 .1 .0) (start .pre .1 .1 .1 .1 .0) (omega arith)
 
 pub look-up-spec : {M : Type 1} → statement M
 look-up-spec =

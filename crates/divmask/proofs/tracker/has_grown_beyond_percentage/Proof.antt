@@ -23,7 +23,14 @@ mul-result c = omega (arith, c .total .ensures, total-high (c .before .before .a
 
 -- src/tracker.rt:85:27
 div-result : tie.Need-div-result
-div-result c = omega (arith, c .total .ensures, total-low (c .before .before .args .variables) (words (c .before .before .args .maxima .now)) (c .before .before .pre), c .before .before .pre .some)
+div-result c =
+    omega (
+      arith,
+      c .total .ensures,
+      total-low (c .before .before .args .variables) (words (c .before .before .args .maxima .now))
+          (c .before .before .pre),
+      c .before .before .pre .some,
+    )
 
 -- src/tracker.rt:80:1
 returns : tie.Need-returns

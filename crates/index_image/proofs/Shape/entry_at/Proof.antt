@@ -21,11 +21,21 @@ entry-width-requires c κs = search needs
 
 -- src/lib.rt:29:35
 mul-result-2 : tie.Need-mul-result-2
-mul-result-2 c = rw (c .entry-width .ensures) (omega (arith, entries-small (c .before .before .args .self) (c .before .before .pre .0) (c .before .before .args .i) (c .before .before .pre .1)))
+mul-result-2 c =
+    rw (c .entry-width .ensures) (omega (
+      arith,
+      entries-small (c .before .before .args .self) (c .before .before .pre .0)
+          (c .before .before .args .i) (c .before .before .pre .1),
+    ))
 
 -- src/lib.rt:29:9
 add-result-2 : tie.Need-add-result-2
-add-result-2 c = rw (c .entry-width .ensures) (omega (arith, entries-small (c .before .before .args .self) (c .before .before .pre .0) (c .before .before .args .i) (c .before .before .pre .1)))
+add-result-2 c =
+    rw (c .entry-width .ensures) (omega (
+      arith,
+      entries-small (c .before .before .args .self) (c .before .before .pre .0)
+          (c .before .before .args .i) (c .before .before .pre .1),
+    ))
 
 -- src/lib.rt:24:5
 returns : tie.Need-returns

@@ -13,7 +13,13 @@ permutation-at-requires c κs = search needs
 
 -- src/lib.rt:44:9
 add-result : tie.Need-add-result
-add-result c = omega (arith, c .before .permutation-at .ensures, entries-small (c .before .before .args .self) (c .before .before .pre) (c .before .before .args .self .capacity) (omega arith))
+add-result c =
+    omega (
+      arith,
+      c .before .permutation-at .ensures,
+      entries-small (c .before .before .args .self) (c .before .before .pre)
+          (c .before .before .args .self .capacity) (omega arith),
+    )
 
 -- src/lib.rt:40:5
 returns : tie.Need-returns

@@ -18,7 +18,15 @@ labels-size-requires c κs = search needs
 
 -- src/lib.rt:60:9
 add-result : tie.Need-add-result
-add-result c = omega (arith, c .before .labels-at .ensures, c .labels-size .ensures, labels-small (c .before .before .args .self) (c .before .before .pre .0), entries-small (c .before .before .args .self) (c .before .before .pre .0) (c .before .before .args .self .capacity) (omega arith))
+add-result c =
+    let start = c .before .before in
+    omega (
+      arith,
+      c .before .labels-at .ensures,
+      c .labels-size .ensures,
+      labels-small (start .args .self) (start .pre .0),
+      entries-small (start .args .self) (start .pre .0) (start .args .self .capacity) (omega arith),
+    )
 
 -- src/lib.rt:60:54
 add-result-2 : tie.Need-add-result-2
@@ -26,11 +34,25 @@ add-result-2 c = search needs
 
 -- src/lib.rt:60:49
 mul-result : tie.Need-mul-result
-mul-result c = omega (arith, nodes-small (c .before .before .before .args .self) (c .before .before .before .pre .0) (c .before .before .before .args .k) (c .before .before .before .pre .1))
+mul-result c =
+    omega (
+      arith,
+      nodes-small (c .before .before .before .args .self) (c .before .before .before .pre .0) (c .before .before .before .args .k)
+          (c .before .before .before .pre .1),
+    )
 
 -- src/lib.rt:60:9
 add-result-3 : tie.Need-add-result-3
-add-result-3 c = omega (arith, c .before .before .labels-at .ensures, c .before .labels-size .ensures, labels-small (c .before .before .before .args .self) (c .before .before .before .pre .0), entries-small (c .before .before .before .args .self) (c .before .before .before .pre .0) (c .before .before .before .args .self .capacity) (omega arith), nodes-small (c .before .before .before .args .self) (c .before .before .before .pre .0) (c .before .before .before .args .k) (c .before .before .before .pre .1))
+add-result-3 c =
+    let start = c .before .before .before in
+    omega (
+      arith,
+      c .before .before .labels-at .ensures,
+      c .before .labels-size .ensures,
+      labels-small (start .args .self) (start .pre .0),
+      entries-small (start .args .self) (start .pre .0) (start .args .self .capacity) (omega arith),
+      nodes-small (start .args .self) (start .pre .0) (start .args .k) (start .pre .1),
+    )
 
 -- src/lib.rt:55:5
 returns : tie.Need-returns

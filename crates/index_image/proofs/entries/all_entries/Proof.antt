@@ -26,11 +26,14 @@ loop-holds c = (omega arith, λ j h. absurd (omega arith))
 
 -- src/entries.rt:193:13
 entry-ok-requires : tie.Need-entry-ok-requires Inv-loop μ-loop
-entry-ok-requires c κs = (c .before .before .before .before .pre .0, (c .before .before .before .before .pre .1 .0, (c .loop-test .taken, c .before .before .before .before .pre .1 .1)))
+entry-ok-requires c κs =
+    (c .before .before .before .before .pre .0, (c .before .before .before .before .pre .1 .0, (c .loop-test .taken, c .before .before .before .before .pre .1 .1)))
 
 -- src/entries.rt:194:13
 returns : tie.Need-returns Inv-loop μ-loop
-returns c = refuse (λ q. never (sym (not-true _ (c .if1 .taken)) ∙ (c .before .entry-ok .ensures .1) (q (c .before .before .before .loop .i) (c .before .before .loop-test .taken))))
+returns c =
+    refuse (λ q. never (sym (not-true _ (c .if1 .taken)) ∙ (c .before .entry-ok .ensures .1)
+    (q (c .before .before .before .loop .i) (c .before .before .loop-test .taken))))
 
 -- src/entries.rt:196:9
 add-i : tie.Need-add-i Inv-loop μ-loop

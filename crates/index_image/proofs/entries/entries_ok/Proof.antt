@@ -1,9 +1,9 @@
-use Prim.Native.Nat.{_+_}
 use native.Mathlib.Omega.{arith}
 use mathlib.Core.Path.{sym, _∙_, refl}
 use borrow.Author.Tests.{not-true, not-false}
 use Rattle.words.proofs.Answers.{refuse}
 use Rattle.words.proofs.Tables.{never}
+use Rattle.index_image.specs.Shape as shape
 use Rattle.index_image.proofs.Bounds.{rest}
 use Rattle.index_image.proofs.Slots.{range-words}
 use borrow.Author.Needs.{needs}
@@ -35,11 +35,17 @@ entry-at-requires c κs = ((c .before .before .pre .0), (c .before .before .pre 
 
 -- src/entries.rt:211:9
 is-blank-requires : tie.Need-is-blank-requires
-is-blank-requires c κs = rw (c .before .entry-width .ensures, c .entry-at .ensures) (omega (arith, rest (c .before .before .before .args .s) (c .before .before .before .pre .0)))
+is-blank-requires c κs =
+    rw (c .before .entry-width .ensures, c .entry-at .ensures) (omega (arith, rest (c .before .before .before .args .s) (c .before .before .before .pre .0)))
 
 -- src/entries.rt:212:9
 returns : tie.Need-returns
-returns c = refuse (λ q. never (sym (not-true _ (c .if1 .taken)) ∙ (rw (c .before .before .entry-at .ensures, c .before .before .before .entry-width .ensures) at (c .before .is-blank .ensures)) .1 (q .rest)))
+returns c =
+    let entry-width = c .before .before .before .entry-width in
+    refuse
+    (λ q. never
+    (sym (not-true _ (c .if1 .taken))
+    ∙ (rw (c .before .before .entry-at .ensures, entry-width .ensures) at (c .before .is-blank .ensures)) .1 (q .rest)))
 
 -- src/entries.rt:214:18
 add-a : tie.Need-add-a
@@ -79,7 +85,9 @@ slice-aggregate-prepare c = search needs
 
 -- src/entries.rt:217:9
 prepare-requires : tie.Need-prepare-requires
-prepare-requires c κs = (rw (range-words (c .before .before .before .before .before .before .before .before .before .before .args .image .now) (24 + (c .before .before .before .before .before .before .before .before .before .before .args .s .variables)) (c .before .before .before .before .before .before .before .before .before .before .args .s .variables)) (c .before .before .before .before .before .before .before .before .before .before .pre .1 .1 .map), refl)
+prepare-requires c κs =
+    let start = c .before .before .before .before .before .before .before .before .before .before in
+    (rw (range-words (start .args .image .now) (shape.mapAt (start .args .s .variables)) (start .args .s .variables)) (start .pre .1 .1 .map), refl)
 
 -- src/entries.rt:218:27
 slice-aggregate-all-entries : tie.Need-slice-aggregate-all-entries
@@ -96,7 +104,7 @@ all-entries-requires c κs =
           o .pre .1 .1,
           (
             c .before .before .prepare .ensures .0,
-            rw (range-words (o .args .image .now) (24 + o .args .s .variables) (o .args .s .variables)) at (c .before .before .prepare .ensures .1),
+            rw (range-words (o .args .image .now) (shape.mapAt (o .args .s .variables)) (o .args .s .variables)) at (c .before .before .prepare .ensures .1),
           ),
         ),
       ),
@@ -104,7 +112,17 @@ all-entries-requires c κs =
 
 -- src/entries.rt:202:1
 returns-2 : tie.Need-returns-2
-returns-2 c = (λ z. record { each = (c .all-entries .ensures .0) z; rest = (rw (c .before .before .before .before .before .before .before .before .before .before .before .entry-at .ensures, c .before .before .before .before .before .before .before .before .before .before .before .before .entry-width .ensures) at (c .before .before .before .before .before .before .before .before .before .before .is-blank .ensures)) .0 (not-false _ (c .before .before .before .before .before .before .before .before .before .if1 .left)) }, λ q. (c .all-entries .ensures .1) (q .each))
+returns-2 c =
+    let entry-width = c .before .before .before .before .before .before .before .before .before .before .before .before .entry-width in
+    let entry-at = c .before .before .before .before .before .before .before .before .before .before .before .entry-at in
+    let is-blank = c .before .before .before .before .before .before .before .before .before .before .is-blank in
+    let if1 = c .before .before .before .before .before .before .before .before .before .if1 in (
+      λ z. record {
+        each = c .all-entries .ensures .0 z;
+        rest = (rw (entry-at .ensures, entry-width .ensures) at (is-blank .ensures)) .0 (not-false _ (if1 .left));
+      },
+      λ q. c .all-entries .ensures .1 (q .each),
+    )
 
 pub entries-ok-spec : {M : Type 1} → statement M
 entries-ok-spec =

@@ -23,7 +23,10 @@ add-masked-slot c = search needs
 
 -- src/entries.rt:172:9
 masked-slot-requires : tie.Need-masked-slot-requires
-masked-slot-requires c κs = ((c .before .before .before .pre .1 .1 .1 .0) .map, (omega (arith, inside (c .before .before .before .args .s) (c .before .before .before .pre .0) (c .before .before .before .args .i) (omega (arith, (c .before .before .before .pre .1 .1 .0), (c .before .before .before .pre .0) .few))), (omega (arith, c .entry-at .ensures, inside (c .before .before .before .args .s) (c .before .before .before .pre .0) (c .before .before .before .args .i) (omega (arith, (c .before .before .before .pre .1 .1 .0), (c .before .before .before .pre .0) .few))), (c .before .before .before .pre .1 .1 .1 .1))))
+masked-slot-requires c κs =
+    let start = c .before .before .before in
+    let at = inside (start .args .s) (start .pre .0) (start .args .i) (omega (arith, (start .pre .1 .1 .0), (start .pre .0) .few)) in
+    (start .pre .1 .1 .1 .0 .map, (omega (arith, at), (omega (arith, c .entry-at .ensures, at), start .pre .1 .1 .1 .1)))
 
 -- src/entries.rt:173:9
 returns : tie.Need-returns
@@ -31,15 +34,48 @@ returns c = refuse (λ q. never (sym (not-true _ (c .if1 .taken)) ∙ (rw (c .be
 
 -- src/entries.rt:176:9
 returns-2 : tie.Need-returns-2
-returns-2 c = (λ z. record { lm = (rw (c .before .before .before .entry-at .ensures) at (c .before .before .masked-slot .ensures)) .0 (not-false _ (c .before .if1 .left)); ratio = λ k. absurd (omega (arith, c .if2 .taken)) }, λ q. refl)
+returns-2 c =
+    let entry-at = c .before .before .before .entry-at in (
+      λ z. record {
+        lm = (rw (entry-at .ensures) at (c .before .before .masked-slot .ensures)) .0 (not-false _ (c .before .if1 .left));
+        ratio = λ k. absurd (omega (arith, c .if2 .taken));
+      },
+      λ q. refl,
+    )
 
 -- src/entries.rt:178:5
 ratio-ok-requires : tie.Need-ratio-ok-requires
-ratio-ok-requires c κs = ((c .before .before .before .before .before .before .pre .0), (c .before .before .before .before .before .before .pre .1 .0, ((omega (arith, c .if2 .left, (c .before .before .before .before .before .before .pre .0) .kind-to), (c .before .before .before .before .before .before .pre .1 .1 .0)), ((c .before .before .before .before .before .before .pre .1 .1 .1 .0), ((rw (c .before .before .before .entry-at .ensures) at (c .before .before .masked-slot .ensures)) .0 (not-false _ (c .before .if1 .left)), (c .before .before .before .before .before .before .pre .1 .1 .1 .1))))))
+ratio-ok-requires c κs =
+    let start = c .before .before .before .before .before .before in
+    let entry-at = c .before .before .before .entry-at in (
+      start .pre .0,
+      (
+        start .pre .1 .0,
+        (
+          (omega (arith, c .if2 .left, start .pre .0 .kind-to), start .pre .1 .1 .0),
+          (
+            start .pre .1 .1 .1 .0,
+            (
+              (rw (entry-at .ensures) at (c .before .before .masked-slot .ensures)) .0 (not-false _ (c .before .if1 .left)),
+              start .pre .1 .1 .1 .1,
+            ),
+          ),
+        ),
+      ),
+    )
 
 -- src/entries.rt:160:1
 returns-3 : tie.Need-returns-3
-returns-3 c = (λ z. record { lm = (rw (c .before .before .before .before .entry-at .ensures) at (c .before .before .before .masked-slot .ensures)) .0 (not-false _ (c .before .before .if1 .left)); ratio = λ k. (c .ratio-ok .ensures .0) z }, λ q. (c .ratio-ok .ensures .1) (q .ratio (omega (arith, c .before .if2 .left, (c .before .before .before .before .before .before .before .pre .0) .kind-to))))
+returns-3 c =
+    let start = c .before .before .before .before .before .before .before in
+    let entry-at = c .before .before .before .before .entry-at in
+    let masked-slot = c .before .before .before .masked-slot in (
+      λ z. record {
+        lm = (rw (entry-at .ensures) at (masked-slot .ensures)) .0 (not-false _ (c .before .before .if1 .left));
+        ratio = λ k. c .ratio-ok .ensures .0 z;
+      },
+      λ q. c .ratio-ok .ensures .1 (q .ratio (omega (arith, c .before .if2 .left, start .pre .0 .kind-to))),
+    )
 
 pub entry-ok-spec : {M : Type 1} → statement M
 entry-ok-spec =

@@ -1,11 +1,10 @@
-use Rattle.index_image.proofs.Ratios.{other-index, asks, answered}
-use Rattle.index_image.specs.Walk.{rowIn}
+use Rattle.index_image.proofs.Ratios.{Read, other-index, asks, answered}
+use Rattle.fast_compare.specs.Layout as labels
 use native.Mathlib.Omega.{arith}
-use mathlib.Core.Path.{_≡_, _∙_}
-use Prim.Native.Nat.{_+_, _*_, _<_}
-use Rattle.words.specs.Words.{words}
+use mathlib.Core.Path.{_∙_}
+use Prim.Native.Nat.{ℕ, _+_}
 use Rattle.words.proofs.Answers.{refuse}
-use Rattle.index_image.proofs.Bounds.{spots}
+use Rattle.index_image.proofs.Bounds.{Spots, spots}
 use borrow.Author.Needs.{needs}
 use Rattle.index_image.proofs.entries.has_ratio.Statement.{statement}
 use Rattle.index_image.proofs.entries.has_ratio.Tie as tie
@@ -16,9 +15,46 @@ use Rattle.index_image.proofs.Shape.labels_at.Reads as labels-at-reads
 use Rattle.index_image.proofs.entries.is_ratio.Reads as is-ratio-reads
 use Rattle.words.proofs.get.Reads as get-reads
 
+-- helpers
+-- the words of the entry, and of the label map's row that it names, lie within the image
+entry-here : (a : tie.Start) → Spots (a .args .s) (a .pre .0) (a .args .i) 0
+entry-here a =
+    spots (a .args .s) (a .pre .0) (a .pre .1 .1 .0 .0) (a .args .i) 0 (omega (arith, a .pre .1 .1 .0 .1, a .pre .0 .few)) (a .pre .0 .cap-from)
+
+row-here : (c : tie.After-get)
+    → let start = c .before .before .before in
+    Spots (start .args .s) (start .pre .0) (start .args .i) (c .get .result)
+row-here c =
+    let start = c .before .before .before in
+    spots (start .args .s) (start .pre .0) (start .pre .1 .1 .0 .0) (start .args .i) (c .get .result)
+    (omega (arith, start .pre .1 .1 .0 .1, start .pre .0 .few)) (rw (c .get .ensures, c .before .entry-at .ensures) (start .pre .1 .1 .1 .row))
+
+-- the row's first word
+abbrev row-at : tie.After-labels-at → ℕ
+row-at c = c .labels-at .result + labels.rowAt (c .before .before .before .before .args .s .variables) (c .before .get .result)
+
+all-read : (c : tie.After-get3)
+    → let start = c .before .before .before .before .before .before in
+    let entry-at = c .before .before .before .before .entry-at in
+    Read (start .args .image .now) (start .args .s) (start .args .i) (entry-at .result) (row-at (c .before .before))
+    (c .before .get2 .result) (c .get3 .result)
+all-read c =
+    let start = c .before .before .before .before .before .before in
+    let entry-at = c .before .before .before .before .entry-at in
+    record {
+      few = start .pre .0 .vars-to;
+      ready = start .pre .1 .1 .1;
+      entry = entry-at .ensures;
+      row = rw (c .before .before .labels-at .ensures, c .before .before .before .get .ensures, entry-at .ensures);
+      index = c .before .get2 .ensures ∙ rw (entry-at .ensures);
+      index-of-row = c .get3 .ensures;
+    }
+
+-- end of helpers
+
 -- src/entries.rt:102:9
 entry-at-requires : tie.Need-entry-at-requires
-entry-at-requires c κs = (c .before .pre .0, (omega (arith, c .before .pre .1 .1 .0 .1, c .before .pre .0 .few)))
+entry-at-requires c κs = (c .before .pre .0, omega (arith, c .before .pre .1 .1 .0 .1, c .before .pre .0 .few))
 
 -- src/entries.rt:103:38
 mul-get : tie.Need-mul-get
@@ -30,11 +66,11 @@ add-get c = search needs
 
 -- src/entries.rt:103:33
 add-get-2 : tie.Need-add-get-2
-add-get-2 c = omega (arith, spots (c .before .before .args .s) (c .before .before .pre .0) (c .before .before .pre .1 .1 .0 .0) (c .before .before .args .i) 0 (omega (arith, c .before .before .pre .1 .1 .0 .1, c .before .before .pre .0 .few)) (c .before .before .pre .0 .cap-from) .entry, spots (c .before .before .args .s) (c .before .before .pre .0) (c .before .before .pre .1 .1 .0 .0) (c .before .before .args .i) 0 (omega (arith, c .before .before .pre .1 .1 .0 .1, c .before .before .pre .0 .few)) (c .before .before .pre .0 .cap-from) .small, c .entry-at .ensures, c .before .before .pre .1 .0)
+add-get-2 c = omega (arith, entry-here (c .before .before), c .entry-at .ensures, c .before .before .pre .1 .0)
 
 -- src/entries.rt:103:15
 get-requires : tie.Need-get-requires
-get-requires c κs = omega (arith, spots (c .before .before .args .s) (c .before .before .pre .0) (c .before .before .pre .1 .1 .0 .0) (c .before .before .args .i) 0 (omega (arith, c .before .before .pre .1 .1 .0 .1, c .before .before .pre .0 .few)) (c .before .before .pre .0 .cap-from) .entry, spots (c .before .before .args .s) (c .before .before .pre .0) (c .before .before .pre .1 .1 .0 .0) (c .before .before .args .i) 0 (omega (arith, c .before .before .pre .1 .1 .0 .1, c .before .before .pre .0 .few)) (c .before .before .pre .0 .cap-from) .small, c .entry-at .ensures, c .before .before .pre .1 .0)
+get-requires c κs = omega (arith, entry-here (c .before .before), c .entry-at .ensures, c .before .before .pre .1 .0)
 
 -- src/entries.rt:103:15
 cast-row : tie.Need-cast-row
@@ -50,15 +86,15 @@ add-r c = search needs
 
 -- src/entries.rt:104:47
 mul-r : tie.Need-mul-r
-mul-r c = omega (arith, spots (c .before .before .before .before .args .s) (c .before .before .before .before .pre .0) (c .before .before .before .before .pre .1 .1 .0 .0) (c .before .before .before .before .args .i) (c .before .get .result) (omega (arith, c .before .before .before .before .pre .1 .1 .0 .1, c .before .before .before .before .pre .0 .few)) (rw (c .before .get .ensures, c .before .before .entry-at .ensures) (c .before .before .before .before .pre .1 .1 .1 .row)) .row-small)
+mul-r c = omega (arith, row-here (c .before) .row-small)
 
 -- src/entries.rt:104:30
 add-r-2 : tie.Need-add-r-2
-add-r-2 c = omega (arith, spots (c .before .before .before .before .args .s) (c .before .before .before .before .pre .0) (c .before .before .before .before .pre .1 .1 .0 .0) (c .before .before .before .before .args .i) (c .before .get .result) (omega (arith, c .before .before .before .before .pre .1 .1 .0 .1, c .before .before .before .before .pre .0 .few)) (rw (c .before .get .ensures, c .before .before .entry-at .ensures) (c .before .before .before .before .pre .1 .1 .1 .row)) .row-small)
+add-r-2 c = omega (arith, row-here (c .before) .row-small)
 
 -- src/entries.rt:104:13
 add-r-3 : tie.Need-add-r-3
-add-r-3 c = omega (arith, spots (c .before .before .before .before .args .s) (c .before .before .before .before .pre .0) (c .before .before .before .before .pre .1 .1 .0 .0) (c .before .before .before .before .args .i) (c .before .get .result) (omega (arith, c .before .before .before .before .pre .1 .1 .0 .1, c .before .before .before .before .pre .0 .few)) (rw (c .before .get .ensures, c .before .before .entry-at .ensures) (c .before .before .before .before .pre .1 .1 .1 .row)) .row, spots (c .before .before .before .before .args .s) (c .before .before .before .before .pre .0) (c .before .before .before .before .pre .1 .1 .0 .0) (c .before .before .before .before .args .i) (c .before .get .result) (omega (arith, c .before .before .before .before .pre .1 .1 .0 .1, c .before .before .before .before .pre .0 .few)) (rw (c .before .get .ensures, c .before .before .entry-at .ensures) (c .before .before .before .before .pre .1 .1 .1 .row)) .small, c .labels-at .ensures)
+add-r-3 c = omega (arith, row-here (c .before), c .labels-at .ensures, c .before .before .before .before .pre .1 .0)
 
 -- src/entries.rt:105:31
 add-get-3 : tie.Need-add-get-3
@@ -66,19 +102,25 @@ add-get-3 c = search needs
 
 -- src/entries.rt:105:26
 add-get-4 : tie.Need-add-get-4
-add-get-4 c = omega (arith, spots (c .before .before .before .before .args .s) (c .before .before .before .before .pre .0) (c .before .before .before .before .pre .1 .1 .0 .0) (c .before .before .before .before .args .i) 0 (omega (arith, c .before .before .before .before .pre .1 .1 .0 .1, c .before .before .before .before .pre .0 .few)) (c .before .before .before .before .pre .0 .cap-from) .entry, spots (c .before .before .before .before .args .s) (c .before .before .before .before .pre .0) (c .before .before .before .before .pre .1 .1 .0 .0) (c .before .before .before .before .args .i) 0 (omega (arith, c .before .before .before .before .pre .1 .1 .0 .1, c .before .before .before .before .pre .0 .few)) (c .before .before .before .before .pre .0 .cap-from) .small, c .before .before .entry-at .ensures, c .before .before .before .before .pre .1 .0)
+add-get-4 c =
+    let here = c .before .before in
+    omega (arith, entry-here (here .before .before), here .entry-at .ensures, here .before .before .pre .1 .0)
 
 -- src/entries.rt:105:8
 get-requires-2 : tie.Need-get-requires-2
-get-requires-2 c κs = omega (arith, spots (c .before .before .before .before .args .s) (c .before .before .before .before .pre .0) (c .before .before .before .before .pre .1 .1 .0 .0) (c .before .before .before .before .args .i) 0 (omega (arith, c .before .before .before .before .pre .1 .1 .0 .1, c .before .before .before .before .pre .0 .few)) (c .before .before .before .before .pre .0 .cap-from) .entry, spots (c .before .before .before .before .args .s) (c .before .before .before .before .pre .0) (c .before .before .before .before .pre .1 .1 .0 .0) (c .before .before .before .before .args .i) 0 (omega (arith, c .before .before .before .before .pre .1 .1 .0 .1, c .before .before .before .before .pre .0 .few)) (c .before .before .before .before .pre .0 .cap-from) .small, c .before .before .entry-at .ensures, c .before .before .before .before .pre .1 .0)
+get-requires-2 c κs =
+    let here = c .before .before in
+    omega (arith, entry-here (here .before .before), here .entry-at .ensures, here .before .before .pre .1 .0)
 
 -- src/entries.rt:105:54
 get-requires-3 : tie.Need-get-requires-3
-get-requires-3 c κs = omega (arith, spots (c .before .before .before .before .before .args .s) (c .before .before .before .before .before .pre .0) (c .before .before .before .before .before .pre .1 .1 .0 .0) (c .before .before .before .before .before .args .i) (c .before .before .get .result) (omega (arith, c .before .before .before .before .before .pre .1 .1 .0 .1, c .before .before .before .before .before .pre .0 .few)) (rw (c .before .before .get .ensures, c .before .before .before .entry-at .ensures) (c .before .before .before .before .before .pre .1 .1 .1 .row)) .row, spots (c .before .before .before .before .before .args .s) (c .before .before .before .before .before .pre .0) (c .before .before .before .before .before .pre .1 .1 .0 .0) (c .before .before .before .before .before .args .i) (c .before .before .get .result) (omega (arith, c .before .before .before .before .before .pre .1 .1 .0 .1, c .before .before .before .before .before .pre .0 .few)) (rw (c .before .before .get .ensures, c .before .before .before .entry-at .ensures) (c .before .before .before .before .before .pre .1 .1 .1 .row)) .small, c .before .labels-at .ensures, c .before .before .before .before .before .pre .1 .0)
+get-requires-3 c κs =
+    let here = c .before in
+    omega (arith, row-here (here .before), here .labels-at .ensures, here .before .before .before .before .pre .1 .0)
 
 -- src/entries.rt:106:9
 returns : tie.Need-returns
-returns c = refuse (other-index (c .before .before .before .before .before .before .before .args .image .now) (c .before .before .before .before .before .before .before .args .s) (c .before .before .before .before .before .before .before .args .i) ((c .before .before .before .labels-at .result) + (4 + (c .before .before .before .before .get .result) * ((c .before .before .before .before .before .before .before .args .s .variables) + 3))) (c .before .before .get2 .result) (c .before .get3 .result) (c .before .before .before .before .before .before .before .pre .0 .vars-to) (c .before .before .before .before .before .before .before .pre .1 .1 .1) (rw (c .before .before .before .labels-at .ensures, c .before .before .before .before .get .ensures, c .before .before .before .before .before .entry-at .ensures)) (c .before .before .get2 .ensures ∙ rw (c .before .before .before .before .before .entry-at .ensures)) (c .before .get3 .ensures) (c .if1 .taken))
+returns c = refuse (other-index (all-read (c .before)) (c .if1 .taken))
 
 -- src/entries.rt:108:23
 add-x : tie.Need-add-x
@@ -86,67 +128,100 @@ add-x c = omega (arith, c .before .before .before .before .before .before .befor
 
 -- src/entries.rt:108:18
 add-x-2 : tie.Need-add-x-2
-add-x-2 c = omega (arith, spots (c .before .before .before .before .before .before .before .args .s) (c .before .before .before .before .before .before .before .pre .0) (c .before .before .before .before .before .before .before .pre .1 .1 .0 .0) (c .before .before .before .before .before .before .before .args .i) 0 (omega (arith, c .before .before .before .before .before .before .before .pre .1 .1 .0 .1, c .before .before .before .before .before .before .before .pre .0 .few)) (c .before .before .before .before .before .before .before .pre .0 .cap-from) .entry, spots (c .before .before .before .before .before .before .before .args .s) (c .before .before .before .before .before .before .before .pre .0) (c .before .before .before .before .before .before .before .pre .1 .1 .0 .0) (c .before .before .before .before .before .before .before .args .i) 0 (omega (arith, c .before .before .before .before .before .before .before .pre .1 .1 .0 .1, c .before .before .before .before .before .before .before .pre .0 .few)) (c .before .before .before .before .before .before .before .pre .0 .cap-from) .small, c .before .before .before .before .before .entry-at .ensures, c .before .before .before .before .before .before .before .pre .1 .0)
+add-x-2 c =
+    let here = c .before .before .before .before .before in
+    omega (arith, entry-here (here .before .before), here .entry-at .ensures, here .before .before .pre .1 .0)
 
 -- src/entries.rt:108:13
 mul-x : tie.Need-mul-x
-mul-x c = omega (arith, spots (c .before .before .before .before .before .before .before .args .s) (c .before .before .before .before .before .before .before .pre .0) (c .before .before .before .before .before .before .before .pre .1 .1 .0 .0) (c .before .before .before .before .before .before .before .args .i) 0 (omega (arith, c .before .before .before .before .before .before .before .pre .1 .1 .0 .1, c .before .before .before .before .before .before .before .pre .0 .few)) (c .before .before .before .before .before .before .before .pre .0 .cap-from) .entry, spots (c .before .before .before .before .before .before .before .args .s) (c .before .before .before .before .before .before .before .pre .0) (c .before .before .before .before .before .before .before .pre .1 .1 .0 .0) (c .before .before .before .before .before .before .before .args .i) 0 (omega (arith, c .before .before .before .before .before .before .before .pre .1 .1 .0 .1, c .before .before .before .before .before .before .before .pre .0 .few)) (c .before .before .before .before .before .before .before .pre .0 .cap-from) .small, c .before .before .before .before .before .entry-at .ensures, c .before .before .before .before .before .before .before .pre .1 .0)
+mul-x c =
+    let here = c .before .before .before .before .before in
+    omega (arith, entry-here (here .before .before), here .entry-at .ensures, here .before .before .pre .1 .0)
 
 -- src/entries.rt:109:13
 mul-y : tie.Need-mul-y
-mul-y c = omega (arith, spots (c .before .before .before .before .before .before .before .args .s) (c .before .before .before .before .before .before .before .pre .0) (c .before .before .before .before .before .before .before .pre .1 .1 .0 .0) (c .before .before .before .before .before .before .before .args .i) 0 (omega (arith, c .before .before .before .before .before .before .before .pre .1 .1 .0 .1, c .before .before .before .before .before .before .before .pre .0 .few)) (c .before .before .before .before .before .before .before .pre .0 .cap-from) .entry, spots (c .before .before .before .before .before .before .before .args .s) (c .before .before .before .before .before .before .before .pre .0) (c .before .before .before .before .before .before .before .pre .1 .1 .0 .0) (c .before .before .before .before .before .before .before .args .i) 0 (omega (arith, c .before .before .before .before .before .before .before .pre .1 .1 .0 .1, c .before .before .before .before .before .before .before .pre .0 .few)) (c .before .before .before .before .before .before .before .pre .0 .cap-from) .small, c .before .before .before .before .before .entry-at .ensures, c .before .before .before .before .before .before .before .pre .1 .0)
+mul-y c =
+    let here = c .before .before .before .before .before in
+    omega (arith, entry-here (here .before .before), here .entry-at .ensures, here .before .before .pre .1 .0)
 
 -- src/entries.rt:110:18
 add-z : tie.Need-add-z
-add-z c = omega (arith, spots (c .before .before .before .before .before .before .before .args .s) (c .before .before .before .before .before .before .before .pre .0) (c .before .before .before .before .before .before .before .pre .1 .1 .0 .0) (c .before .before .before .before .before .before .before .args .i) (c .before .before .before .before .get .result) (omega (arith, c .before .before .before .before .before .before .before .pre .1 .1 .0 .1, c .before .before .before .before .before .before .before .pre .0 .few)) (rw (c .before .before .before .before .get .ensures, c .before .before .before .before .before .entry-at .ensures) (c .before .before .before .before .before .before .before .pre .1 .1 .1 .row)) .row, spots (c .before .before .before .before .before .before .before .args .s) (c .before .before .before .before .before .before .before .pre .0) (c .before .before .before .before .before .before .before .pre .1 .1 .0 .0) (c .before .before .before .before .before .before .before .args .i) (c .before .before .before .before .get .result) (omega (arith, c .before .before .before .before .before .before .before .pre .1 .1 .0 .1, c .before .before .before .before .before .before .before .pre .0 .few)) (rw (c .before .before .before .before .get .ensures, c .before .before .before .before .before .entry-at .ensures) (c .before .before .before .before .before .before .before .pre .1 .1 .1 .row)) .small, c .before .before .before .labels-at .ensures)
+add-z c =
+    let here = c .before .before .before in
+    omega (arith, row-here (here .before), here .labels-at .ensures, here .before .before .before .before .pre .1 .0)
 
 -- src/entries.rt:110:13
 mul-z : tie.Need-mul-z
-mul-z c = omega (arith, spots (c .before .before .before .before .before .before .before .args .s) (c .before .before .before .before .before .before .before .pre .0) (c .before .before .before .before .before .before .before .pre .1 .1 .0 .0) (c .before .before .before .before .before .before .before .args .i) (c .before .before .before .before .get .result) (omega (arith, c .before .before .before .before .before .before .before .pre .1 .1 .0 .1, c .before .before .before .before .before .before .before .pre .0 .few)) (rw (c .before .before .before .before .get .ensures, c .before .before .before .before .before .entry-at .ensures) (c .before .before .before .before .before .before .before .pre .1 .1 .1 .row)) .row, spots (c .before .before .before .before .before .before .before .args .s) (c .before .before .before .before .before .before .before .pre .0) (c .before .before .before .before .before .before .before .pre .1 .1 .0 .0) (c .before .before .before .before .before .before .before .args .i) (c .before .before .before .before .get .result) (omega (arith, c .before .before .before .before .before .before .before .pre .1 .1 .0 .1, c .before .before .before .before .before .before .before .pre .0 .few)) (rw (c .before .before .before .before .get .ensures, c .before .before .before .before .before .entry-at .ensures) (c .before .before .before .before .before .before .before .pre .1 .1 .1 .row)) .small, c .before .before .before .labels-at .ensures)
+mul-z c =
+    let here = c .before .before .before in
+    omega (arith, row-here (here .before), here .labels-at .ensures, here .before .before .before .before .pre .1 .0)
 
 -- src/entries.rt:111:14
 sub-is-ratio : tie.Need-sub-is-ratio
-sub-is-ratio c = omega (arith, spots (c .before .before .before .before .before .before .before .args .s) (c .before .before .before .before .before .before .before .pre .0) (c .before .before .before .before .before .before .before .pre .1 .1 .0 .0) (c .before .before .before .before .before .before .before .args .i) 0 (omega (arith, c .before .before .before .before .before .before .before .pre .1 .1 .0 .1, c .before .before .before .before .before .before .before .pre .0 .few)) (c .before .before .before .before .before .before .before .pre .0 .cap-from) .entry, spots (c .before .before .before .before .before .before .before .args .s) (c .before .before .before .before .before .before .before .pre .0) (c .before .before .before .before .before .before .before .pre .1 .1 .0 .0) (c .before .before .before .before .before .before .before .args .i) 0 (omega (arith, c .before .before .before .before .before .before .before .pre .1 .1 .0 .1, c .before .before .before .before .before .before .before .pre .0 .few)) (c .before .before .before .before .before .before .before .pre .0 .cap-from) .small, c .before .before .before .before .before .entry-at .ensures, c .before .before .before .before .before .before .before .pre .1 .0)
+sub-is-ratio c =
+    let here = c .before .before .before .before .before in
+    omega (arith, entry-here (here .before .before), here .entry-at .ensures, here .before .before .pre .1 .0)
 
 -- src/entries.rt:111:14
 part-is-ratio-start : tie.Need-part-is-ratio-start
-part-is-ratio-start c = omega (arith, spots (c .before .before .before .before .before .before .before .args .s) (c .before .before .before .before .before .before .before .pre .0) (c .before .before .before .before .before .before .before .pre .1 .1 .0 .0) (c .before .before .before .before .before .before .before .args .i) 0 (omega (arith, c .before .before .before .before .before .before .before .pre .1 .1 .0 .1, c .before .before .before .before .before .before .before .pre .0 .few)) (c .before .before .before .before .before .before .before .pre .0 .cap-from) .entry, spots (c .before .before .before .before .before .before .before .args .s) (c .before .before .before .before .before .before .before .pre .0) (c .before .before .before .before .before .before .before .pre .1 .1 .0 .0) (c .before .before .before .before .before .before .before .args .i) 0 (omega (arith, c .before .before .before .before .before .before .before .pre .1 .1 .0 .1, c .before .before .before .before .before .before .before .pre .0 .few)) (c .before .before .before .before .before .before .before .pre .0 .cap-from) .small, c .before .before .before .before .before .entry-at .ensures, c .before .before .before .before .before .before .before .pre .1 .0)
+part-is-ratio-start c =
+    let here = c .before .before .before .before .before in
+    omega (arith, entry-here (here .before .before), here .entry-at .ensures, here .before .before .pre .1 .0)
 
 -- src/entries.rt:111:14
 part-is-ratio-end : tie.Need-part-is-ratio-end
-part-is-ratio-end c = omega (arith, spots (c .before .before .before .before .before .before .before .args .s) (c .before .before .before .before .before .before .before .pre .0) (c .before .before .before .before .before .before .before .pre .1 .1 .0 .0) (c .before .before .before .before .before .before .before .args .i) 0 (omega (arith, c .before .before .before .before .before .before .before .pre .1 .1 .0 .1, c .before .before .before .before .before .before .before .pre .0 .few)) (c .before .before .before .before .before .before .before .pre .0 .cap-from) .entry, spots (c .before .before .before .before .before .before .before .args .s) (c .before .before .before .before .before .before .before .pre .0) (c .before .before .before .before .before .before .before .pre .1 .1 .0 .0) (c .before .before .before .before .before .before .before .args .i) 0 (omega (arith, c .before .before .before .before .before .before .before .pre .1 .1 .0 .1, c .before .before .before .before .before .before .before .pre .0 .few)) (c .before .before .before .before .before .before .before .pre .0 .cap-from) .small, c .before .before .before .before .before .entry-at .ensures, c .before .before .before .before .before .before .before .pre .1 .0)
+part-is-ratio-end c =
+    let here = c .before .before .before .before .before in
+    omega (arith, entry-here (here .before .before), here .entry-at .ensures, here .before .before .pre .1 .0)
 
 -- src/entries.rt:111:27
 sub-is-ratio-2 : tie.Need-sub-is-ratio-2
-sub-is-ratio-2 c = omega (arith, spots (c .before .before .before .before .before .before .before .before .args .s) (c .before .before .before .before .before .before .before .before .pre .0) (c .before .before .before .before .before .before .before .before .pre .1 .1 .0 .0) (c .before .before .before .before .before .before .before .before .args .i) 0 (omega (arith, c .before .before .before .before .before .before .before .before .pre .1 .1 .0 .1, c .before .before .before .before .before .before .before .before .pre .0 .few)) (c .before .before .before .before .before .before .before .before .pre .0 .cap-from) .entry, spots (c .before .before .before .before .before .before .before .before .args .s) (c .before .before .before .before .before .before .before .before .pre .0) (c .before .before .before .before .before .before .before .before .pre .1 .1 .0 .0) (c .before .before .before .before .before .before .before .before .args .i) 0 (omega (arith, c .before .before .before .before .before .before .before .before .pre .1 .1 .0 .1, c .before .before .before .before .before .before .before .before .pre .0 .few)) (c .before .before .before .before .before .before .before .before .pre .0 .cap-from) .small, c .before .before .before .before .before .before .entry-at .ensures, c .before .before .before .before .before .before .before .before .pre .1 .0)
+sub-is-ratio-2 c =
+    let here = c .before .before .before .before .before .before in
+    omega (arith, entry-here (here .before .before), here .entry-at .ensures, here .before .before .pre .1 .0)
 
 -- src/entries.rt:111:27
 part-is-ratio-start-2 : tie.Need-part-is-ratio-start-2
-part-is-ratio-start-2 c = omega (arith, spots (c .before .before .before .before .before .before .before .before .args .s) (c .before .before .before .before .before .before .before .before .pre .0) (c .before .before .before .before .before .before .before .before .pre .1 .1 .0 .0) (c .before .before .before .before .before .before .before .before .args .i) 0 (omega (arith, c .before .before .before .before .before .before .before .before .pre .1 .1 .0 .1, c .before .before .before .before .before .before .before .before .pre .0 .few)) (c .before .before .before .before .before .before .before .before .pre .0 .cap-from) .entry, spots (c .before .before .before .before .before .before .before .before .args .s) (c .before .before .before .before .before .before .before .before .pre .0) (c .before .before .before .before .before .before .before .before .pre .1 .1 .0 .0) (c .before .before .before .before .before .before .before .before .args .i) 0 (omega (arith, c .before .before .before .before .before .before .before .before .pre .1 .1 .0 .1, c .before .before .before .before .before .before .before .before .pre .0 .few)) (c .before .before .before .before .before .before .before .before .pre .0 .cap-from) .small, c .before .before .before .before .before .before .entry-at .ensures, c .before .before .before .before .before .before .before .before .pre .1 .0)
+part-is-ratio-start-2 c =
+    let here = c .before .before .before .before .before .before in
+    omega (arith, entry-here (here .before .before), here .entry-at .ensures, here .before .before .pre .1 .0)
 
 -- src/entries.rt:111:27
 part-is-ratio-end-2 : tie.Need-part-is-ratio-end-2
-part-is-ratio-end-2 c = omega (arith, spots (c .before .before .before .before .before .before .before .before .args .s) (c .before .before .before .before .before .before .before .before .pre .0) (c .before .before .before .before .before .before .before .before .pre .1 .1 .0 .0) (c .before .before .before .before .before .before .before .before .args .i) 0 (omega (arith, c .before .before .before .before .before .before .before .before .pre .1 .1 .0 .1, c .before .before .before .before .before .before .before .before .pre .0 .few)) (c .before .before .before .before .before .before .before .before .pre .0 .cap-from) .entry, spots (c .before .before .before .before .before .before .before .before .args .s) (c .before .before .before .before .before .before .before .before .pre .0) (c .before .before .before .before .before .before .before .before .pre .1 .1 .0 .0) (c .before .before .before .before .before .before .before .before .args .i) 0 (omega (arith, c .before .before .before .before .before .before .before .before .pre .1 .1 .0 .1, c .before .before .before .before .before .before .before .before .pre .0 .few)) (c .before .before .before .before .before .before .before .before .pre .0 .cap-from) .small, c .before .before .before .before .before .before .entry-at .ensures, c .before .before .before .before .before .before .before .before .pre .1 .0)
+part-is-ratio-end-2 c =
+    let here = c .before .before .before .before .before .before in
+    omega (arith, entry-here (here .before .before), here .entry-at .ensures, here .before .before .pre .1 .0)
 
 -- src/entries.rt:111:40
 sub-is-ratio-3 : tie.Need-sub-is-ratio-3
-sub-is-ratio-3 c = omega (arith, spots (c .before .before .before .before .before .before .before .before .before .args .s) (c .before .before .before .before .before .before .before .before .before .pre .0) (c .before .before .before .before .before .before .before .before .before .pre .1 .1 .0 .0) (c .before .before .before .before .before .before .before .before .before .args .i) (c .before .before .before .before .before .before .get .result) (omega (arith, c .before .before .before .before .before .before .before .before .before .pre .1 .1 .0 .1, c .before .before .before .before .before .before .before .before .before .pre .0 .few)) (rw (c .before .before .before .before .before .before .get .ensures, c .before .before .before .before .before .before .before .entry-at .ensures) (c .before .before .before .before .before .before .before .before .before .pre .1 .1 .1 .row)) .row, spots (c .before .before .before .before .before .before .before .before .before .args .s) (c .before .before .before .before .before .before .before .before .before .pre .0) (c .before .before .before .before .before .before .before .before .before .pre .1 .1 .0 .0) (c .before .before .before .before .before .before .before .before .before .args .i) (c .before .before .before .before .before .before .get .result) (omega (arith, c .before .before .before .before .before .before .before .before .before .pre .1 .1 .0 .1, c .before .before .before .before .before .before .before .before .before .pre .0 .few)) (rw (c .before .before .before .before .before .before .get .ensures, c .before .before .before .before .before .before .before .entry-at .ensures) (c .before .before .before .before .before .before .before .before .before .pre .1 .1 .1 .row)) .small, c .before .before .before .before .before .labels-at .ensures, c .before .before .before .before .before .before .before .before .before .pre .1 .0)
+sub-is-ratio-3 c =
+    let here = c .before .before .before .before .before in
+    omega (arith, row-here (here .before), here .labels-at .ensures, here .before .before .before .before .pre .1 .0)
 
 -- src/entries.rt:111:40
 part-is-ratio-start-3 : tie.Need-part-is-ratio-start-3
-part-is-ratio-start-3 c = omega (arith, spots (c .before .before .before .before .before .before .before .before .before .args .s) (c .before .before .before .before .before .before .before .before .before .pre .0) (c .before .before .before .before .before .before .before .before .before .pre .1 .1 .0 .0) (c .before .before .before .before .before .before .before .before .before .args .i) (c .before .before .before .before .before .before .get .result) (omega (arith, c .before .before .before .before .before .before .before .before .before .pre .1 .1 .0 .1, c .before .before .before .before .before .before .before .before .before .pre .0 .few)) (rw (c .before .before .before .before .before .before .get .ensures, c .before .before .before .before .before .before .before .entry-at .ensures) (c .before .before .before .before .before .before .before .before .before .pre .1 .1 .1 .row)) .row, spots (c .before .before .before .before .before .before .before .before .before .args .s) (c .before .before .before .before .before .before .before .before .before .pre .0) (c .before .before .before .before .before .before .before .before .before .pre .1 .1 .0 .0) (c .before .before .before .before .before .before .before .before .before .args .i) (c .before .before .before .before .before .before .get .result) (omega (arith, c .before .before .before .before .before .before .before .before .before .pre .1 .1 .0 .1, c .before .before .before .before .before .before .before .before .before .pre .0 .few)) (rw (c .before .before .before .before .before .before .get .ensures, c .before .before .before .before .before .before .before .entry-at .ensures) (c .before .before .before .before .before .before .before .before .before .pre .1 .1 .1 .row)) .small, c .before .before .before .before .before .labels-at .ensures, c .before .before .before .before .before .before .before .before .before .pre .1 .0)
+part-is-ratio-start-3 c =
+    let here = c .before .before .before .before .before in
+    omega (arith, row-here (here .before), here .labels-at .ensures, here .before .before .before .before .pre .1 .0)
 
 -- src/entries.rt:111:40
 part-is-ratio-end-3 : tie.Need-part-is-ratio-end-3
-part-is-ratio-end-3 c = omega (arith, spots (c .before .before .before .before .before .before .before .before .before .args .s) (c .before .before .before .before .before .before .before .before .before .pre .0) (c .before .before .before .before .before .before .before .before .before .pre .1 .1 .0 .0) (c .before .before .before .before .before .before .before .before .before .args .i) (c .before .before .before .before .before .before .get .result) (omega (arith, c .before .before .before .before .before .before .before .before .before .pre .1 .1 .0 .1, c .before .before .before .before .before .before .before .before .before .pre .0 .few)) (rw (c .before .before .before .before .before .before .get .ensures, c .before .before .before .before .before .before .before .entry-at .ensures) (c .before .before .before .before .before .before .before .before .before .pre .1 .1 .1 .row)) .row, spots (c .before .before .before .before .before .before .before .before .before .args .s) (c .before .before .before .before .before .before .before .before .before .pre .0) (c .before .before .before .before .before .before .before .before .before .pre .1 .1 .0 .0) (c .before .before .before .before .before .before .before .before .before .args .i) (c .before .before .before .before .before .before .get .result) (omega (arith, c .before .before .before .before .before .before .before .before .before .pre .1 .1 .0 .1, c .before .before .before .before .before .before .before .before .before .pre .0 .few)) (rw (c .before .before .before .before .before .before .get .ensures, c .before .before .before .before .before .before .before .entry-at .ensures) (c .before .before .before .before .before .before .before .before .before .pre .1 .1 .1 .row)) .small, c .before .before .before .before .before .labels-at .ensures, c .before .before .before .before .before .before .before .before .before .pre .1 .0)
+part-is-ratio-end-3 c =
+    let here = c .before .before .before .before .before in
+    omega (arith, row-here (here .before), here .labels-at .ensures, here .before .before .before .before .pre .1 .0)
 
 -- src/entries.rt:111:5
 is-ratio-requires : tie.Need-is-ratio-requires
-is-ratio-requires c κs = let k = asks (c .before .before .before .before .before .before .before .before .before .before .args .image .now) (c .before .before .before .before .before .before .before .before .before .before .args .s) (c .before .before .before .before .before .before .before .before .before .before .args .i) ((c .before .before .before .before .before .before .labels-at .result) + (4 + (c .before .before .before .before .before .before .before .get .result) * ((c .before .before .before .before .before .before .before .before .before .before .args .s .variables) + 3))) (c .before .before .before .before .before .get2 .result) (c .before .before .before .before .get3 .result) (c .before .before .before .before .before .before .before .before .before .before .pre .0 .vars-to) (c .before .before .before .before .before .before .before .before .before .before .pre .1 .1 .1) (rw (c .before .before .before .before .before .before .labels-at .ensures, c .before .before .before .before .before .before .before .get .ensures, c .before .before .before .before .before .before .before .before .entry-at .ensures)) (c .before .before .before .before .before .get2 .ensures ∙ rw (c .before .before .before .before .before .before .before .before .entry-at .ensures)) (c .before .before .before .before .get3 .ensures) (c .before .before .before .before .before .before .before .before .entry-at .result) (c .before .before .before .before .before .before .before .before .entry-at .ensures) (omega (arith, c .before .before .before .before .before .before .before .before .before .before .pre .1 .0, spots (c .before .before .before .before .before .before .before .before .before .before .args .s) (c .before .before .before .before .before .before .before .before .before .before .pre .0) (c .before .before .before .before .before .before .before .before .before .before .pre .1 .1 .0 .0) (c .before .before .before .before .before .before .before .before .before .before .args .i) (rowIn (words (c .before .before .before .before .before .before .before .before .before .before .args .image .now)) (c .before .before .before .before .before .before .before .before .before .before .args .s) (c .before .before .before .before .before .before .before .before .before .before .args .i)) (omega (arith, c .before .before .before .before .before .before .before .before .before .before .pre .1 .1 .0 .1, c .before .before .before .before .before .before .before .before .before .before .pre .0 .few)) (c .before .before .before .before .before .before .before .before .before .before .pre .1 .1 .1 .row) .row)) in (k .sign-starts, (k .lm-starts, k .fits))
+is-ratio-requires c κs =
+    let here = c .before .before .before .before .before .before in
+    let start = here .before .before .before .before in
+    let named = rw (here .before .get .ensures, here .before .before .entry-at .ensures) at (row-here (here .before)) in
+    let k = asks (all-read (c .before .before .before .before)) (omega (arith, start .pre .1 .0, named .row)) in
+    (k .sign-starts, (k .lm-starts, k .fits))
 
 -- src/entries.rt:94:1
 returns-2 : tie.Need-returns-2
-returns-2 c = answered (c .before .before .before .before .before .before .before .before .before .before .before .args .image .now) (c .before .before .before .before .before .before .before .before .before .before .before .args .s) (c .before .before .before .before .before .before .before .before .before .before .before .args .i) ((c .before .before .before .before .before .before .before .labels-at .result) + (4 + (c .before .before .before .before .before .before .before .before .get .result) * ((c .before .before .before .before .before .before .before .before .before .before .before .args .s .variables) + 3))) (c .before .before .before .before .before .before .get2 .result) (c .before .before .before .before .before .get3 .result) (c .before .before .before .before .before .before .before .before .before .before .before .pre .0 .vars-to) (c .before .before .before .before .before .before .before .before .before .before .before .pre .1 .1 .1) (rw (c .before .before .before .before .before .before .before .labels-at .ensures, c .before .before .before .before .before .before .before .before .get .ensures, c .before .before .before .before .before .before .before .before .before .entry-at .ensures)) (c .before .before .before .before .before .before .get2 .ensures ∙ rw (c .before .before .before .before .before .before .before .before .before .entry-at .ensures)) (c .before .before .before .before .before .get3 .ensures) (c .before .before .before .before .before .before .before .before .before .entry-at .result) (c .before .before .before .before .before .before .before .before .before .entry-at .ensures) (c .before .before .before .before .if1 .left) _ (c .is-ratio .ensures)
+returns-2 c = answered (all-read (c .before .before .before .before .before)) (c .before .before .before .before .if1 .left) _ (c .is-ratio .ensures)
 
 pub has-ratio-spec : {M : Type 1} → statement M
 has-ratio-spec =

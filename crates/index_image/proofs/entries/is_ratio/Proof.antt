@@ -9,9 +9,12 @@ use Rattle.words.specs.Words.{words}
 use Rattle.words.proofs.Laws.{length-words}
 use Rattle.words.proofs.Answers.{refuse}
 use Rattle.monomial.specs.Monomial.{first}
+use Rattle.monomial.specs.Operations.{result}
+use Rattle.monomial.specs.Walk.{powerAt}
+use Rattle.monomial.specs.declared.ordered_ops.Op.{Op}
 use Rattle.monomial.proofs.Firsts.{begins, seen, first-bytes, first-canonical}
 use Rattle.monomial.proofs.Walks.{falls}
-use Rattle.index_image.proofs.Merging.{Merging, begin, fits, finished, powered, stopped, again}
+use Rattle.index_image.proofs.Merging.{Merging, MergeFits, begin, fits, finished, powered, stopped, again}
 use Rattle.index_image.proofs.entries.is_ratio.Statement.{statement}
 use Rattle.index_image.proofs.entries.is_ratio.Tie as tie
 use Rattle.index_image.proofs.entries.is_ratio.Reads as reads
@@ -22,6 +25,7 @@ use Rattle.monomial.proofs.ordered_ops.power_at.Reads as power-at-reads
 use Rattle.monomial.proofs.ordered_ops.step.Reads as step-reads
 use Rattle.monomial.proofs.ordered_ops.upper.Reads as upper-reads
 use Rattle.words.proofs.get.Reads as get-reads
+use Rattle.words.proofs.upper_id.Reads as upper-id-reads
 
 abbrev Inv-loop : tie.InvT-loop
 Inv-loop a b c i₀ j₀ n₀ i j n = Merging (first 1 (words a)) (first 1 (words b)) (words c) i j n
@@ -29,21 +33,48 @@ Inv-loop a b c i₀ j₀ n₀ i j n = Merging (first 1 (words a)) (first 1 (word
 abbrev μ-loop : tie.MeasureT-loop
 μ-loop a b c i₀ j₀ n₀ i j n = (length (first 1 (words a)) - i) + (length (first 1 (words b)) - j)
 
+-- helpers
+room : (a : tie.Start Inv-loop μ-loop)
+    → length (result Op.Ratio (first 1 (words (a .args .a .now))) (first 1 (words (a .args .b .now)))) ≤ length (words (a .args .c .now))
+room a = omega (arith, a .pre .1 .1, length-words (a .args .c .now))
+
+fitting : (c : tie.At-loop Inv-loop μ-loop) → MergeFits (c .loop .inv) (room (c .before .before .before .before))
+fitting c = fits (c .loop .inv) (room (c .before .before .before .before))
+
+-- where a variable is left, the powers that both monomials have of it
+small : (c : tie.Else1 Inv-loop μ-loop)
+    → let get = c .before .before .before .before .get in
+    let get2 = c .before .before .before .get2 in
+    let upper = c .before .upper in
+    (powerAt (get .result) (upper .result) 0 ≤ 32767) × (powerAt (get2 .result) (upper .result) 0 ≤ 32767)
+small c =
+    let loop = c .before .before .before .before .before .loop in
+    let start = c .before .before .before .before .before .before .before .before .before in
+    let k = powered (loop .inv) (room start) (seen _ (loop .inv .ra) (c .before .before .before .before .get .ensures))
+    (seen _ (loop .inv .rb) (c .before .before .before .get2 .ensures))
+    (c .before .upper .ensures) (c .before .before .get3 .ensures) (c .if1 .left) (first-canonical (omega arith) (start .pre .0))
+    (first-canonical (omega arith) (start .pre .1 .0)) in
+    (k .a-small, k .b-small)
+
+-- end of helpers
+
 -- src/entries.rt:74:5
 loop-holds : tie.Need-loop-holds Inv-loop μ-loop
-loop-holds c = begin (words (c .before .before .before .args .c .now)) (begins (omega arith) (c .before .before .before .pre .0)) (begins (omega arith) (c .before .before .before .pre .1 .0))
+loop-holds c =
+    let start = c .before .before .before in
+    begin (words (start .args .c .now)) (begins (omega arith) (start .pre .0)) (begins (omega arith) (start .pre .1 .0))
 
 -- src/entries.rt:75:13
 get-requires : tie.Need-get-requires Inv-loop μ-loop
-get-requires c κs = omega (arith, fits (c .loop .inv) (omega (arith, c .before .before .before .before .pre .1 .1, length-words (c .before .before .before .before .args .c .now))) .ia, first-bytes 1 (c .before .before .before .before .args .a .now), first-bytes 1 (c .before .before .before .before .args .b .now), length-words (c .before .before .before .before .args .c .now))
+get-requires c κs = omega (arith, fitting c .ia, first-bytes 1 (c .before .before .before .before .args .a .now))
 
 -- src/entries.rt:76:13
 get-requires-2 : tie.Need-get-requires-2 Inv-loop μ-loop
-get-requires-2 c κs = omega (arith, fits (c .before .loop .inv) (omega (arith, c .before .before .before .before .before .pre .1 .1, length-words (c .before .before .before .before .before .args .c .now))) .jb, first-bytes 1 (c .before .before .before .before .before .args .a .now), first-bytes 1 (c .before .before .before .before .before .args .b .now), length-words (c .before .before .before .before .before .args .c .now))
+get-requires-2 c κs = omega (arith, fitting (c .before) .jb, first-bytes 1 (c .before .before .before .before .before .args .b .now))
 
 -- src/entries.rt:77:13
 get-requires-3 : tie.Need-get-requires-3 Inv-loop μ-loop
-get-requires-3 c κs = omega (arith, fits (c .before .before .loop .inv) (omega (arith, c .before .before .before .before .before .before .pre .1 .1, length-words (c .before .before .before .before .before .before .args .c .now))) .free, first-bytes 1 (c .before .before .before .before .before .before .args .a .now), first-bytes 1 (c .before .before .before .before .before .before .args .b .now), length-words (c .before .before .before .before .before .before .args .c .now))
+get-requires-3 c κs = omega (arith, fitting (c .before .before) .free, length-words (c .before .before .before .before .before .before .args .c .now))
 
 -- src/entries.rt:78:13
 upper-requires : tie.Need-upper-requires Inv-loop μ-loop
@@ -55,7 +86,13 @@ cast-result c = search needs
 
 -- src/entries.rt:80:13
 returns : tie.Need-returns Inv-loop μ-loop
-returns c = finished (c .before .before .before .before .before .loop .inv) (omega (arith, c .before .before .before .before .before .before .before .before .before .pre .1 .1, length-words (c .before .before .before .before .before .before .before .before .before .args .c .now))) (seen _ (c .before .before .before .before .before .loop .inv .ra) (c .before .before .before .before .get .ensures)) (seen _ (c .before .before .before .before .before .loop .inv .rb) (c .before .before .before .get2 .ensures)) (c .before .upper .ensures) (c .before .before .get3 .ensures) (c .if1 .taken)
+returns c =
+    let start = c .before .before .before .before .before .before .before .before .before in
+    let loop = c .before .before .before .before .before .loop in
+    let get = c .before .before .before .before .get in
+    let get2 = c .before .before .before .get2 in
+    finished (loop .inv) (room start) (seen _ (loop .inv .ra) (get .ensures))
+    (seen _ (loop .inv .rb) (get2 .ensures)) (c .before .upper .ensures) (c .before .before .get3 .ensures) (c .if1 .taken)
 
 -- src/entries.rt:82:13
 power-at-requires : tie.Need-power-at-requires Inv-loop μ-loop
@@ -67,39 +104,80 @@ power-at-requires-2 c κs = search needs
 
 -- src/entries.rt:83:17
 add-p : tie.Need-add-p Inv-loop μ-loop
-add-p c = omega (arith, c .power-at2 .ensures, powered (c .before .before .before .before .before .before .before .loop .inv) (omega (arith, c .before .before .before .before .before .before .before .before .before .before .before .pre .1 .1, length-words (c .before .before .before .before .before .before .before .before .before .before .before .args .c .now))) (seen _ (c .before .before .before .before .before .before .before .loop .inv .ra) (c .before .before .before .before .before .before .get .ensures)) (seen _ (c .before .before .before .before .before .before .before .loop .inv .rb) (c .before .before .before .before .before .get2 .ensures)) (c .before .before .before .upper .ensures) (c .before .before .before .before .get3 .ensures) (c .before .before .if1 .left) (first-canonical (omega arith) (c .before .before .before .before .before .before .before .before .before .before .before .pre .0)) (first-canonical (omega arith) (c .before .before .before .before .before .before .before .before .before .before .before .pre .1 .0)) .a-small)
+add-p c = omega (arith, c .power-at2 .ensures, small (c .before .before) .0)
 
 -- src/entries.rt:83:17
 sub-p : tie.Need-sub-p Inv-loop μ-loop
-sub-p c = omega (arith, c .before .power-at .ensures, powered (c .before .before .before .before .before .before .before .loop .inv) (omega (arith, c .before .before .before .before .before .before .before .before .before .before .before .pre .1 .1, length-words (c .before .before .before .before .before .before .before .before .before .before .before .args .c .now))) (seen _ (c .before .before .before .before .before .before .before .loop .inv .ra) (c .before .before .before .before .before .before .get .ensures)) (seen _ (c .before .before .before .before .before .before .before .loop .inv .rb) (c .before .before .before .before .before .get2 .ensures)) (c .before .before .before .upper .ensures) (c .before .before .before .before .get3 .ensures) (c .before .before .if1 .left) (first-canonical (omega arith) (c .before .before .before .before .before .before .before .before .before .before .before .pre .0)) (first-canonical (omega arith) (c .before .before .before .before .before .before .before .before .before .before .before .pre .1 .0)) .b-small)
+sub-p c = omega (arith, c .before .power-at .ensures, small (c .before .before) .1)
+
+-- src/entries.rt:92:23
+upper-id-requires : tie.Need-upper-id-requires Inv-loop μ-loop
+upper-id-requires c κs = search needs
 
 -- src/entries.rt:84:13
 agrees-requires : tie.Need-agrees-requires Inv-loop μ-loop
-agrees-requires c κs = (omega arith, omega (arith, c .power-at2 .ensures, c .before .power-at .ensures, powered (c .before .before .before .before .before .before .before .loop .inv) (omega (arith, c .before .before .before .before .before .before .before .before .before .before .before .pre .1 .1, length-words (c .before .before .before .before .before .before .before .before .before .before .before .args .c .now))) (seen _ (c .before .before .before .before .before .before .before .loop .inv .ra) (c .before .before .before .before .before .before .get .ensures)) (seen _ (c .before .before .before .before .before .before .before .loop .inv .rb) (c .before .before .before .before .before .get2 .ensures)) (c .before .before .before .upper .ensures) (c .before .before .before .before .get3 .ensures) (c .before .before .if1 .left) (first-canonical (omega arith) (c .before .before .before .before .before .before .before .before .before .before .before .pre .0)) (first-canonical (omega arith) (c .before .before .before .before .before .before .before .before .before .before .before .pre .1 .0)) .a-small, powered (c .before .before .before .before .before .before .before .loop .inv) (omega (arith, c .before .before .before .before .before .before .before .before .before .before .before .pre .1 .1, length-words (c .before .before .before .before .before .before .before .before .before .before .before .args .c .now))) (seen _ (c .before .before .before .before .before .before .before .loop .inv .ra) (c .before .before .before .before .before .before .get .ensures)) (seen _ (c .before .before .before .before .before .before .before .loop .inv .rb) (c .before .before .before .before .before .get2 .ensures)) (c .before .before .before .upper .ensures) (c .before .before .before .before .get3 .ensures) (c .before .before .if1 .left) (first-canonical (omega arith) (c .before .before .before .before .before .before .before .before .before .before .before .pre .0)) (first-canonical (omega arith) (c .before .before .before .before .before .before .before .before .before .before .before .pre .1 .0)) .b-small))
+agrees-requires c κs =
+    let k = small (c .before .before .before) in
+    (omega (arith, c .upper-id .ensures), omega (arith, c .before .power-at2 .ensures, c .before .before .power-at .ensures, k .0, k .1))
 
 -- src/entries.rt:85:13
 returns-2 : tie.Need-returns-2 Inv-loop μ-loop
-returns-2 c = refuse (stopped (c .before .before .before .before .before .before .before .before .before .loop .inv) (omega (arith, c .before .before .before .before .before .before .before .before .before .before .before .before .before .pre .1 .1, length-words (c .before .before .before .before .before .before .before .before .before .before .before .before .before .args .c .now))) (seen _ (c .before .before .before .before .before .before .before .before .before .loop .inv .ra) (c .before .before .before .before .before .before .before .before .get .ensures)) (seen _ (c .before .before .before .before .before .before .before .before .before .loop .inv .rb) (c .before .before .before .before .before .before .before .get2 .ensures)) (c .before .before .before .before .before .upper .ensures) (c .before .before .before .before .before .before .get3 .ensures) (c .before .before .before .before .if1 .left) ((c .before .before .power-at2 .result) + 32768 - (c .before .before .before .power-at .result)) (rw (c .before .before .power-at2 .ensures, c .before .before .before .power-at .ensures)) (sym (c .before .agrees .ensures) ∙ not-true _ (c .if2 .taken)))
+returns-2 c =
+    let left = c .before .before .before .before .before in
+    let loop = left .before .before .before .before .before .loop in
+    let power-at = c .before .before .before .before .power-at in
+    let power-at2 = c .before .before .before .power-at2 in
+    let upper-id = c .before .before .upper-id in
+    refuse
+    (stopped (loop .inv) (room (left .before .before .before .before .before .before .before .before .before))
+    (seen _ (loop .inv .ra) (left .before .before .before .before .get .ensures)) (seen _ (loop .inv .rb) (left .before .before .before .get2 .ensures))
+    (left .before .upper .ensures) (left .before .before .get3 .ensures) (left .if1 .left)
+    (power-at2 .result + 32768 - power-at .result) (rw (power-at2 .ensures, power-at .ensures))
+    (sym (rw (upper-id .ensures) at (c .before .agrees .ensures)) ∙ not-true _ (c .if2 .taken)))
 
 -- src/entries.rt:87:9
 place-after-requires : tie.Need-place-after-requires Inv-loop μ-loop
-place-after-requires c κs = fits (c .before .before .before .before .before .before .before .before .before .loop .inv) (omega (arith, c .before .before .before .before .before .before .before .before .before .before .before .before .before .pre .1 .1, length-words (c .before .before .before .before .before .before .before .before .before .before .before .before .before .args .c .now))) .few
+place-after-requires c κs = fitting (c .before .before .before .before .before .before .before .before .before .before) .few
 
 -- src/entries.rt:88:9
 step-requires : tie.Need-step-requires Inv-loop μ-loop
-step-requires c κs = omega (arith, fits (c .before .before .before .before .before .before .before .before .before .before .loop .inv) (omega (arith, c .before .before .before .before .before .before .before .before .before .before .before .before .before .before .pre .1 .1, length-words (c .before .before .before .before .before .before .before .before .before .before .before .before .before .before .args .c .now))) .ia, first-bytes 1 (c .before .before .before .before .before .before .before .before .before .before .before .before .before .before .args .a .now), first-bytes 1 (c .before .before .before .before .before .before .before .before .before .before .before .before .before .before .args .b .now), length-words (c .before .before .before .before .before .before .before .before .before .before .before .before .before .before .args .c .now))
+step-requires c κs =
+    let loop = c .before .before .before .before .before .before .before .before .before .before .before in
+    omega (arith, fitting loop .ia, first-bytes 1 (loop .before .before .before .before .args .a .now))
 
 -- src/entries.rt:89:9
 step-requires-2 : tie.Need-step-requires-2 Inv-loop μ-loop
-step-requires-2 c κs = omega (arith, fits (c .before .before .before .before .before .before .before .before .before .before .before .loop .inv) (omega (arith, c .before .before .before .before .before .before .before .before .before .before .before .before .before .before .before .pre .1 .1, length-words (c .before .before .before .before .before .before .before .before .before .before .before .before .before .before .before .args .c .now))) .jb, first-bytes 1 (c .before .before .before .before .before .before .before .before .before .before .before .before .before .before .before .args .a .now), first-bytes 1 (c .before .before .before .before .before .before .before .before .before .before .before .before .before .before .before .args .b .now), length-words (c .before .before .before .before .before .before .before .before .before .before .before .before .before .before .before .args .c .now))
+step-requires-2 c κs =
+    let loop = c .before .before .before .before .before .before .before .before .before .before .before .before in
+    omega (arith, fitting loop .jb, first-bytes 1 (loop .before .before .before .before .args .b .now))
 
 -- src/entries.rt:74:5
 loop-less : tie.Need-loop-less Inv-loop μ-loop
-loop-less c = rw (c .before .step .ensures, c .step2 .ensures) (falls (c .before .before .before .before .before .before .before .before .before .before .before .get .result) (c .before .before .before .before .before .before .before .before .before .before .get2 .result) (c .before .before .before .before .before .before .before .before .upper .result) (c .before .before .before .before .before .before .before .before .before .before .before .before .loop .i) (c .before .before .before .before .before .before .before .before .before .before .before .before .loop .j) _ _ (c .before .before .before .before .before .before .before .before .upper .ensures) (fits (c .before .before .before .before .before .before .before .before .before .before .before .before .loop .inv) (omega (arith, c .before .before .before .before .before .before .before .before .before .before .before .before .before .before .before .before .pre .1 .1, length-words (c .before .before .before .before .before .before .before .before .before .before .before .before .before .before .before .before .args .c .now))) .ia) (fits (c .before .before .before .before .before .before .before .before .before .before .before .before .loop .inv) (omega (arith, c .before .before .before .before .before .before .before .before .before .before .before .before .before .before .before .before .pre .1 .1, length-words (c .before .before .before .before .before .before .before .before .before .before .before .before .before .before .before .before .args .c .now))) .jb))
+loop-less c =
+    let b9 = c .before .before .before .before .before .before .before .before .before in
+    let upper = b9 .upper in
+    let get2 = b9 .before .before .get2 in
+    let get = b9 .before .before .before .get in
+    let loop = b9 .before .before .before .before .loop in
+    let k = fitting (b9 .before .before .before .before) in
+    rw (c .before .step .ensures, c .step2 .ensures)
+    (falls (get .result) (get2 .result) (upper .result) (loop .i) (loop .j) _ _ (upper .ensures) (k .ia) (k .jb))
 
 -- src/entries.rt:74:5
 loop-again : tie.Need-loop-again Inv-loop μ-loop
-loop-again c = rw (c .before .step .ensures, c .step2 .ensures) (again (c .before .before .before .before .before .before .before .before .before .before .before .before .loop .inv) (omega (arith, c .before .before .before .before .before .before .before .before .before .before .before .before .before .before .before .before .pre .1 .1, length-words (c .before .before .before .before .before .before .before .before .before .before .before .before .before .before .before .before .args .c .now))) (seen _ (c .before .before .before .before .before .before .before .before .before .before .before .before .loop .inv .ra) (c .before .before .before .before .before .before .before .before .before .before .before .get .ensures)) (seen _ (c .before .before .before .before .before .before .before .before .before .before .before .before .loop .inv .rb) (c .before .before .before .before .before .before .before .before .before .before .get2 .ensures)) (c .before .before .before .before .before .before .before .before .upper .ensures) (c .before .before .before .before .before .before .before .before .before .get3 .ensures) (c .before .before .before .before .before .before .before .if1 .left) ((c .before .before .before .before .before .power-at2 .result) + 32768 - (c .before .before .before .before .before .before .power-at .result)) (rw (c .before .before .before .before .before .power-at2 .ensures, c .before .before .before .before .before .before .power-at .ensures)) (sym (c .before .before .before .before .agrees .ensures) ∙ not-false _ (c .before .before .before .if2 .left)) (c .before .before .place-after .ensures))
+loop-again c =
+    let left = c .before .before .before .before .before .before .before .before in
+    let loop = left .before .before .before .before .before .loop in
+    let power-at = c .before .before .before .before .before .before .before .power-at in
+    let power-at2 = c .before .before .before .before .before .before .power-at2 in
+    let upper-id = c .before .before .before .before .before .upper-id in
+    let agrees = c .before .before .before .before .agrees in
+    rw (c .before .step .ensures, c .step2 .ensures)
+    (again (loop .inv) (room (left .before .before .before .before .before .before .before .before .before))
+    (seen _ (loop .inv .ra) (left .before .before .before .before .get .ensures)) (seen _ (loop .inv .rb) (left .before .before .before .get2 .ensures))
+    (left .before .upper .ensures) (left .before .before .get3 .ensures) (left .if1 .left)
+    (power-at2 .result + 32768 - power-at .result) (rw (power-at2 .ensures, power-at .ensures))
+    (sym (rw (upper-id .ensures) at (agrees .ensures)) ∙ not-false _ (c .before .before .before .if2 .left)) (c .before .before .place-after .ensures))
 
 pub is-ratio-spec : {M : Type 1} → statement M
 is-ratio-spec =
@@ -118,6 +196,7 @@ is-ratio-spec =
     power-at-requires-2
     add-p
     sub-p
+    upper-id-requires
     agrees-requires
     returns-2
     place-after-requires

@@ -46,15 +46,31 @@ cast-judge c = search needs
 
 -- src/entries.rt:42:9
 judge-requires : tie.Need-judge-requires
-judge-requires c κs = rw (range-words (c .before .before .before .args .image .now) (c .before .before .before .args .map) (c .before .before .before .args .variables)) (c .before .before .before .pre .0, c .before .before .before .pre .1 .1 .1)
+judge-requires c κs =
+    let start = c .before .before .before in
+    rw (range-words (start .args .image .now) (start .args .map) (start .args .variables)) (start .pre .0, start .pre .1 .1 .1)
 
 -- src/entries.rt:45:9
 returns : tie.Need-returns
-returns c = refuse (λ s. s .some (sym ((rw (range-words (c .before .before .before .before .before .args .image .now) (c .before .before .before .before .before .args .map) (c .before .before .before .before .before .args .variables)) at (c .before .judge .ensures)) .words) ∙ c .if1 .taken))
+returns c =
+    let start = c .before .before .before .before .before in
+    refuse
+    (λ s. s .some
+    (sym
+    ((rw (range-words (start .args .image .now) (start .args .map) (start .args .variables)) at (c .before .judge .ensures)) .words)
+    ∙ c .if1 .taken))
 
 -- src/entries.rt:47:38
 add-is-blank : tie.Need-add-is-blank
-add-is-blank c = omega (arith, found-slot (c .before .before .before .before .before .args .image .now) (c .before .before .before .before .before .args .variables) (c .before .before .before .before .before .args .i) (c .before .judge .result .words) (c .before .before .before .before .before .pre .0 .few) ((rw (range-words (c .before .before .before .before .before .args .image .now) (c .before .before .before .before .before .args .map) (c .before .before .before .before .before .args .variables)) at (c .before .judge .ensures)) .words) (c .if1 .left) .inside)
+add-is-blank c =
+    let start = c .before .before .before .before .before in
+    let judge = c .before .judge in
+    omega (
+      arith,
+      found-slot (start .args .image .now) (start .args .variables) (start .args .i) (judge .result .words) (start .pre .0 .few)
+          ((rw (range-words (start .args .image .now) (start .args .map) (start .args .variables)) at (judge .ensures)) .words)
+          (c .if1 .left) .inside,
+    )
 
 -- src/entries.rt:47:45
 add-is-blank-2 : tie.Need-add-is-blank-2
@@ -62,15 +78,36 @@ add-is-blank-2 c = search needs
 
 -- src/entries.rt:47:45
 sub-is-blank : tie.Need-sub-is-blank
-sub-is-blank c = found-slot (c .before .before .before .before .before .args .image .now) (c .before .before .before .before .before .args .variables) (c .before .before .before .before .before .args .i) (c .before .judge .result .words) (c .before .before .before .before .before .pre .0 .few) ((rw (range-words (c .before .before .before .before .before .args .image .now) (c .before .before .before .before .before .args .map) (c .before .before .before .before .before .args .variables)) at (c .before .judge .ensures)) .words) (c .if1 .left) .short
+sub-is-blank c =
+    let start = c .before .before .before .before .before in
+    let judge = c .before .judge in
+    found-slot (start .args .image .now) (start .args .variables) (start .args .i) (judge .result .words) (start .pre .0 .few)
+    ((rw (range-words (start .args .image .now) (start .args .map) (start .args .variables)) at (judge .ensures)) .words)
+    (c .if1 .left) .short
 
 -- src/entries.rt:47:9
 is-blank-requires : tie.Need-is-blank-requires
-is-blank-requires c κs = omega (arith, found-slot (c .before .before .before .before .before .args .image .now) (c .before .before .before .before .before .args .variables) (c .before .before .before .before .before .args .i) (c .before .judge .result .words) (c .before .before .before .before .before .pre .0 .few) ((rw (range-words (c .before .before .before .before .before .args .image .now) (c .before .before .before .before .before .args .map) (c .before .before .before .before .before .args .variables)) at (c .before .judge .ensures)) .words) (c .if1 .left) .short)
+is-blank-requires c κs =
+    let start = c .before .before .before .before .before in
+    let judge = c .before .judge in
+    omega (
+      arith,
+      found-slot (start .args .image .now) (start .args .variables) (start .args .i) (judge .result .words) (start .pre .0 .few)
+          ((rw (range-words (start .args .image .now) (start .args .map) (start .args .variables)) at (judge .ensures)) .words)
+          (c .if1 .left) .short,
+    )
 
 -- src/entries.rt:48:9
 returns-2 : tie.Need-returns-2
-returns-2 c = refuse (λ s. never (sym (not-true _ (c .if2 .taken)) ∙ (c .before .is-blank .ensures .1) (rw ((rw (range-words (c .before .before .before .before .before .before .before .args .image .now) (c .before .before .before .before .before .before .before .args .map) (c .before .before .before .before .before .before .before .args .variables)) at (c .before .before .before .judge .ensures)) .words) (s .rest))))
+returns-2 c =
+    let start = c .before .before .before .before .before .before .before in
+    let judge = c .before .before .before .judge in
+    refuse
+    (λ s. never
+    (sym (not-true _ (c .if2 .taken))
+    ∙ c .before .is-blank .ensures .1
+    (rw ((rw (range-words (start .args .image .now) (start .args .map) (start .args .variables)) at (judge .ensures)) .words)
+    (s .rest))))
 
 -- src/entries.rt:50:35
 add-get : tie.Need-add-get
@@ -86,10 +123,21 @@ get-requires c κs = search needs
 
 -- src/entries.rt:25:1
 returns-3 : tie.Need-returns-3
-returns-3 c = let o = (c .before .before .before .before .before .before .before .before .before) in let W = words (o .args .image .now) in let m = o .args .variables in
-    masked-iff W m (part W (o .args .map) m) (o .args .i) (c .before .before .before .before .before .judge .result .words) (c .before .get .result) (c .before .before .before .before .before .judge .result .masks)
-    ((rw (range-words (c .before .before .before .before .before .before .before .before .before .args .image .now) (c .before .before .before .before .before .before .before .before .before .args .map) (c .before .before .before .before .before .before .before .before .before .args .variables)) at (c .before .before .before .before .before .judge .ensures)) .words) (c .before .before .before .before .if1 .left) ((c .before .before .before .is-blank .ensures .0) (not-false _ (c .before .before .if2 .left)))
-    (words-small (o .args .image .now) (λ j. (c .before .before .before .before .before .before .before .before .shared-slice-known .given) j .fits) _) (c .before .get .ensures) ((rw (range-words (c .before .before .before .before .before .before .before .before .before .args .image .now) (c .before .before .before .before .before .before .before .before .before .args .map) (c .before .before .before .before .before .before .before .before .before .args .variables)) at (c .before .before .before .before .before .judge .ensures)) .masks (c .before .before .before .before .if1 .left))
+returns-3 c =
+    let start = c .before .before .before .before .before .before .before .before .before in
+    let shared-slice-known = c .before .before .before .before .before .before .before .before .shared-slice-known in
+    let judge = c .before .before .before .before .before .judge in
+    let if1 = c .before .before .before .before .if1 in
+    let is-blank = c .before .before .before .is-blank in
+    let get = c .before .get in
+    let k = range-words (start .args .image .now) (start .args .map) (start .args .variables) in
+    let o = c .before .before .before .before .before .before .before .before .before in
+    let W = words (o .args .image .now) in
+    let m = o .args .variables in
+    masked-iff W m (part W (o .args .map) m) (o .args .i) (judge .result .words) (get .result) (judge .result .masks)
+    ((rw k at (judge .ensures)) .words) (if1 .left) (is-blank .ensures .0 (not-false _ (c .before .before .if2 .left)))
+    (words-small (o .args .image .now) (λ j. shared-slice-known .given j .fits) _) (get .ensures)
+    ((rw k at (judge .ensures)) .masks (if1 .left))
 
 pub masked-slot-spec : {M : Type 1} → statement M
 masked-slot-spec =

@@ -18,7 +18,10 @@ sizes-fit-requires c κs = search needs
 
 -- src/head.rt:25:9
 returns-2 : tie.Need-returns-2
-returns-2 c = refuse (λ q. failed _ (sizes-asked _ _ (c .before .sizes-fit .ensures)) (c .if2 .taken) (record { vars-from = q .vars-from; vars-to = q .vars-to; cap-from = q .cap-from; cap-to = q .cap-to }))
+returns-2 c =
+    refuse
+    (λ q. failed _ (sizes-asked _ _ (c .before .sizes-fit .ensures)) (c .if2 .taken)
+    (record { vars-from = q .vars-from; vars-to = q .vars-to; cap-from = q .cap-from; cap-to = q .cap-to }))
 
 -- src/head.rt:28:9
 returns-3 : tie.Need-returns-3
@@ -30,11 +33,19 @@ returns-4 c = refuse (λ q. omega (arith, q .nodes-from, c .if4 .taken))
 
 -- src/head.rt:33:8
 mul-if5 : tie.Need-mul-if5
-mul-if5 c = let s = passed _ (sizes-asked _ _ (c .before .before .before .before .before .before .sizes-fit .ensures)) (c .before .before .before .before .before .if2 .left) in omega (arith, s .cap-to)
+mul-if5 c =
+    let sizes-fit = c .before .before .before .before .before .before .sizes-fit in
+    let if2 = c .before .before .before .before .before .if2 in
+    let s = passed _ (sizes-asked _ _ (sizes-fit .ensures)) (if2 .left) in
+    omega (arith, s .cap-to)
 
 -- src/head.rt:33:8
 sub-if5 : tie.Need-sub-if5
-sub-if5 c = let s = passed _ (sizes-asked _ _ (c .before .before .before .before .before .before .sizes-fit .ensures)) (c .before .before .before .before .before .if2 .left) in omega (arith, s .cap-from)
+sub-if5 c =
+    let sizes-fit = c .before .before .before .before .before .before .sizes-fit in
+    let if2 = c .before .before .before .before .before .if2 in
+    let s = passed _ (sizes-asked _ _ (sizes-fit .ensures)) (if2 .left) in
+    omega (arith, s .cap-from)
 
 -- src/head.rt:34:9
 returns-5 : tie.Need-returns-5
@@ -42,8 +53,21 @@ returns-5 c = refuse (λ q. omega (arith, q .nodes-to, c .if5 .taken))
 
 -- src/head.rt:18:1
 returns-6 : tie.Need-returns-6
-returns-6 c = let s = passed _ (sizes-asked _ _ (c .before .before .before .before .before .before .before .before .sizes-fit .ensures)) (c .before .before .before .before .before .before .before .if2 .left) in
-    accept (record { kind-to = omega arith; vars-from = s .vars-from; vars-to = s .vars-to; cap-from = s .cap-from; cap-to = s .cap-to; few = omega arith; nodes-from = omega arith; nodes-to = omega arith })
+returns-6 c =
+    let sizes-fit = c .before .before .before .before .before .before .before .before .sizes-fit in
+    let if2 = c .before .before .before .before .before .before .before .if2 in
+    let s = passed _ (sizes-asked _ _ (sizes-fit .ensures)) (if2 .left) in
+    accept
+    (record {
+      kind-to = omega arith;
+      vars-from = s .vars-from;
+      vars-to = s .vars-to;
+      cap-from = s .cap-from;
+      cap-to = s .cap-to;
+      few = omega arith;
+      nodes-from = omega arith;
+      nodes-to = omega arith;
+    })
 
 pub in-range-spec : {M : Type 1} → statement M
 in-range-spec =

@@ -22,7 +22,10 @@ mul-if1 c = search needs
 
 -- src/head.rt:53:9
 returns : tie.Need-returns
-returns c = bad (words (c .before .before .args .image .now)) (length (c .before .before .args .image .now)) (λ s h. omega (arith, long-enough (words (c .before .before .args .image .now)) (length (c .before .before .args .image .now)) s h, c .if1 .taken))
+returns c =
+    let start = c .before .before in
+    bad (words (start .args .image .now)) (length (start .args .image .now))
+    (λ s h. omega (arith, long-enough (words (start .args .image .now)) (length (start .args .image .now)) s h, c .if1 .taken))
 
 -- src/head.rt:55:8
 get-requires : tie.Need-get-requires
@@ -30,7 +33,9 @@ get-requires c κs = search needs
 
 -- src/head.rt:56:9
 returns-2 : tie.Need-returns-2
-returns-2 c = bad (words (c .before .before .before .before .args .image .now)) (length (c .before .before .before .before .args .image .now)) (λ s h. (c .if2 .taken) (c .before .get .ensures ∙ h .layout))
+returns-2 c =
+    let start = c .before .before .before .before in
+    bad (words (start .args .image .now)) (length (start .args .image .now)) (λ s h. c .if2 .taken (c .before .get .ensures ∙ h .layout))
 
 -- src/head.rt:59:15
 get-requires-2 : tie.Need-get-requires-2
@@ -82,7 +87,10 @@ is-blank-requires c κs = search needs
 
 -- src/head.rt:66:9
 returns-3 : tie.Need-returns-3
-returns-3 c = bad (words (c .before .before .before .before .before .before .before .before .before .before .before .args .image .now)) (length (c .before .before .before .before .before .before .before .before .before .before .before .args .image .now)) (λ s h. never (sym (not-true _ (c .if3 .taken)) ∙ (c .before .is-blank .ensures .1) (h .kept)))
+returns-3 c =
+    let start = c .before .before .before .before .before .before .before .before .before .before .before in
+    bad (words (start .args .image .now)) (length (start .args .image .now))
+    (λ s h. never (sym (not-true _ (c .if3 .taken)) ∙ c .before .is-blank .ensures .1 (h .kept)))
 
 -- src/head.rt:68:9
 in-range-requires : tie.Need-in-range-requires
@@ -90,7 +98,16 @@ in-range-requires c κs = search needs
 
 -- src/head.rt:69:9
 returns-4 : tie.Need-returns-4
-returns-4 c = out-of-range (words (c .before .before .before .before .before .before .before .before .before .before .before .before .before .args .image .now)) (length (c .before .before .before .before .before .before .before .before .before .before .before .before .before .args .image .now)) (c .before .before .before .before .before .before .before .before .get2 .result) (c .before .before .before .before .before .before .before .get3 .result) (c .before .before .before .before .before .before .get4 .result) (c .before .before .before .before .before .get5 .result) (c .before .before .before .before .get6 .result) (c .before .before .before .before .before .before .before .before .get2 .ensures) (c .before .before .before .before .before .before .before .get3 .ensures) (c .before .before .before .before .before .before .get4 .ensures) (c .before .before .before .before .before .get5 .ensures) (c .before .before .before .before .get6 .ensures) (λ r. never (sym (not-true _ (c .if4 .taken)) ∙ (c .before .in-range .ensures .1) r))
+returns-4 c =
+    let start = c .before .before .before .before .before .before .before .before .before .before .before .before .before in
+    let get2 = c .before .before .before .before .before .before .before .before .get2 in
+    let get3 = c .before .before .before .before .before .before .before .get3 in
+    let get4 = c .before .before .before .before .before .before .get4 in
+    let get5 = c .before .before .before .before .before .get5 in
+    let get6 = c .before .before .before .before .get6 in
+    out-of-range (words (start .args .image .now)) (length (start .args .image .now)) (get2 .result) (get3 .result) (get4 .result)
+    (get5 .result) (get6 .result) (get2 .ensures) (get3 .ensures) (get4 .ensures) (get5 .ensures) (get6 .ensures)
+    (λ r. never (sym (not-true _ (c .if4 .taken)) ∙ c .before .in-range .ensures .1 r))
 
 -- src/head.rt:71:26
 size-requires : tie.Need-size-requires
@@ -102,11 +119,35 @@ mul-if5 c = omega (arith, c .size .ensures, size-small _ ((c .before .before .in
 
 -- src/head.rt:72:9
 returns-5 : tie.Need-returns-5
-returns-5 c = too-short (words (c .before .before .before .before .before .before .before .before .before .before .before .before .before .before .before .args .image .now)) (length (c .before .before .before .before .before .before .before .before .before .before .before .before .before .before .before .args .image .now)) (c .before .before .before .before .before .before .before .before .before .before .get2 .result) (c .before .before .before .before .before .before .before .before .before .get3 .result) (c .before .before .before .before .before .before .before .before .get4 .result) (c .before .before .before .before .before .before .before .get5 .result) (c .before .before .before .before .before .before .get6 .result) (c .before .before .before .before .before .before .before .before .before .before .get2 .ensures) (c .before .before .before .before .before .before .before .before .before .get3 .ensures) (c .before .before .before .before .before .before .before .before .get4 .ensures) (c .before .before .before .before .before .before .before .get5 .ensures) (c .before .before .before .before .before .before .get6 .ensures) (omega (arith, c .before .size .ensures, c .if5 .taken))
+returns-5 c =
+    let start = c .before .before .before .before .before .before .before .before .before .before .before .before .before .before .before in
+    let get2 = c .before .before .before .before .before .before .before .before .before .before .get2 in
+    let get3 = c .before .before .before .before .before .before .before .before .before .get3 in
+    let get4 = c .before .before .before .before .before .before .before .before .get4 in
+    let get5 = c .before .before .before .before .before .before .before .get5 in
+    let get6 = c .before .before .before .before .before .before .get6 in
+    too-short (words (start .args .image .now)) (length (start .args .image .now)) (get2 .result) (get3 .result) (get4 .result)
+    (get5 .result) (get6 .result) (get2 .ensures) (get3 .ensures) (get4 .ensures) (get5 .ensures) (get6 .ensures)
+    (omega (arith, c .before .size .ensures, c .if5 .taken))
 
 -- src/head.rt:49:1
 returns-6 : tie.Need-returns-6
-returns-6 c = good (words (c .before .before .before .before .before .before .before .before .before .before .before .before .before .before .before .args .image .now)) (length (c .before .before .before .before .before .before .before .before .before .before .before .before .before .before .before .args .image .now)) (c .before .before .before .before .before .before .before .before .before .before .get2 .result) (c .before .before .before .before .before .before .before .before .before .get3 .result) (c .before .before .before .before .before .before .before .before .get4 .result) (c .before .before .before .before .before .before .before .get5 .result) (c .before .before .before .before .before .before .get6 .result) (c .before .before .before .before .before .before .before .before .before .before .get2 .ensures) (c .before .before .before .before .before .before .before .before .before .get3 .ensures) (c .before .before .before .before .before .before .before .before .get4 .ensures) (c .before .before .before .before .before .before .before .get5 .ensures) (c .before .before .before .before .before .before .get6 .ensures) (sym (c .before .before .before .before .before .before .before .before .before .before .before .before .get .ensures) ∙ c .before .before .before .before .before .before .before .before .before .before .before .if2 .left) ((c .before .before .before .before .before .is-blank .ensures .0) (not-false _ (c .before .before .before .before .if3 .left))) ((c .before .before .before .in-range .ensures .0) (not-false _ (c .before .before .if4 .left))) (omega (arith, c .before .size .ensures, c .if5 .left))
+returns-6 c =
+    let start = c .before .before .before .before .before .before .before .before .before .before .before .before .before .before .before in
+    let get = c .before .before .before .before .before .before .before .before .before .before .before .before .get in
+    let if2 = c .before .before .before .before .before .before .before .before .before .before .before .if2 in
+    let get2 = c .before .before .before .before .before .before .before .before .before .before .get2 in
+    let get3 = c .before .before .before .before .before .before .before .before .before .get3 in
+    let get4 = c .before .before .before .before .before .before .before .before .get4 in
+    let get5 = c .before .before .before .before .before .before .before .get5 in
+    let get6 = c .before .before .before .before .before .before .get6 in
+    let is-blank = c .before .before .before .before .before .is-blank in
+    let if3 = c .before .before .before .before .if3 in
+    let in-range = c .before .before .before .in-range in
+    good (words (start .args .image .now)) (length (start .args .image .now)) (get2 .result) (get3 .result) (get4 .result) (get5 .result)
+    (get6 .result) (get2 .ensures) (get3 .ensures) (get4 .ensures) (get5 .ensures) (get6 .ensures) (sym (get .ensures) ∙ if2 .left)
+    (is-blank .ensures .0 (not-false _ (if3 .left))) (in-range .ensures .0 (not-false _ (c .before .before .if4 .left)))
+    (omega (arith, c .before .size .ensures, c .if5 .left))
 
 pub read-spec : {M : Type 1} → statement M
 read-spec =

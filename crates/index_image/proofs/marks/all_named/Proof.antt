@@ -15,7 +15,9 @@ slice-aggregate-mark c = search needs
 
 -- src/marks.rt:64:5
 mark-requires : tie.Need-mark-requires
-mark-requires c κs = ((c .before .before .pre .0 .0, (c .before .before .pre .0 .1 .0, c .before .before .pre .0 .1 .1 .0)), (c .before .before .pre .1 .0, (c .before .before .pre .1 .1, λ j. blank-array 4096 j)))
+mark-requires c κs =
+    let start = c .before .before in
+    ((start .pre .0 .0, (start .pre .0 .1 .0, start .pre .0 .1 .1 .0)), (start .pre .1 .0, (start .pre .1 .1, λ j. blank-array 4096 j)))
 
 -- src/marks.rt:65:16
 slice-aggregate-all-marked : tie.Need-slice-aggregate-all-marked
@@ -27,7 +29,11 @@ all-marked-requires c κs = search needs
 
 -- src/marks.rt:57:1
 returns : tie.Need-returns
-returns c = (λ z j h. (c .before .before .before .mark .ensures .only) j ((c .all-marked .ensures .0) z j h), λ q. (c .all-marked .ensures .1) (λ j h. named-marked _ _ _ _ _ (c .before .before .before .mark .ensures) j (q j h)))
+returns c =
+    let mark = c .before .before .before .mark in (
+      λ z j h. mark .ensures .only j (c .all-marked .ensures .0 z j h),
+      λ q. c .all-marked .ensures .1 (λ j h. named-marked _ _ _ _ _ (mark .ensures) j (q j h)),
+    )
 
 pub all-named-spec : {M : Type 1} → statement M
 all-named-spec =

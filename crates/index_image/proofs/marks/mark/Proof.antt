@@ -22,15 +22,30 @@ abbrev μ-loop : tie.MeasureT-loop
 
 -- src/marks.rt:34:5
 loop-holds : tie.Need-loop-holds Inv-loop μ-loop
-loop-holds c = (omega arith, (refl, none-marked (words (c .before .before .args .image .now)) (c .before .before .args .at) (c .before .before .args .w) (c .before .before .args .seen .now) (c .before .before .pre .1 .1 .1)))
+loop-holds c =
+    let start = c .before .before in (
+      omega arith,
+      (
+        refl,
+        none-marked (words (start .args .image .now)) (start .args .at) (start .args .w) (start .args .seen .now) (start .pre .1 .1 .1),
+      ),
+    )
 
 -- src/marks.rt:35:40
 mul-get : tie.Need-mul-get Inv-loop μ-loop
-mul-get c = omega (arith, times (c .before .loop .i) (c .before .before .before .before .args .w) 4096 136 (omega (arith, c .before .before .before .before .pre .0 .0)) (c .before .before .before .before .pre .0 .1 .0))
+mul-get c =
+    let start = c .before .before .before .before in
+    omega (arith, times (c .before .loop .i) (start .args .w) 4096 136 (omega (arith, start .pre .0 .0)) (start .pre .0 .1 .0))
 
 -- src/marks.rt:35:35
 add-get : tie.Need-add-get Inv-loop μ-loop
-add-get c = omega (arith, times (c .before .loop .i) (c .before .before .before .before .args .w) 4096 136 (omega (arith, c .before .before .before .before .pre .0 .0)) (c .before .before .before .before .pre .0 .1 .0), c .before .before .before .before .pre .0 .1 .1)
+add-get c =
+    let start = c .before .before .before .before in
+    omega (
+      arith,
+      times (c .before .loop .i) (start .args .w) 4096 136 (omega (arith, start .pre .0 .0)) (start .pre .0 .1 .0),
+      start .pre .0 .1 .1,
+    )
 
 -- src/marks.rt:35:17
 get-requires : tie.Need-get-requires Inv-loop μ-loop
@@ -42,7 +57,10 @@ cast-j c = search needs
 
 -- src/marks.rt:36:9
 slice-write-seen : tie.Need-slice-write-seen Inv-loop μ-loop
-slice-write-seen c = omega (arith, c .get .ensures, c .before .before .loop .inv .1 .0, (c .before .before .before .before .before .pre .1 .1 .0) (c .before .before .loop .i) (c .before .loop-test .taken))
+slice-write-seen c =
+    let start = c .before .before .before .before .before in
+    let loop = c .before .before .loop in
+    omega (arith, c .get .ensures, loop .inv .1 .0, start .pre .1 .1 .0 (loop .i) (c .before .loop-test .taken))
 
 -- src/marks.rt:37:9
 add-i : tie.Need-add-i Inv-loop μ-loop
@@ -54,7 +72,17 @@ loop-less c = search needs
 
 -- src/marks.rt:34:5
 loop-again : tie.Need-loop-again Inv-loop μ-loop
-loop-again c = (omega arith, (simp length-set (c .before .before .loop .inv .1 .0), one-more (words (c .before .before .before .before .before .args .image .now)) (c .before .before .before .before .before .args .at) (c .before .before .before .before .before .args .w) (c .before .before .loop .i) (c .before .before .loop .seen) (c .get .result) (c .get .ensures) (omega (arith, c .get .ensures, c .before .before .loop .inv .1 .0, (c .before .before .before .before .before .pre .1 .1 .0) (c .before .before .loop .i) (c .before .loop-test .taken))) (c .before .before .loop .inv .1 .1)))
+loop-again c =
+    let start = c .before .before .before .before .before in
+    let loop = c .before .before .loop in (
+      omega arith,
+      (
+        simp length-set (loop .inv .1 .0),
+        one-more (words (start .args .image .now)) (start .args .at) (start .args .w) (loop .i) (loop .seen) (c .get .result)
+            (c .get .ensures) (omega (arith, c .get .ensures, loop .inv .1 .0, start .pre .1 .1 .0 (loop .i) (c .before .loop-test .taken)))
+            (loop .inv .1 .1),
+      ),
+    )
 
 -- src/marks.rt:26:1
 same-length : tie.Need-same-length Inv-loop μ-loop

@@ -3,14 +3,14 @@ use Rattle.monomial.specs.Monomial.{first}
 use Rattle.monomial.proofs.Firsts.{starts-wide}
 use borrow.Author.Needs.{needs}
 use mathlib.Core.Path.{_≡_, sym, ap}
-use Prim.Native.Nat.{_+_, _-_, _/_}
+use Prim.Native.Nat.{ℕ, _+_, _-_, _*_, _/_, _≤_}
 use lib.ListN.{length}
 use Rattle.words.specs.Words.{words}
 use Rattle.words.proofs.Laws.{length-words}
 use Rattle.index_image.specs.Shape as at
 use Rattle.index_image.specs.Walk.{lmIn}
 use Rattle.index_image.proofs.Gcds.{lm-canonical}
-use Rattle.index_image.proofs.Places.{entry-room, place-room, place-fits, entry-at-place}
+use Rattle.index_image.proofs.Places.{EntryAt, entry-room, place-room, place-fits, entry-at-place}
 use Rattle.monomial.proofs.Powers.{canonical-length}
 use Rattle.index_image.proofs.Reading.{lm-read, Folding, fold-none, fold-canonical, lm-64, fold-one, fold-more}
 use Rattle.index_image.proofs.stored.gcd_of.Statement.{statement}
@@ -32,6 +32,56 @@ Inv-loop image s lo c acc₀ p e n₀ i₀ acc n i = Folding (words image) s (at
 abbrev μ-loop : tie.MeasureT-loop
 μ-loop image s lo c acc₀ p e n₀ i₀ acc n i = c - i
 
+-- helpers
+-- the places of the permutation lie within the image, in words and in bytes
+abbrev from : tie.Start Inv-loop μ-loop → ℕ
+from a = at.permutationAt (a .args .s) + a .args .lo
+
+places : (a : tie.Start Inv-loop μ-loop) → from a + a .args .c ≤ length (words (a .args .image .now))
+places a = omega (arith, place-fits (words (a .args .image .now)) (a .args .s) (a .pre .0) (a .args .lo + a .args .c) (a .pre .1 .0))
+
+room : (a : tie.Start Inv-loop μ-loop) → 4 * (from a + a .args .c) ≤ length (a .args .image .now)
+room a = omega (arith, place-room (a .args .image .now) (a .args .s) (a .pre .0) (a .args .lo + a .args .c) (a .pre .1 .0))
+
+-- the first entry, and its lm
+first-entry : (c : tie.After-get Inv-loop μ-loop)
+    → let start = c .before .before .before .before .before in
+    EntryAt (words (start .args .image .now)) (start .args .s) (start .args .lo) 0 (c .get .result)
+first-entry c =
+    let start = c .before .before .before .before .before in
+    entry-at-place (words (start .args .image .now)) (start .args .s) (start .pre .0) (start .args .lo) 0
+    (c .before .permutation-at .result + start .args .lo) (c .get .result)
+    (omega (arith, c .before .permutation-at .ensures)) (omega (arith, start .pre .1 .0, c .before .before .if1 .left)) (c .get .ensures)
+
+first-lm : (c : tie.After-monomial-in Inv-loop μ-loop)
+    → let start = c .before .before .before .before .before .before .before in
+    words (c .monomial-in .result .now) ≡ lmIn (words (start .args .image .now)) (start .args .s) (c .before .before .get .result)
+first-lm c =
+    lm-read _ (c .before .before .before .before .before .before .before .args .s) (c .before .before .get .result) (c .before .entry-at .result) _
+    (c .before .entry-at .ensures) (c .monomial-in .ensures .is)
+
+-- the next one, and its lm
+next-entry : (c : tie.After-get2 Inv-loop μ-loop)
+    → let start = c .before .before .before .before .before .before .before .before .before .before .before .before .before .before in
+    EntryAt (words (start .args .image .now)) (start .args .s) (start .args .lo) (c .before .before .loop .i) (c .get2 .result)
+next-entry c =
+    let start = c .before .before .before .before .before .before .before .before .before .before .before .before .before .before in
+    let permutation-at = c .before .before .before .before .before .before .before .before .before .before .permutation-at in
+    let i = c .before .before .loop .i in
+    entry-at-place (words (start .args .image .now)) (start .args .s) (start .pre .0) (start .args .lo) i
+    (permutation-at .result + start .args .lo + i) (c .get2 .result)
+    (omega (arith, permutation-at .ensures)) (omega (arith, start .pre .1 .0, c .before .loop-test .taken)) (c .get2 .ensures)
+
+next-lm : (c : tie.After-monomial-from Inv-loop μ-loop)
+    → let start = c .before .before .before .before .before .before .before .before .before .before .before .before .before .before .before .before .before in
+    let get2 = c .before .before .before .get2 in
+    first 1 (words (c .monomial-from .result .now)) ≡ lmIn (words (start .args .image .now)) (start .args .s) (get2 .result)
+next-lm c =
+    lm-read _ (c .before .before .before .before .before .before .before .before .before .before .before .before .before .before .before .before .before .args .s)
+    (c .before .before .before .get2 .result) (c .before .entry-at2 .result) _ (c .before .entry-at2 .ensures) (c .monomial-from .ensures .is)
+
+-- end of helpers
+
 -- src/stored.rt:133:9
 put-requires : tie.Need-put-requires Inv-loop μ-loop
 put-requires c κs = omega (arith, c .before .before .before .before .pre .1 .1)
@@ -42,7 +92,13 @@ same-length c = search needs
 
 -- src/stored.rt:134:9
 returns : tie.Need-returns Inv-loop μ-loop
-returns c = (omega arith, fold-none (words (c .before .before .before .before .before .before .before .args .image .now)) (c .before .before .before .before .before .before .before .args .s) (c .before .before .before .before .before .before .before .pre .0) (at.permutationAt (c .before .before .before .before .before .before .before .args .s) + (c .before .before .before .before .before .before .before .args .lo)) (c .before .before .before .before .before .before .before .args .c) (c .before .before .before .before .before .before .before .args .acc .now) (omega (arith, c .before .before .before .before .before .before .before .pre .1 .1)) (c .before .before .before .before .if1 .taken) (c .before .before .put .last .0) (c .before .before .put .ensures))
+returns c =
+    let start = c .before .before .before .before .before .before .before in
+    let put = c .before .before .put in (
+      omega arith,
+      fold-none (words (start .args .image .now)) (start .args .s) (start .pre .0) (from start) (start .args .c) (start .args .acc .now)
+          (omega (arith, start .pre .1 .1)) (c .before .before .before .before .if1 .taken) (put .last .0) (put .ensures),
+    )
 
 -- src/stored.rt:136:13
 permutation-at-requires : tie.Need-permutation-at-requires Inv-loop μ-loop
@@ -50,11 +106,11 @@ permutation-at-requires c κs = c .before .before .before .pre .0 .range
 
 -- src/stored.rt:136:13
 add-p : tie.Need-add-p Inv-loop μ-loop
-add-p c = omega (arith, place-room (c .before .before .before .before .args .image .now) (c .before .before .before .before .args .s) (c .before .before .before .before .pre .0) ((c .before .before .before .before .args .lo) + (c .before .before .before .before .args .c)) (c .before .before .before .before .pre .1 .0), c .permutation-at .ensures)
+add-p c = omega (arith, room (c .before .before .before .before), c .permutation-at .ensures)
 
 -- src/stored.rt:137:13
 get-requires : tie.Need-get-requires Inv-loop μ-loop
-get-requires c κs = omega (arith, place-room (c .before .before .before .before .args .image .now) (c .before .before .before .before .args .s) (c .before .before .before .before .pre .0) ((c .before .before .before .before .args .lo) + (c .before .before .before .before .args .c)) (c .before .before .before .before .pre .1 .0), c .permutation-at .ensures)
+get-requires c κs = omega (arith, room (c .before .before .before .before), c .permutation-at .ensures)
 
 -- src/stored.rt:137:13
 cast-e : tie.Need-cast-e Inv-loop μ-loop
@@ -62,27 +118,58 @@ cast-e c = omega arith
 
 -- src/stored.rt:138:39
 entry-at-requires : tie.Need-entry-at-requires Inv-loop μ-loop
-entry-at-requires c κs = (c .before .before .before .before .before .pre .0 .range, omega (arith, (entry-at-place (words (c .before .before .before .before .before .args .image .now)) (c .before .before .before .before .before .args .s) (c .before .before .before .before .before .pre .0) (c .before .before .before .before .before .args .lo) 0 ((c .before .permutation-at .result) + (c .before .before .before .before .before .args .lo)) (c .get .result) (omega (arith, c .before .permutation-at .ensures)) (omega (arith, c .before .before .before .before .before .pre .1 .0, c .before .before .if1 .left)) (c .get .ensures)) .small, c .before .before .before .before .before .pre .0 .range .few))
+entry-at-requires c κs =
+    (c .before .before .before .before .before .pre .0 .range, omega (arith, first-entry c .small, c .before .before .before .before .before .pre .0 .range .few))
 
 -- src/stored.rt:138:9
 monomial-in-requires : tie.Need-monomial-in-requires Inv-loop μ-loop
-monomial-in-requires c κs = rw (c .entry-at .ensures) ((c .before .before .before .before .before .before .pre .0 .lms) (c .before .get .result) ((entry-at-place (words (c .before .before .before .before .before .before .args .image .now)) (c .before .before .before .before .before .before .args .s) (c .before .before .before .before .before .before .pre .0) (c .before .before .before .before .before .before .args .lo) 0 ((c .before .before .permutation-at .result) + (c .before .before .before .before .before .before .args .lo)) (c .before .get .result) (omega (arith, c .before .before .permutation-at .ensures)) (omega (arith, c .before .before .before .before .before .before .pre .1 .0, c .before .before .before .if1 .left)) (c .before .get .ensures)) .small))
+monomial-in-requires c κs =
+    rw (c .entry-at .ensures) (c .before .before .before .before .before .before .pre .0 .lms (c .before .get .result) (first-entry (c .before) .small))
 
 -- src/stored.rt:139:5
 paste-requires : tie.Need-paste-requires Inv-loop μ-loop
-paste-requires c κs = omega (arith, c .before .monomial-in .ensures .long, canonical-length 1 (c .before .before .before .before .before .before .before .before .args .s .variables) (lmIn (words (c .before .before .before .before .before .before .before .before .args .image .now)) (c .before .before .before .before .before .before .before .before .args .s) (c .before .before .before .get .result)) (omega arith) (omega (arith, (c .before .before .before .before .before .before .before .before .pre .0 .range .vars-to))) (lm-canonical (words (c .before .before .before .before .before .before .before .before .args .image .now)) (c .before .before .before .before .before .before .before .before .args .s) (c .before .before .before .get .result) ((c .before .before .before .before .before .before .before .before .pre .0 .lms) (c .before .before .before .get .result) ((entry-at-place (words (c .before .before .before .before .before .before .before .before .args .image .now)) (c .before .before .before .before .before .before .before .before .args .s) (c .before .before .before .before .before .before .before .before .pre .0) (c .before .before .before .before .before .before .before .before .args .lo) 0 ((c .before .before .before .before .permutation-at .result) + (c .before .before .before .before .before .before .before .before .args .lo)) (c .before .before .before .get .result) (omega (arith, c .before .before .before .before .permutation-at .ensures)) (omega (arith, c .before .before .before .before .before .before .before .before .pre .1 .0, c .before .before .before .before .before .if1 .left)) (c .before .before .before .get .ensures)) .small))), ap length (lm-read (words (c .before .before .before .before .before .before .before .before .args .image .now)) (c .before .before .before .before .before .before .before .before .args .s) (c .before .before .before .get .result) (c .before .before .entry-at .result) (words (c .before .monomial-in .result .now)) (c .before .before .entry-at .ensures) (c .before .monomial-in .ensures .is)), ap length (c .before .monomial-in .ensures .is), c .before .before .before .before .before .before .before .before .pre .1 .1, c .before .before .before .before .before .before .before .before .pre .0 .range .vars-to)
+paste-requires c κs =
+    let start = c .before .before .before .before .before .before .before .before in
+    let get = c .before .before .before .get in
+    let monomial-in = c .before .monomial-in in
+    let lm = lm-canonical (words (start .args .image .now)) (start .args .s) (get .result)
+    (start .pre .0 .lms (get .result) (first-entry (c .before .before .before) .small)) in
+    omega (
+      arith,
+      monomial-in .ensures .long,
+      canonical-length 1 (start .args .s .variables) _ (omega arith) (omega (arith, start .pre .0 .range .vars-to)) lm,
+      ap length (first-lm (c .before)),
+      ap length (monomial-in .ensures .is),
+      start .pre .1 .1,
+      start .pre .0 .range .vars-to,
+    )
 
 -- src/stored.rt:142:5
 loop-holds : tie.Need-loop-holds Inv-loop μ-loop
-loop-holds c = fold-one (words (c .before .before .before .before .before .before .before .before .before .before .before .args .image .now)) (c .before .before .before .before .before .before .before .before .before .before .before .args .s) (c .before .before .before .before .before .before .before .before .before .before .before .pre .0) (at.permutationAt (c .before .before .before .before .before .before .before .before .before .before .before .args .s) + (c .before .before .before .before .before .before .before .before .before .before .before .args .lo)) (c .before .before .before .before .before .before .before .before .before .before .before .args .c) (omega (arith, place-fits (words (c .before .before .before .before .before .before .before .before .before .before .before .args .image .now)) (c .before .before .before .before .before .before .before .before .before .before .before .args .s) (c .before .before .before .before .before .before .before .before .before .before .before .pre .0) ((c .before .before .before .before .before .before .before .before .before .before .before .args .lo) + (c .before .before .before .before .before .before .before .before .before .before .before .args .c)) (c .before .before .before .before .before .before .before .before .before .before .before .pre .1 .0))) (c .before .before .before .before .before .before .get .result) ((c .before .before .before .before .before .before .before .before .before .before .before .pre .0 .lms) (c .before .before .before .before .before .before .get .result) ((entry-at-place (words (c .before .before .before .before .before .before .before .before .before .before .before .args .image .now)) (c .before .before .before .before .before .before .before .before .before .before .before .args .s) (c .before .before .before .before .before .before .before .before .before .before .before .pre .0) (c .before .before .before .before .before .before .before .before .before .before .before .args .lo) 0 ((c .before .before .before .before .before .before .before .permutation-at .result) + (c .before .before .before .before .before .before .before .before .before .before .before .args .lo)) (c .before .before .before .before .before .before .get .result) (omega (arith, c .before .before .before .before .before .before .before .permutation-at .ensures)) (omega (arith, c .before .before .before .before .before .before .before .before .before .before .before .pre .1 .0, c .before .before .before .before .before .before .before .before .if1 .left)) (c .before .before .before .before .before .before .get .ensures)) .small)) (omega (arith, c .before .before .before .before .before .before .before .before .if1 .left)) (rw (c .before .before .before .before .before .before .before .permutation-at .ensures) at (c .before .before .before .before .before .before .get .ensures)) (c .before .before .before .before .before .before .before .before .before .before .before .args .acc .now) (c .before .before .paste .last .0) (words (c .before .before .before .before .monomial-in .result .now)) (length (c .before .before .before .before .monomial-in .result .now) / 4) (omega (arith, c .before .before .paste .kept .0, c .before .before .before .before .before .before .before .before .before .before .before .pre .1 .1)) (lm-read (words (c .before .before .before .before .before .before .before .before .before .before .before .args .image .now)) (c .before .before .before .before .before .before .before .before .before .before .before .args .s) (c .before .before .before .before .before .before .get .result) (c .before .before .before .before .before .entry-at .result) (words (c .before .before .before .before .monomial-in .result .now)) (c .before .before .before .before .before .entry-at .ensures) (c .before .before .before .before .monomial-in .ensures .is)) (sym (length-words (c .before .before .before .before .monomial-in .result .now))) (c .before .before .paste .ensures)
+loop-holds c =
+    let start = c .before .before .before .before .before .before .before .before .before .before .before in
+    let permutation-at = c .before .before .before .before .before .before .before .permutation-at in
+    let get = c .before .before .before .before .before .before .get in
+    let monomial-in = c .before .before .before .before .monomial-in in
+    let paste = c .before .before .paste in
+    let left = c .before .before .before .before .before .before .before .before .if1 .left in
+    fold-one (words (start .args .image .now)) (start .args .s) (start .pre .0) (from start) (start .args .c) (places start)
+    (get .result) (start .pre .0 .lms (get .result) (first-entry (c .before .before .before .before .before .before) .small))
+    (omega (arith, left)) (rw (permutation-at .ensures) at (get .ensures)) (start .args .acc .now) (paste .last .0)
+    (words (monomial-in .result .now)) (length (monomial-in .result .now) / 4) (omega (arith, paste .kept .0, start .pre .1 .1))
+    (first-lm (c .before .before .before .before)) (sym (length-words (monomial-in .result .now))) (paste .ensures)
 
 -- src/stored.rt:143:35
 add-get : tie.Need-add-get Inv-loop μ-loop
-add-get c = omega (arith, place-room (c .before .before .before .before .before .before .before .before .before .before .before .before .before .args .image .now) (c .before .before .before .before .before .before .before .before .before .before .before .before .before .args .s) (c .before .before .before .before .before .before .before .before .before .before .before .before .before .pre .0) ((c .before .before .before .before .before .before .before .before .before .before .before .before .before .args .lo) + (c .before .before .before .before .before .before .before .before .before .before .before .before .before .args .c)) (c .before .before .before .before .before .before .before .before .before .before .before .before .before .pre .1 .0), c .before .before .before .before .before .before .before .before .before .permutation-at .ensures)
+add-get c =
+    let permutation-at = c .before .before .before .before .before .before .before .before .before .permutation-at in
+    omega (arith, room ((c .before .before .before .before .before .before .before .before .before) .before .before .before .before), permutation-at .ensures)
 
 -- src/stored.rt:143:17
 get-requires-2 : tie.Need-get-requires-2 Inv-loop μ-loop
-get-requires-2 c κs = omega (arith, place-room (c .before .before .before .before .before .before .before .before .before .before .before .before .before .args .image .now) (c .before .before .before .before .before .before .before .before .before .before .before .before .before .args .s) (c .before .before .before .before .before .before .before .before .before .before .before .before .before .pre .0) ((c .before .before .before .before .before .before .before .before .before .before .before .before .before .args .lo) + (c .before .before .before .before .before .before .before .before .before .before .before .before .before .args .c)) (c .before .before .before .before .before .before .before .before .before .before .before .before .before .pre .1 .0), c .before .before .before .before .before .before .before .before .before .permutation-at .ensures)
+get-requires-2 c κs =
+    let permutation-at = c .before .before .before .before .before .before .before .before .before .permutation-at in
+    omega (arith, room ((c .before .before .before .before .before .before .before .before .before) .before .before .before .before), permutation-at .ensures)
 
 -- src/stored.rt:143:17
 cast-e-2 : tie.Need-cast-e-2 Inv-loop μ-loop
@@ -90,20 +177,38 @@ cast-e-2 c = omega arith
 
 -- src/stored.rt:144:48
 entry-at-requires-2 : tie.Need-entry-at-requires-2 Inv-loop μ-loop
-entry-at-requires-2 c κs = (c .before .before .before .before .before .before .before .before .before .before .before .before .before .before .before .pre .0 .range, omega (arith, (entry-at-place (words (c .before .before .before .before .before .before .before .before .before .before .before .before .before .before .before .args .image .now)) (c .before .before .before .before .before .before .before .before .before .before .before .before .before .before .before .args .s) (c .before .before .before .before .before .before .before .before .before .before .before .before .before .before .before .pre .0) (c .before .before .before .before .before .before .before .before .before .before .before .before .before .before .before .args .lo) (c .before .before .before .loop .i) ((c .before .before .before .before .before .before .before .before .before .before .before .permutation-at .result) + (c .before .before .before .before .before .before .before .before .before .before .before .before .before .before .before .args .lo) + (c .before .before .before .loop .i)) (c .before .get2 .result) (omega (arith, c .before .before .before .before .before .before .before .before .before .before .before .permutation-at .ensures)) (omega (arith, c .before .before .before .before .before .before .before .before .before .before .before .before .before .before .before .pre .1 .0, c .before .before .loop-test .taken)) (c .before .get2 .ensures)) .small, c .before .before .before .before .before .before .before .before .before .before .before .before .before .before .before .pre .0 .range .few))
+entry-at-requires-2 c κs =
+    let range = c .before .before .before .before .before .before .before .before .before .before .before .before .before .before .before .pre .0 .range in
+    (range, omega (arith, next-entry (c .before) .small, range .few))
 
 -- src/stored.rt:144:26
 monomial-from-requires : tie.Need-monomial-from-requires Inv-loop μ-loop
 monomial-from-requires c κs =
-    let o = c .before .before .before .before .before .before .before .before .before .before .before .before .before .before .before .before in
-    rw (c .entry-at2 .ensures) (
-      ((c .before .before .before .before .before .before .before .before .before .before .before .before .before .before .before .before .pre .0 .lms) (c .before .before .get2 .result) ((entry-at-place (words (c .before .before .before .before .before .before .before .before .before .before .before .before .before .before .before .before .args .image .now)) (c .before .before .before .before .before .before .before .before .before .before .before .before .before .before .before .before .args .s) (c .before .before .before .before .before .before .before .before .before .before .before .before .before .before .before .before .pre .0) (c .before .before .before .before .before .before .before .before .before .before .before .before .before .before .before .before .args .lo) (c .before .before .before .before .loop .i) ((c .before .before .before .before .before .before .before .before .before .before .before .before .permutation-at .result) + (c .before .before .before .before .before .before .before .before .before .before .before .before .before .before .before .before .args .lo) + (c .before .before .before .before .loop .i)) (c .before .before .get2 .result) (omega (arith, c .before .before .before .before .before .before .before .before .before .before .before .before .permutation-at .ensures)) (omega (arith, c .before .before .before .before .before .before .before .before .before .before .before .before .before .before .before .before .pre .1 .0, c .before .before .before .loop-test .taken)) (c .before .before .get2 .ensures)) .small)),
-      omega (arith, entry-room (o .args .image .now) (o .args .s) (o .pre .0) _ ((entry-at-place (words (c .before .before .before .before .before .before .before .before .before .before .before .before .before .before .before .before .args .image .now)) (c .before .before .before .before .before .before .before .before .before .before .before .before .before .before .before .before .args .s) (c .before .before .before .before .before .before .before .before .before .before .before .before .before .before .before .before .pre .0) (c .before .before .before .before .before .before .before .before .before .before .before .before .before .before .before .before .args .lo) (c .before .before .before .before .loop .i) ((c .before .before .before .before .before .before .before .before .before .before .before .before .permutation-at .result) + (c .before .before .before .before .before .before .before .before .before .before .before .before .before .before .before .before .args .lo) + (c .before .before .before .before .loop .i)) (c .before .before .get2 .result) (omega (arith, c .before .before .before .before .before .before .before .before .before .before .before .before .permutation-at .ensures)) (omega (arith, c .before .before .before .before .before .before .before .before .before .before .before .before .before .before .before .before .pre .1 .0, c .before .before .before .loop-test .taken)) (c .before .before .get2 .ensures)) .small)),
-    )
+    let start = c .before .before .before .before .before .before .before .before .before .before .before .before .before .before .before .before in
+    let small = next-entry (c .before .before) .small in
+    rw (c .entry-at2 .ensures)
+    (start .pre .0 .lms _ small, omega (arith, entry-room (start .args .image .now) (start .args .s) (start .pre .0) _ small))
 
 -- src/stored.rt:144:9
 meet-requires : tie.Need-meet-requires Inv-loop μ-loop
-meet-requires c κs = (c .before .before .before .before .before .loop .inv .room, (c .before .before .before .before .before .loop .inv .few, (fold-canonical (words (c .before .before .before .before .before .before .before .before .before .before .before .before .before .before .before .before .before .args .image .now)) (c .before .before .before .before .before .before .before .before .before .before .before .before .before .before .before .before .before .args .s) (c .before .before .before .before .before .before .before .before .before .before .before .before .before .before .before .before .before .pre .0) (at.permutationAt (c .before .before .before .before .before .before .before .before .before .before .before .before .before .before .before .before .before .args .s) + (c .before .before .before .before .before .before .before .before .before .before .before .before .before .before .before .before .before .args .lo)) (c .before .before .before .before .before .before .before .before .before .before .before .before .before .before .before .before .before .args .c) (c .before .before .before .before .before .loop .acc) (c .before .before .before .before .before .loop .n) (c .before .before .before .before .before .loop .i) (c .before .before .before .before .before .loop .inv), (starts-wide (c .monomial-from .ensures .starts), lm-64 (words (c .before .before .before .before .before .before .before .before .before .before .before .before .before .before .before .before .before .args .image .now)) (c .before .before .before .before .before .before .before .before .before .before .before .before .before .before .before .before .before .args .s) (c .before .before .before .before .before .before .before .before .before .before .before .before .before .before .before .before .before .pre .0) (at.permutationAt (c .before .before .before .before .before .before .before .before .before .before .before .before .before .before .before .before .before .args .s) + (c .before .before .before .before .before .before .before .before .before .before .before .before .before .before .before .before .before .args .lo)) (c .before .before .before .before .before .before .before .before .before .before .before .before .before .before .before .before .before .args .c) (omega (arith, place-fits (words (c .before .before .before .before .before .before .before .before .before .before .before .before .before .before .before .before .before .args .image .now)) (c .before .before .before .before .before .before .before .before .before .before .before .before .before .before .before .before .before .args .s) (c .before .before .before .before .before .before .before .before .before .before .before .before .before .before .before .before .before .pre .0) ((c .before .before .before .before .before .before .before .before .before .before .before .before .before .before .before .before .before .args .lo) + (c .before .before .before .before .before .before .before .before .before .before .before .before .before .before .before .before .before .args .c)) (c .before .before .before .before .before .before .before .before .before .before .before .before .before .before .before .before .before .pre .1 .0))) (c .before .before .before .get2 .result) ((c .before .before .before .before .before .before .before .before .before .before .before .before .before .before .before .before .before .pre .0 .lms) (c .before .before .before .get2 .result) ((entry-at-place (words (c .before .before .before .before .before .before .before .before .before .before .before .before .before .before .before .before .before .args .image .now)) (c .before .before .before .before .before .before .before .before .before .before .before .before .before .before .before .before .before .args .s) (c .before .before .before .before .before .before .before .before .before .before .before .before .before .before .before .before .before .pre .0) (c .before .before .before .before .before .before .before .before .before .before .before .before .before .before .before .before .before .args .lo) (c .before .before .before .before .before .loop .i) ((c .before .before .before .before .before .before .before .before .before .before .before .before .before .permutation-at .result) + (c .before .before .before .before .before .before .before .before .before .before .before .before .before .before .before .before .before .args .lo) + (c .before .before .before .before .before .loop .i)) (c .before .before .before .get2 .result) (omega (arith, c .before .before .before .before .before .before .before .before .before .before .before .before .before .permutation-at .ensures)) (omega (arith, c .before .before .before .before .before .before .before .before .before .before .before .before .before .before .before .before .before .pre .1 .0, c .before .before .before .before .loop-test .taken)) (c .before .before .before .get2 .ensures)) .small)) (first 1 (words (c .monomial-from .result .now))) (lm-read (words (c .before .before .before .before .before .before .before .before .before .before .before .before .before .before .before .before .before .args .image .now)) (c .before .before .before .before .before .before .before .before .before .before .before .before .before .before .before .before .before .args .s) (c .before .before .before .get2 .result) (c .before .entry-at2 .result) (first 1 (words (c .monomial-from .result .now))) (c .before .entry-at2 .ensures) (c .monomial-from .ensures .is))))))
+meet-requires c κs =
+    let start = c .before .before .before .before .before .before .before .before .before .before .before .before .before .before .before .before .before in
+    let loop = c .before .before .before .before .before .loop in
+    let get2 = c .before .before .before .get2 in
+    let W = words (start .args .image .now) in (
+      loop .inv .room,
+      (
+        loop .inv .few,
+        (
+          fold-canonical W (start .args .s) (start .pre .0) (from start) (start .args .c) (loop .acc) (loop .n) (loop .i) (loop .inv),
+          (
+            starts-wide (c .monomial-from .ensures .starts),
+            lm-64 W (start .args .s) (start .pre .0) (from start) (start .args .c) (places start)
+                (get2 .result) (start .pre .0 .lms (get2 .result) (next-entry (c .before .before .before) .small)) _ (next-lm c),
+          ),
+        ),
+      ),
+    )
 
 -- src/stored.rt:145:9
 add-i : tie.Need-add-i Inv-loop μ-loop
@@ -115,15 +220,34 @@ loop-less c = omega (arith, c .before .before .before .before .before .before .b
 
 -- src/stored.rt:142:5
 loop-again : tie.Need-loop-again Inv-loop μ-loop
-loop-again c = fold-more (words (c .before .before .before .before .before .before .before .before .before .before .before .before .before .before .before .before .before .before .before .before .args .image .now)) (c .before .before .before .before .before .before .before .before .before .before .before .before .before .before .before .before .before .before .before .before .args .s) (c .before .before .before .before .before .before .before .before .before .before .before .before .before .before .before .before .before .before .before .before .pre .0) (at.permutationAt (c .before .before .before .before .before .before .before .before .before .before .before .before .before .before .before .before .before .before .before .before .args .s) + (c .before .before .before .before .before .before .before .before .before .before .before .before .before .before .before .before .before .before .before .before .args .lo)) (c .before .before .before .before .before .before .before .before .before .before .before .before .before .before .before .before .before .before .before .before .args .c) (omega (arith, place-fits (words (c .before .before .before .before .before .before .before .before .before .before .before .before .before .before .before .before .before .before .before .before .args .image .now)) (c .before .before .before .before .before .before .before .before .before .before .before .before .before .before .before .before .before .before .before .before .args .s) (c .before .before .before .before .before .before .before .before .before .before .before .before .before .before .before .before .before .before .before .before .pre .0) ((c .before .before .before .before .before .before .before .before .before .before .before .before .before .before .before .before .before .before .before .before .args .lo) + (c .before .before .before .before .before .before .before .before .before .before .before .before .before .before .before .before .before .before .before .before .args .c)) (c .before .before .before .before .before .before .before .before .before .before .before .before .before .before .before .before .before .before .before .before .pre .1 .0))) (c .before .before .before .before .before .before .get2 .result) ((c .before .before .before .before .before .before .before .before .before .before .before .before .before .before .before .before .before .before .before .before .pre .0 .lms) (c .before .before .before .before .before .before .get2 .result) ((entry-at-place (words (c .before .before .before .before .before .before .before .before .before .before .before .before .before .before .before .before .before .before .before .before .args .image .now)) (c .before .before .before .before .before .before .before .before .before .before .before .before .before .before .before .before .before .before .before .before .args .s) (c .before .before .before .before .before .before .before .before .before .before .before .before .before .before .before .before .before .before .before .before .pre .0) (c .before .before .before .before .before .before .before .before .before .before .before .before .before .before .before .before .before .before .before .before .args .lo) (c .before .before .before .before .before .before .before .before .loop .i) ((c .before .before .before .before .before .before .before .before .before .before .before .before .before .before .before .before .permutation-at .result) + (c .before .before .before .before .before .before .before .before .before .before .before .before .before .before .before .before .before .before .before .before .args .lo) + (c .before .before .before .before .before .before .before .before .loop .i)) (c .before .before .before .before .before .before .get2 .result) (omega (arith, c .before .before .before .before .before .before .before .before .before .before .before .before .before .before .before .before .permutation-at .ensures)) (omega (arith, c .before .before .before .before .before .before .before .before .before .before .before .before .before .before .before .before .before .before .before .before .pre .1 .0, c .before .before .before .before .before .before .before .loop-test .taken)) (c .before .before .before .before .before .before .get2 .ensures)) .small)) (c .before .before .before .before .before .before .before .before .loop .acc) (c .before .before .before .before .before .before .before .before .loop .n) (c .before .before .before .before .before .before .before .before .loop .i) (c .before .before .before .before .before .before .before .before .loop .inv) (c .before .before .before .before .before .before .before .loop-test .taken) (rw (c .before .before .before .before .before .before .before .before .before .before .before .before .before .before .before .before .permutation-at .ensures) at (c .before .before .before .before .before .before .get2 .ensures)) (c .before .before .meet .last .0) (first 1 (words (c .before .before .before .monomial-from .result .now))) (c .before .before .meet .result) (omega (arith, c .before .before .meet .kept .0, c .before .before .before .before .before .before .before .before .loop .inv .room)) (lm-read (words (c .before .before .before .before .before .before .before .before .before .before .before .before .before .before .before .before .before .before .before .before .args .image .now)) (c .before .before .before .before .before .before .before .before .before .before .before .before .before .before .before .before .before .before .before .before .args .s) (c .before .before .before .before .before .before .get2 .result) (c .before .before .before .before .entry-at2 .result) (first 1 (words (c .before .before .before .monomial-from .result .now))) (c .before .before .before .before .entry-at2 .ensures) (c .before .before .before .monomial-from .ensures .is)) (c .before .before .meet .ensures .0) (c .before .before .meet .ensures .1)
+loop-again c =
+    let meet = c .before .before .meet in
+    let monomial-from = c .before .before .before .monomial-from in
+    let b6 = c .before .before .before .before .before .before in
+    let get2 = b6 .get2 in
+    let loop = b6 .before .before .loop in
+    let b16 = b6 .before .before .before .before .before .before .before .before .before .before in
+    let permutation-at = b16 .permutation-at in
+    let start = b16 .before .before .before .before in
+    fold-more (words (start .args .image .now)) (start .args .s) (start .pre .0) (from start) (start .args .c) (places start)
+    (get2 .result) (start .pre .0 .lms (get2 .result) (next-entry b6 .small))
+    (loop .acc) (loop .n) (loop .i) (loop .inv) (b6 .before .loop-test .taken) (rw (permutation-at .ensures) at (get2 .ensures)) (meet .last .0)
+    (first 1 (words (monomial-from .result .now))) (meet .result) (omega (arith, meet .kept .0, loop .inv .room))
+    (next-lm (c .before .before .before)) (meet .ensures .0) (meet .ensures .1)
 
 -- src/stored.rt:126:1
 same-length-2 : tie.Need-same-length-2 Inv-loop μ-loop
-same-length-2 c = omega (arith, c .before .loop .inv .room, c .before .before .before .before .before .before .before .before .before .before .before .before .before .pre .1 .1)
+same-length-2 c =
+    let start = c .before .before .before .before .before .before .before .before .before .before .before .before .before in
+    omega (arith, c .before .loop .inv .room, start .pre .1 .1)
 
 -- src/stored.rt:126:1
 returns-2 : tie.Need-returns-2 Inv-loop μ-loop
-returns-2 c = (c .before .loop .inv .few, (let z : (c .before .loop .i) ≡ (c .before .before .before .before .before .before .before .before .before .before .before .before .before .args .c) = omega (arith, c .before .loop .inv .to, c .loop-test .left) in rw z at (c .before .loop .inv .is)))
+returns-2 c =
+    let start = c .before .before .before .before .before .before .before .before .before .before .before .before .before in
+    let loop = c .before .loop in
+    let z : loop .i ≡ start .args .c = omega (arith, loop .inv .to, c .loop-test .left) in
+    (loop .inv .few, rw z at (loop .inv .is))
 
 pub gcd-of-spec : {M : Type 1} → statement M
 gcd-of-spec =

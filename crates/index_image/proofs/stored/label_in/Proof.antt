@@ -26,11 +26,19 @@ add-get c = search needs
 
 -- src/stored.rt:64:31
 add-get-2 : tie.Need-add-get-2
-add-get-2 c = omega (arith, spots (c .before .before .args .s) (c .before .before .pre .0) (c .before .before .pre .1 .1 .0 .0) (c .before .before .args .e) 0 (c .before .before .pre .1 .1 .0 .1) (c .before .before .pre .0 .cap-from) .entry, spots (c .before .before .args .s) (c .before .before .pre .0) (c .before .before .pre .1 .1 .0 .0) (c .before .before .args .e) 0 (c .before .before .pre .1 .1 .0 .1) (c .before .before .pre .0 .cap-from) .small, c .entry-at .ensures, c .before .before .pre .1 .0)
+add-get-2 c =
+    let start = c .before .before in
+    let at = spots (start .args .s) (start .pre .0) (start .pre .1 .1 .0 .0) (start .args .e) 0 (start .pre .1 .1 .0 .1)
+    (start .pre .0 .cap-from) in
+    omega (arith, at .entry, at .small, c .entry-at .ensures, start .pre .1 .0)
 
 -- src/stored.rt:64:13
 get-requires : tie.Need-get-requires
-get-requires c κs = omega (arith, spots (c .before .before .args .s) (c .before .before .pre .0) (c .before .before .pre .1 .1 .0 .0) (c .before .before .args .e) 0 (c .before .before .pre .1 .1 .0 .1) (c .before .before .pre .0 .cap-from) .entry, spots (c .before .before .args .s) (c .before .before .pre .0) (c .before .before .pre .1 .1 .0 .0) (c .before .before .args .e) 0 (c .before .before .pre .1 .1 .0 .1) (c .before .before .pre .0 .cap-from) .small, c .entry-at .ensures, c .before .before .pre .1 .0)
+get-requires c κs =
+    let start = c .before .before in
+    let at = spots (start .args .s) (start .pre .0) (start .pre .1 .1 .0 .0) (start .args .e) 0 (start .pre .1 .1 .0 .1)
+    (start .pre .0 .cap-from) in
+    omega (arith, at .entry, at .small, c .entry-at .ensures, start .pre .1 .0)
 
 -- src/stored.rt:64:13
 cast-r : tie.Need-cast-r
@@ -46,11 +54,25 @@ add-get-3 c = search needs
 
 -- src/stored.rt:65:44
 mul-get-2 : tie.Need-mul-get-2
-mul-get-2 c = omega (arith, spots (c .before .before .before .before .args .s) (c .before .before .before .before .pre .0) (c .before .before .before .before .pre .1 .1 .0 .0) (c .before .before .before .before .args .e) (c .before .get .result) (c .before .before .before .before .pre .1 .1 .0 .1) (rw (c .before .get .ensures, c .before .before .entry-at .ensures) (c .before .before .before .before .pre .1 .1 .1)) .row-small)
+mul-get-2 c =
+    let start = c .before .before .before .before in
+    let get = c .before .get in
+    omega (
+      arith,
+      spots (start .args .s) (start .pre .0) (start .pre .1 .1 .0 .0) (start .args .e) (get .result) (start .pre .1 .1 .0 .1)
+          (rw (get .ensures, c .before .before .entry-at .ensures) (start .pre .1 .1 .1)) .row-small,
+    )
 
 -- src/stored.rt:65:40
 add-get-4 : tie.Need-add-get-4
-add-get-4 c = omega (arith, spots (c .before .before .before .before .args .s) (c .before .before .before .before .pre .0) (c .before .before .before .before .pre .1 .1 .0 .0) (c .before .before .before .before .args .e) (c .before .get .result) (c .before .before .before .before .pre .1 .1 .0 .1) (rw (c .before .get .ensures, c .before .before .entry-at .ensures) (c .before .before .before .before .pre .1 .1 .1)) .row-small)
+add-get-4 c =
+    let start = c .before .before .before .before in
+    let get = c .before .get in
+    omega (
+      arith,
+      spots (start .args .s) (start .pre .0) (start .pre .1 .1 .0 .0) (start .args .e) (get .result) (start .pre .1 .1 .0 .1)
+          (rw (get .ensures, c .before .before .entry-at .ensures) (start .pre .1 .1 .1)) .row-small,
+    )
 
 -- src/stored.rt:65:59
 add-get-5 : tie.Need-add-get-5
@@ -58,15 +80,35 @@ add-get-5 c = search needs
 
 -- src/stored.rt:65:40
 add-get-6 : tie.Need-add-get-6
-add-get-6 c = omega (arith, spots (c .before .before .before .before .args .s) (c .before .before .before .before .pre .0) (c .before .before .before .before .pre .1 .1 .0 .0) (c .before .before .before .before .args .e) (c .before .get .result) (c .before .before .before .before .pre .1 .1 .0 .1) (rw (c .before .get .ensures, c .before .before .entry-at .ensures) (c .before .before .before .before .pre .1 .1 .1)) .row-small, c .before .before .before .before .pre .0 .vars-to)
+add-get-6 c =
+    let start = c .before .before .before .before in
+    let get = c .before .get in
+    omega (
+      arith,
+      spots (start .args .s) (start .pre .0) (start .pre .1 .1 .0 .0) (start .args .e) (get .result) (start .pre .1 .1 .0 .1)
+          (rw (get .ensures, c .before .before .entry-at .ensures) (start .pre .1 .1 .1)) .row-small,
+      start .pre .0 .vars-to,
+    )
 
 -- src/stored.rt:65:23
 add-get-7 : tie.Need-add-get-7
-add-get-7 c = omega (arith, spots (c .before .before .before .before .args .s) (c .before .before .before .before .pre .0) (c .before .before .before .before .pre .1 .1 .0 .0) (c .before .before .before .before .args .e) (c .before .get .result) (c .before .before .before .before .pre .1 .1 .0 .1) (rw (c .before .get .ensures, c .before .before .entry-at .ensures) (c .before .before .before .before .pre .1 .1 .1)) .row, spots (c .before .before .before .before .args .s) (c .before .before .before .before .pre .0) (c .before .before .before .before .pre .1 .1 .0 .0) (c .before .before .before .before .args .e) (c .before .get .result) (c .before .before .before .before .pre .1 .1 .0 .1) (rw (c .before .get .ensures, c .before .before .entry-at .ensures) (c .before .before .before .before .pre .1 .1 .1)) .small, c .labels-at .ensures)
+add-get-7 c =
+    let start = c .before .before .before .before in
+    let entry-at = c .before .before .entry-at in
+    let get = c .before .get in
+    let at = spots (start .args .s) (start .pre .0) (start .pre .1 .1 .0 .0) (start .args .e) (get .result) (start .pre .1 .1 .0 .1)
+    (rw (get .ensures, entry-at .ensures) (start .pre .1 .1 .1)) in
+    omega (arith, at .row, at .small, c .labels-at .ensures)
 
 -- src/stored.rt:65:5
 get-requires-2 : tie.Need-get-requires-2
-get-requires-2 c κs = omega (arith, spots (c .before .before .before .before .args .s) (c .before .before .before .before .pre .0) (c .before .before .before .before .pre .1 .1 .0 .0) (c .before .before .before .before .args .e) (c .before .get .result) (c .before .before .before .before .pre .1 .1 .0 .1) (rw (c .before .get .ensures, c .before .before .entry-at .ensures) (c .before .before .before .before .pre .1 .1 .1)) .row, spots (c .before .before .before .before .args .s) (c .before .before .before .before .pre .0) (c .before .before .before .before .pre .1 .1 .0 .0) (c .before .before .before .before .args .e) (c .before .get .result) (c .before .before .before .before .pre .1 .1 .0 .1) (rw (c .before .get .ensures, c .before .before .entry-at .ensures) (c .before .before .before .before .pre .1 .1 .1)) .small, c .labels-at .ensures, c .before .before .before .before .pre .1 .0)
+get-requires-2 c κs =
+    let start = c .before .before .before .before in
+    let entry-at = c .before .before .entry-at in
+    let get = c .before .get in
+    let at = spots (start .args .s) (start .pre .0) (start .pre .1 .1 .0 .0) (start .args .e) (get .result) (start .pre .1 .1 .0 .1)
+    (rw (get .ensures, entry-at .ensures) (start .pre .1 .1 .1)) in
+    omega (arith, at .row, at .small, c .labels-at .ensures, start .pre .1 .0)
 
 -- src/stored.rt:65:5
 cast-result : tie.Need-cast-result
@@ -74,7 +116,13 @@ cast-result c = search needs
 
 -- src/stored.rt:58:1
 returns : tie.Need-returns
-returns c = label-at (words (c .before .before .before .before .before .args .image .now)) (c .before .before .before .before .before .args .s) (c .before .before .before .before .before .args .e) (c .before .before .before .entry-at .result) (c .before .before .get .result) (c .before .labels-at .result) (c .get2 .result) (c .before .before .before .entry-at .ensures) (c .before .before .get .ensures) (c .before .labels-at .ensures) (c .get2 .ensures)
+returns c =
+    let start = c .before .before .before .before .before in
+    let entry-at = c .before .before .before .entry-at in
+    let get = c .before .before .get in
+    let labels-at = c .before .labels-at in
+    label-at (words (start .args .image .now)) (start .args .s) (start .args .e) (entry-at .result) (get .result) (labels-at .result)
+    (c .get2 .result) (entry-at .ensures) (get .ensures) (labels-at .ensures) (c .get2 .ensures)
 
 pub label-in-spec : {M : Type 1} → statement M
 label-in-spec =

@@ -29,7 +29,9 @@ slice-reshare-prefix-gcd c = search needs
 
 -- src/stored.rt:119:27
 slice-aggregate-gcd : tie.Need-slice-aggregate-gcd
-slice-aggregate-gcd c = sym (length-take-le (4 * (c .before .before .before .args .n)) (c .before .before .before .args .acc .now) (omega (arith, c .before .before .before .pre .0, c .before .before .before .pre .1 .0)))
+slice-aggregate-gcd c =
+    let start = c .before .before .before in
+    sym (length-take-le (4 * start .args .n) (start .args .acc .now) (omega (arith, start .pre .0, start .pre .1 .0)))
 
 -- src/stored.rt:119:45
 slice-aggregate-gcd-2 : tie.Need-slice-aggregate-gcd-2
@@ -37,23 +39,82 @@ slice-aggregate-gcd-2 c = search needs
 
 -- src/stored.rt:119:9
 gcd-requires : tie.Need-gcd-requires
-gcd-requires c κs = let ca = c .before .before .before .before .pre .1 .1 .0 in let sb = c .before .before .before .before .pre .1 .1 .1 .0 in let cb = c .before .before .before .before .pre .1 .1 .1 .1 in rw (front-words (c .before .before .before .before .args .acc .now) (c .before .before .before .before .args .n)) (starts-wide (starts-whole ca), (sb, rw (first-whole ca) (omega (arith, gcd-fits (part (words (c .before .before .before .before .args .acc .now)) 0 (c .before .before .before .before .args .n)) (first 1 (words (c .before .before .before .before .args .other .now))) ca cb))))
+gcd-requires c κs =
+    let start = c .before .before .before .before in
+    let ca = start .pre .1 .1 .0 in
+    let sb = start .pre .1 .1 .1 .0 in
+    let cb = start .pre .1 .1 .1 .1 in
+    rw (front-words (start .args .acc .now) (start .args .n)) (
+      starts-wide (starts-whole ca),
+      (
+        sb,
+        rw (first-whole ca)
+            (omega (
+              arith,
+              gcd-fits (part (words (start .args .acc .now)) 0 (start .args .n)) (first 1 (words (start .args .other .now))) ca cb,
+            )),
+      ),
+    )
 
 -- src/stored.rt:120:13
 mul-f : tie.Need-mul-f
-mul-f c = omega (arith, gcd-fits (part (words (c .before .before .before .before .before .before .args .acc .now)) 0 (c .before .before .before .before .before .before .args .n)) (first 1 (words (c .before .before .before .before .before .before .args .other .now))) (c .before .before .before .before .before .before .pre .1 .1 .0) (c .before .before .before .before .before .before .pre .1 .1 .1 .1), (rw (front-words (c .before .before .before .before .before .before .args .acc .now) (c .before .before .before .before .before .before .args .n), first-whole (c .before .before .before .before .before .before .pre .1 .1 .0)) at (c .before .gcd .ensures .0)))
+mul-f c =
+    let start = c .before .before .before .before .before .before in
+    omega (
+      arith,
+      gcd-fits (part (words (start .args .acc .now)) 0 (start .args .n)) (first 1 (words (start .args .other .now))) (start .pre .1 .1 .0)
+          (start .pre .1 .1 .1 .1),
+      rw (front-words (start .args .acc .now) (start .args .n), first-whole (start .pre .1 .1 .0)) at (c .before .gcd .ensures .0),
+    )
 
 -- src/stored.rt:121:32
 array-share-prefix-made : tie.Need-array-share-prefix-made
-array-share-prefix-made c = omega (arith, gcd-fits (part (words (c .before .before .before .before .before .before .before .args .acc .now)) 0 (c .before .before .before .before .before .before .before .args .n)) (first 1 (words (c .before .before .before .before .before .before .before .args .other .now))) (c .before .before .before .before .before .before .before .pre .1 .1 .0) (c .before .before .before .before .before .before .before .pre .1 .1 .1 .1), (rw (front-words (c .before .before .before .before .before .before .before .args .acc .now) (c .before .before .before .before .before .before .before .args .n), first-whole (c .before .before .before .before .before .before .before .pre .1 .1 .0)) at (c .before .before .gcd .ensures .0)), c .before .before .gcd .kept .1 .1 .0)
+array-share-prefix-made c =
+    let start = c .before .before .before .before .before .before .before in
+    let gcd = c .before .before .gcd in
+    omega (
+      arith,
+      gcd-fits (part (words (start .args .acc .now)) 0 (start .args .n)) (first 1 (words (start .args .other .now))) (start .pre .1 .1 .0)
+          (start .pre .1 .1 .1 .1),
+      rw (front-words (start .args .acc .now) (start .args .n), first-whole (start .pre .1 .1 .0)) at (gcd .ensures .0),
+      gcd .kept .1 .1 .0,
+    )
 
 -- src/stored.rt:121:32
 slice-aggregate-paste : tie.Need-slice-aggregate-paste
-slice-aggregate-paste c = sym (length-take-le (4 * (c .before .before .before .gcd .result)) (c .before .before .before .gcd .last .1 .1 .0) (omega (arith, gcd-fits (part (words (c .before .before .before .before .before .before .before .before .args .acc .now)) 0 (c .before .before .before .before .before .before .before .before .args .n)) (first 1 (words (c .before .before .before .before .before .before .before .before .args .other .now))) (c .before .before .before .before .before .before .before .before .pre .1 .1 .0) (c .before .before .before .before .before .before .before .before .pre .1 .1 .1 .1), (rw (front-words (c .before .before .before .before .before .before .before .before .args .acc .now) (c .before .before .before .before .before .before .before .before .args .n), first-whole (c .before .before .before .before .before .before .before .before .pre .1 .1 .0)) at (c .before .before .before .gcd .ensures .0)), c .before .before .before .gcd .kept .1 .1 .0)))
+slice-aggregate-paste c =
+    let start = c .before .before .before .before .before .before .before .before in
+    let gcd = c .before .before .before .gcd in
+    sym
+    (length-take-le (4 * gcd .result) (gcd .last .1 .1 .0)
+    (omega (
+      arith,
+      gcd-fits (part (words (start .args .acc .now)) 0 (start .args .n)) (first 1 (words (start .args .other .now)))
+          (start .pre .1 .1 .0) (start .pre .1 .1 .1 .1),
+      rw (front-words (start .args .acc .now) (start .args .n), first-whole (start .pre .1 .1 .0)) at (gcd .ensures .0),
+      gcd .kept .1 .1 .0,
+    )))
 
 -- src/stored.rt:121:5
 paste-requires : tie.Need-paste-requires
-paste-requires c κs = omega (arith, length-take-le (4 * (c .before .before .before .gcd .result)) (c .before .before .before .gcd .last .1 .1 .0) (omega (arith, gcd-fits (part (words (c .before .before .before .before .before .before .before .before .args .acc .now)) 0 (c .before .before .before .before .before .before .before .before .args .n)) (first 1 (words (c .before .before .before .before .before .before .before .before .args .other .now))) (c .before .before .before .before .before .before .before .before .pre .1 .1 .0) (c .before .before .before .before .before .before .before .before .pre .1 .1 .1 .1), (rw (front-words (c .before .before .before .before .before .before .before .before .args .acc .now) (c .before .before .before .before .before .before .before .before .args .n), first-whole (c .before .before .before .before .before .before .before .before .pre .1 .1 .0)) at (c .before .before .before .gcd .ensures .0)), c .before .before .before .gcd .kept .1 .1 .0)), gcd-fits (part (words (c .before .before .before .before .before .before .before .before .args .acc .now)) 0 (c .before .before .before .before .before .before .before .before .args .n)) (first 1 (words (c .before .before .before .before .before .before .before .before .args .other .now))) (c .before .before .before .before .before .before .before .before .pre .1 .1 .0) (c .before .before .before .before .before .before .before .before .pre .1 .1 .1 .1), (rw (front-words (c .before .before .before .before .before .before .before .before .args .acc .now) (c .before .before .before .before .before .before .before .before .args .n), first-whole (c .before .before .before .before .before .before .before .before .pre .1 .1 .0)) at (c .before .before .before .gcd .ensures .0)), c .before .before .before .before .before .before .before .before .pre .0)
+paste-requires c κs =
+    let start = c .before .before .before .before .before .before .before .before in
+    let gcd = c .before .before .before .gcd in
+    let k = gcd-fits (part (words (start .args .acc .now)) 0 (start .args .n)) (first 1 (words (start .args .other .now))) (start .pre .1 .1 .0)
+    (start .pre .1 .1 .1 .1) in
+    omega (
+      arith,
+      length-take-le (4 * gcd .result) (gcd .last .1 .1 .0)
+          (omega (
+            arith,
+            k,
+            rw (front-words (start .args .acc .now) (start .args .n), first-whole (start .pre .1 .1 .0)) at (gcd .ensures .0),
+            gcd .kept .1 .1 .0,
+          )),
+      k,
+      rw (front-words (start .args .acc .now) (start .args .n), first-whole (start .pre .1 .1 .0)) at (gcd .ensures .0),
+      start .pre .0,
+    )
 
 -- src/stored.rt:109:1
 same-length : tie.Need-same-length
@@ -61,7 +122,21 @@ same-length c = search needs
 
 -- src/stored.rt:109:1
 returns : tie.Need-returns
-returns c = ((rw (front-words (c .before .before .before .before .before .before .before .before .before .before .before .args .acc .now) (c .before .before .before .before .before .before .before .before .before .before .before .args .n), first-whole (c .before .before .before .before .before .before .before .before .before .before .before .pre .1 .1 .0)) at (c .before .before .before .before .before .before .gcd .ensures .0)), c .before .before .paste .ensures ∙ ap (pasteW (c .before .before .before .before .before .before .before .before .before .before .before .args .acc .now) 0) (ap (λ (l : List ℕ). words (take (4 * (c .before .before .before .before .before .before .gcd .result)) l)) (rw (front-words (c .before .before .before .before .before .before .before .before .before .before .before .args .acc .now) (c .before .before .before .before .before .before .before .before .before .before .before .args .n), first-whole (c .before .before .before .before .before .before .before .before .before .before .before .pre .1 .1 .0)) at (c .before .before .before .before .before .before .gcd .ensures .1)) ∙ front-pasted _ (result Gcd (part (words (c .before .before .before .before .before .before .before .before .before .before .before .args .acc .now)) 0 (c .before .before .before .before .before .before .before .before .before .before .before .args .n)) (first 1 (words (c .before .before .before .before .before .before .before .before .before .before .before .args .other .now)))) (c .before .before .before .before .before .before .gcd .result) (gcd-small (part (words (c .before .before .before .before .before .before .before .before .before .before .before .args .acc .now)) 0 (c .before .before .before .before .before .before .before .before .before .before .before .args .n)) (first 1 (words (c .before .before .before .before .before .before .before .before .before .before .before .args .other .now))) (c .before .before .before .before .before .before .before .before .before .before .before .pre .1 .1 .0) (c .before .before .before .before .before .before .before .before .before .before .before .pre .1 .1 .1 .1)) (rw (front-words (c .before .before .before .before .before .before .before .before .before .before .before .args .acc .now) (c .before .before .before .before .before .before .before .before .before .before .before .args .n), first-whole (c .before .before .before .before .before .before .before .before .before .before .before .pre .1 .1 .0)) at (c .before .before .before .before .before .before .gcd .ensures .0))))
+returns c =
+    let start = c .before .before .before .before .before .before .before .before .before .before .before in
+    let gcd = c .before .before .before .before .before .before .gcd in
+    let k = front-words (start .args .acc .now) (start .args .n) in
+    let k2 = first-whole (start .pre .1 .1 .0) in (
+      rw (k, k2) at (gcd .ensures .0),
+      c .before .before .paste .ensures
+          ∙ ap (pasteW (start .args .acc .now) 0)
+          (ap (λ (l : List ℕ). words (take (4 * gcd .result) l)) (rw (k, k2) at (gcd .ensures .1))
+          ∙ front-pasted _ (result Gcd (part (words (start .args .acc .now)) 0 (start .args .n)) (first 1 (words (start .args .other .now))))
+          (gcd .result)
+          (gcd-small (part (words (start .args .acc .now)) 0 (start .args .n)) (first 1 (words (start .args .other .now)))
+          (start .pre .1 .1 .0) (start .pre .1 .1 .1 .1))
+          (rw (k, k2) at (gcd .ensures .0))),
+    )
 
 pub make-gcd-spec : {M : Type 1} → statement M
 make-gcd-spec =

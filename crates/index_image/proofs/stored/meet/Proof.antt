@@ -24,11 +24,15 @@ slice-reshare-prefix-divides c = search needs
 
 -- src/stored.rt:135:26
 slice-aggregate-divides : tie.Need-slice-aggregate-divides
-slice-aggregate-divides c = sym (length-take-le (4 * (c .before .before .before .args .n)) (c .before .before .before .args .acc .now) (omega (arith, c .before .before .before .pre .0, c .before .before .before .pre .1 .0)))
+slice-aggregate-divides c =
+    let start = c .before .before .before in
+    sym (length-take-le (4 * start .args .n) (start .args .acc .now) (omega (arith, start .pre .0, start .pre .1 .0)))
 
 -- src/stored.rt:135:8
 divides-requires : tie.Need-divides-requires
-divides-requires c κs = rw (front-words (c .before .before .before .args .acc .now) (c .before .before .before .args .n)) (starts-wide (starts-whole (c .before .before .before .pre .1 .1 .0)), c .before .before .before .pre .1 .1 .1 .0)
+divides-requires c κs =
+    let start = c .before .before .before in
+    rw (front-words (start .args .acc .now) (start .args .n)) (starts-wide (starts-whole (start .pre .1 .1 .0)), start .pre .1 .1 .1 .0)
 
 -- src/stored.rt:136:9
 same-length : tie.Need-same-length
@@ -36,7 +40,15 @@ same-length c = search needs
 
 -- src/stored.rt:136:9
 returns : tie.Need-returns
-returns c = let h = gcd-held (c .before .before .before .before .before .args .acc .now) (c .before .before .before .before .before .args .n) (first 1 (words (c .before .before .before .before .before .args .other .now))) (λ i. omega (arith, (c .before .before .before .before .slice-known .given) i)) (omega (arith, c .before .before .before .before .before .pre .0, c .before .before .before .before .before .pre .1 .0)) (c .before .before .before .before .before .pre .1 .1 .0) (c .before .before .before .before .before .pre .1 .1 .1 .1) (sym (rw (front-words (c .before .before .before .before .before .args .acc .now) (c .before .before .before .before .before .args .n), first-whole (c .before .before .before .before .before .pre .1 .1 .0)) at (c .before .divides .ensures)) ∙ c .if1 .taken) in (h .long, h .kept)
+returns c =
+    let start = c .before .before .before .before .before in
+    let slice-known = c .before .before .before .before .slice-known in
+    let h = gcd-held (start .args .acc .now) (start .args .n) (first 1 (words (start .args .other .now)))
+    (λ i. omega (arith, slice-known .given i)) (omega (arith, start .pre .0, start .pre .1 .0)) (start .pre .1 .1 .0)
+    (start .pre .1 .1 .1 .1)
+    (sym (rw (front-words (start .args .acc .now) (start .args .n), first-whole (start .pre .1 .1 .0)) at (c .before .divides .ensures))
+    ∙ c .if1 .taken) in
+    (h .long, h .kept)
 
 -- src/stored.rt:138:5
 make-gcd-requires : tie.Need-make-gcd-requires

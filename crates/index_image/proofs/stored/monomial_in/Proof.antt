@@ -14,7 +14,10 @@ known-at-requires c κs = search needs
 
 -- src/stored.rt:29:1
 returns : tie.Need-returns
-returns c = taken (c .before .before .args .image .now) (c .before .before .args .s .variables) (c .before .before .args .g) (c .known-at .result .now) (c .known-at .ensures ∙ ended-found 1 (c .before .before .args .s .variables) (c .before .before .args .image .now) (c .before .before .args .g) (c .before .before .pre))
+returns c =
+    let start = c .before .before in
+    taken (start .args .image .now) (start .args .s .variables) (start .args .g) (c .known-at .result .now)
+    (c .known-at .ensures ∙ ended-found 1 (start .args .s .variables) (start .args .image .now) (start .args .g) (start .pre))
 
 pub monomial-in-spec : {M : Type 1} → statement M
 monomial-in-spec = tie.close (tie.spec known-at-requires returns)

@@ -1,7 +1,7 @@
 use Rattle.index_image.specs.Shape as shape
 use Rattle.monomial.proofs.Firsts.{starts-whole, first-whole}
 use native.Mathlib.Omega.{arith}
-use Rattle.index_image.proofs.Reading.{part-words}
+use Rattle.words.proofs.Drafts.{part-of as part-words}
 use Prim.Native.Nat.{_+_, _-_, _*_}
 use borrow.Author.Needs.{needs}
 use Rattle.kd_insert.proofs.slots.mask_of.Statement.{statement}

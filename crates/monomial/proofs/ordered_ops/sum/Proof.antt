@@ -21,6 +21,7 @@ use Rattle.monomial.proofs.ordered_ops.push.Reads as push-reads
 use Rattle.monomial.proofs.ordered_ops.step.Reads as step-reads
 use Rattle.monomial.proofs.ordered_ops.upper.Reads as upper-reads
 use Rattle.words.proofs.get.Reads as get-reads
+use Rattle.words.proofs.upper_id.Reads as upper-id-reads
 
 abbrev Inv-loop : tie.InvT-loop
 Inv-loop a b op out₀ kind i₀ j₀ n₀ out i j n = Summing op (first 1 (words a)) (first 1 (words b)) out₀ out i j n
@@ -102,17 +103,24 @@ meet-requires c κs =
     (first-canonical (omega arith) (start .pre .1 .0)) in
     (rw (c .before .power-at .ensures) (p .a-small), rw (c .power-at2 .ensures) (p .b-small))
 
+-- src/ordered_ops.rt:136:36
+upper-id-requires : tie.Need-upper-id-requires Inv-loop μ-loop
+upper-id-requires c κs = search needs
+
 -- src/ordered_ops.rt:136:9
 push-requires : tie.Need-push-requires Inv-loop μ-loop
 push-requires c κs =
-    let if1 = c .before .before .before .before .if1 in
-    let upper = c .before .before .before .before .before .upper in
-    let get2 = c .before .before .before .before .before .before .get2 in
-    let b7 = c .before .before .before .before .before .before .before in
-    let loop = b7 .before .loop in
-    let kind-of = b7 .before .before .kind-of in
-    let start = b7 .before .before .before .before .before .before in
-    let p = powered (loop .inv) (start .pre .1 .1) (seen _ (loop .inv .ra) (b7 .get .ensures)) (seen _ (loop .inv .rb) (get2 .ensures)) (upper .ensures)
+    let power-at2 = c .before .before .before .power-at2 in
+    let power-at = c .before .before .before .before .power-at in
+    let if1 = c .before .before .before .before .before .if1 in
+    let b6 = c .before .before .before .before .before .before in
+    let upper = b6 .upper in
+    let get2 = b6 .before .get2 in
+    let get = b6 .before .before .get in
+    let loop = b6 .before .before .before .loop in
+    let kind-of = b6 .before .before .before .before .kind-of in
+    let start = b6 .before .before .before .before .before .before .before .before in
+    let p = powered (loop .inv) (start .pre .1 .1) (seen _ (loop .inv .ra) (get .ensures)) (seen _ (loop .inv .rb) (get2 .ensures)) (upper .ensures)
     (if1 .left) (first-canonical (omega arith) (start .pre .0)) (first-canonical (omega arith) (start .pre .1 .0)) in
     let f = fits (loop .inv) (start .pre .1 .1) in
     let k = kind-small (start .args .op) in (
@@ -121,8 +129,8 @@ push-requires c κs =
         (
           omega (arith, kind-of .ensures),
           (
-            omega arith,
-            rw (c .before .meet .ensures, c .before .before .before .power-at .ensures, c .before .before .power-at2 .ensures) (p .p-small),
+            omega (arith, c .upper-id .ensures),
+            rw (c .before .before .meet .ensures, power-at .ensures, power-at2 .ensures) (p .p-small),
           ),
         ),
       ),
@@ -132,46 +140,50 @@ push-requires c κs =
 -- src/ordered_ops.rt:137:9
 step-requires : tie.Need-step-requires Inv-loop μ-loop
 step-requires c κs =
-    let b11 = c .before .before .before .before .before .before .before .before .before .before .before in
-    let start = b11 .before .before .before .before .before in
-    omega (arith, fits (b11 .loop .inv) (start .pre .1 .1), first-bytes 1 (start .args .a .now))
+    let b12 = c .before .before .before .before .before .before .before .before .before .before .before .before in
+    let start = b12 .before .before .before .before .before in
+    omega (arith, fits (b12 .loop .inv) (start .pre .1 .1), first-bytes 1 (start .args .a .now))
 
 -- src/ordered_ops.rt:138:9
 step-requires-2 : tie.Need-step-requires-2 Inv-loop μ-loop
 step-requires-2 c κs =
-    let b12 = c .before .before .before .before .before .before .before .before .before .before .before .before in
-    let start = b12 .before .before .before .before .before in
-    omega (arith, fits (b12 .loop .inv) (start .pre .1 .1), first-bytes 1 (start .args .b .now))
+    let b13 = c .before .before .before .before .before .before .before .before .before .before .before .before .before in
+    let start = b13 .before .before .before .before .before in
+    omega (arith, fits (b13 .loop .inv) (start .pre .1 .1), first-bytes 1 (start .args .b .now))
 
 -- src/ordered_ops.rt:128:5
 loop-less : tie.Need-loop-less Inv-loop μ-loop
 loop-less c =
-    let b10 = c .before .before .before .before .before .before .before .before .before .before in
-    let upper = b10 .upper in
-    let get = b10 .before .before .get in
-    let loop = b10 .before .before .before .loop in
-    let start = b10 .before .before .before .before .before .before .before .before in
+    let b11 = c .before .before .before .before .before .before .before .before .before .before .before in
+    let upper = b11 .upper in
+    let get = b11 .before .before .get in
+    let loop = b11 .before .before .before .loop in
+    let start = b11 .before .before .before .before .before .before .before .before in
     let f = fits (loop .inv) (start .pre .1 .1) in
-    rw (c .before .step .ensures, c .step2 .ensures) (falls (get .result) (b10 .before .get2 .result) (upper .result) (loop .i) (loop .j) _ _ (upper .ensures)
+    rw (c .before .step .ensures, c .step2 .ensures) (falls (get .result) (b11 .before .get2 .result) (upper .result) (loop .i) (loop .j) _ _ (upper .ensures)
     (f .ia) (f .jb))
 
 -- src/ordered_ops.rt:128:5
 loop-again : tie.Need-loop-again Inv-loop μ-loop
 loop-again c =
     let push = c .before .before .before .before .push in
-    let meet = c .before .before .before .before .before .before .meet in
+    let upper-id = c .before .before .before .before .before .upper-id in
     let b7 = c .before .before .before .before .before .before .before in
-    let if1 = b7 .before .before .if1 in
-    let upper = b7 .before .before .before .upper in
-    let get2 = b7 .before .before .before .before .get2 in
-    let get = b7 .before .before .before .before .before .get in
-    let loop = b7 .before .before .before .before .before .before .loop in
-    let b14 = b7 .before .before .before .before .before .before .before in
-    let kind-of = b14 .kind-of in
-    let start = b14 .before .before .before .before in
-    let d = rw (b7 .before .power-at .ensures, b7 .power-at2 .ensures) at (meet .ensures) in
+    let meet = b7 .meet in
+    let b8 = b7 .before in
+    let if1 = b8 .before .before .if1 in
+    let upper = b8 .before .before .before .upper in
+    let get2 = b8 .before .before .before .before .get2 in
+    let get = b8 .before .before .before .before .before .get in
+    let loop = b8 .before .before .before .before .before .before .loop in
+    let b15 = b8 .before .before .before .before .before .before .before in
+    let kind-of = b15 .kind-of in
+    let start = b15 .before .before .before .before in
+    let d = rw (b8 .before .power-at .ensures, b8 .power-at2 .ensures) at (meet .ensures) in
+    let written = rw (kind-of .ensures, upper-id .ensures) at (push .ensures .1) in
     rw (c .before .step .ensures, c .step2 .ensures) (again (loop .inv) (start .pre .1 .1) (seen _ (loop .inv .ra) (get .ensures))
-    (seen _ (loop .inv .rb) (get2 .ensures)) (upper .ensures) (if1 .left) d (rw (kind-of .ensures) at (push .ensures .0)) (rw (kind-of .ensures) at (push .ensures .1)))
+    (seen _ (loop .inv .rb) (get2 .ensures)) (upper .ensures) (if1 .left) d
+    (rw (kind-of .ensures) at (push .ensures .0)) written)
 
 pub sum-spec : {M : Type 1} → statement M
 sum-spec =
@@ -190,6 +202,7 @@ sum-spec =
     power-at-requires
     power-at-requires-2
     meet-requires
+    upper-id-requires
     push-requires
     step-requires
     step-requires-2
