@@ -78,7 +78,8 @@ unfolding wayOf placeOf
 way-places K e (leaf es) = omega arith
 way-places K e (branch d k l r) = go (K .below d k e)
   where
-    go : (b : Bool) → cond {A = Way} b (record { stop = false; rows = 1; places = 0 }) (record { stop = false; rows = suc (nodes l); places = count l }) .places ≤ cond b (placeOf K e l) (count l + placeOf K e r)
+    go : (b : Bool) → cond {A = Way} b (record { stop = false; rows = 1; places = 0 }) (record { stop = false; rows = suc (nodes l); places = count l }) .places ≤ cond b
+        (placeOf K e l) (count l + placeOf K e r)
     go true = omega arith
     go false = omega arith
 
@@ -119,7 +120,8 @@ module _ (bs : List ℕ) (s : Shape) (R : at.InRange s) (room : 4 * at.size s �
     pub inside : k + nodes tree ≤ nodes (g .tree)
     pub keyed : Keyed s tree
     pub few : count tree ≤ count (g .tree)
-    pub goal : treeWords (s .variables) (mapMaxima (words bs) s) (g .power) (insert (keys g) (g .entry) (g .tree)) ≡ above ++ (treeWords (s .variables) (mapMaxima (words bs) s) (g .power) (insert (keys g) (g .entry) tree) ++ under)
+    pub goal : treeWords (s .variables) (mapMaxima (words bs) s) (g .power) (insert (keys g) (g .entry) (g .tree)) ≡ above ++
+        (treeWords (s .variables) (mapMaxima (words bs) s) (g .power) (insert (keys g) (g .entry) tree) ++ under)
     pub place-is : placeOf (keys g) (g .entry) (g .tree) ≡ lo + placeOf (keys g) (g .entry) tree
 
   long : (t : Tree) → length (rows t) ≡ nodes t * w
@@ -285,7 +287,15 @@ module _ (bs : List ℕ) (s : Shape) (R : at.InRange s) (room : 4 * at.size s �
       long-now : length im′ ≡ length bs
       long-now =
           let l : length (G .above ++ (new (G .tree) ++ (rest (G .tree) ++ G .under))) ≡ length body =
-          length-append (G .above) _ ∙ omega (arith, length-append (new (G .tree)) (rest (G .tree) ++ G .under), wide (tagOf (G .tree)) (keyOf (G .tree)) (skipOf (G .tree)) (putAt (placeOf K e (G .tree)) e (inorder (G .tree))), wide (tagOf (G .tree)) (keyOf (G .tree)) (skipOf (G .tree)) (inorder (G .tree)), length-append (old (G .tree)) (rest (G .tree) ++ G .under), length-append (G .above) (old (G .tree) ++ (rest (G .tree) ++ G .under)), same-body) in
+          length-append (G .above) _ ∙ omega (
+            arith,
+            length-append (new (G .tree)) (rest (G .tree) ++ G .under),
+            wide (tagOf (G .tree)) (keyOf (G .tree)) (skipOf (G .tree)) (putAt (placeOf K e (G .tree)) e (inorder (G .tree))),
+            wide (tagOf (G .tree)) (keyOf (G .tree)) (skipOf (G .tree)) (inorder (G .tree)),
+            length-append (old (G .tree)) (rest (G .tree) ++ G .under),
+            length-append (G .above) (old (G .tree) ++ (rest (G .tree) ++ G .under)),
+            same-body,
+          ) in
           ap length grown-to ∙ length-pasteW bs root _ (omega (arith, body-fits))
 
       -- ---- at a leaf all is done
@@ -328,8 +338,10 @@ module _ (bs : List ℕ) (s : Shape) (R : at.InRange s) (room : 4 * at.size s �
               let q = new (branch d key l r) in
               let lq : length q ≡ w = wide (tagOf (branch d key l r)) (keyOf (branch d key l r)) (skipOf (branch d key l r)) (putAt (placeOf K e (branch d key l r)) e (inorder l ++ inorder r)) in
               let nb = nodes-branch d key l r in
-              let fit : at.nodeAt s k + w + length (rows l) ≤ length (words im′) = omega (arith, length-words im′, long-now, long l, long r, rows-fit, G .at-row, zero-mul w, all-is, rw nb at all-is, below-rows l r) in
-              let sp = part-append (words im′) (at.nodeAt s k + w) (length (rows l)) (length (rows r)) (rows l) (rows r) fit refl .0 (ap (part (words im′) (at.nodeAt s k + w)) (sym (length-append (rows l) (rows r))) ∙ bh) in
+              let fit : at.nodeAt s k + w + length (rows l) ≤ length (words im′) =
+              omega (arith, length-words im′, long-now, long l, long r, rows-fit, G .at-row, zero-mul w, all-is, rw nb at all-is, below-rows l r) in
+              let sp = part-append (words im′) (at.nodeAt s k + w) (length (rows l)) (length (rows r)) (rows l) (rows r) fit refl .0
+              (ap (part (words im′) (at.nodeAt s k + w)) (sym (length-append (rows l) (rows r))) ∙ bh) in
               rw (ey, ez) (record {
                 tree = l;
                 above = G .above ++ q;
@@ -356,8 +368,10 @@ module _ (bs : List ℕ) (s : Shape) (R : at.InRange s) (room : 4 * at.size s �
               let q = new (branch d key l r) in
               let lq : length q ≡ w = wide (tagOf (branch d key l r)) (keyOf (branch d key l r)) (skipOf (branch d key l r)) (putAt (placeOf K e (branch d key l r)) e (inorder l ++ inorder r)) in
               let nb = nodes-branch d key l r in
-              let fit : at.nodeAt s k + w + length (rows l) ≤ length (words im′) = omega (arith, length-words im′, long-now, long l, long r, rows-fit, G .at-row, zero-mul w, rw nb at all-is, below-rows l r) in
-              let sp = part-append (words im′) (at.nodeAt s k + w) (length (rows l)) (length (rows r)) (rows l) (rows r) fit refl .0 (ap (part (words im′) (at.nodeAt s k + w)) (sym (length-append (rows l) (rows r))) ∙ bh) in
+              let fit : at.nodeAt s k + w + length (rows l) ≤ length (words im′) =
+              omega (arith, length-words im′, long-now, long l, long r, rows-fit, G .at-row, zero-mul w, rw nb at all-is, below-rows l r) in
+              let sp = part-append (words im′) (at.nodeAt s k + w) (length (rows l)) (length (rows r)) (rows l) (rows r) fit refl .0
+              (ap (part (words im′) (at.nodeAt s k + w)) (sym (length-append (rows l) (rows r))) ∙ bh) in
               let there : at.nodeAt s k + w + length (rows l) ≡ at.nodeAt s (k + suc (nodes l)) = omega (arith, long l, add-mul k (suc (nodes l)) w, suc-mul (nodes l) w) in
               rw (ey, ez) (record {
                 tree = r;

@@ -154,7 +154,13 @@ module _ (bs : List ℕ) (st : State) (I : Is st bs) (e : Entry) (good : GoodEnt
   pub rows-long : length old-rows ≡ c * w
   rows-long =
       length-append (table n (λ i. entryWords (st .kind) m xs (st .labels) (entryAt es i))) _
-      ∙ omega (arith, length-table n w (λ i. entryWords (st .kind) m xs (st .labels) (entryAt es i)) (λ i h. entry-length (st .kind) m xs (st .labels) (entryAt es i) (F .vars-to) (F .good i h)), length-zeros ((c - n) * w), split-rows n c w (F .few))
+      ∙ omega (
+        arith,
+        length-table n w (λ i. entryWords (st .kind) m xs (st .labels) (entryAt es i))
+            (λ i h. entry-length (st .kind) m xs (st .labels) (entryAt es i) (F .vars-to) (F .good i h)),
+        length-zeros ((c - n) * w),
+        split-rows n c w (F .few),
+      )
 
   row-wide : length (entryWords (st .kind) m xs l′ e) ≡ w
   row-wide = entry-length (st .kind) m xs l′ e (F .vars-to) good

@@ -84,7 +84,8 @@ unfolding over
 head-over a b c d e f r = refl
 
 -- ---- what `hang` leaves
-pub hung-is : (bs a b d : List ℕ) (s : Shape) (lm : List ℕ) (lab q p : ℕ) (g : Growth (words bs) s lm lab 0) → at.InRange s → 4 * at.size s ≤ length bs → count (g .tree) ≡ s .entries → s .entries < s .capacity
+pub hung-is : (bs a b d : List ℕ) (s : Shape) (lm : List ℕ) (lab q p : ℕ) (g : Growth (words bs) s lm lab 0) → at.InRange s → 4 * at.size s ≤ length bs
+    → count (g .tree) ≡ s .entries → s .entries < s .capacity
     → q ≡ at.permutationAt s → p ≡ place g → a ≡ pasteW bs (at.nodeAt s 0) (grownRows g) → b ≡ pasteW a (q + p) (s .entries ∷ part (words a) (q + p) (q + s .entries - (q + p)))
     → d ≡ putW b at.lengthAt (s .entries + 1) → length b ≡ length bs → d ≡ hung bs s lm lab g
 unfolding hung
@@ -93,7 +94,8 @@ hung-is bs a b d s lm lab q p g R room all few eq ep ea eb ed lb =
     let n = s .entries in
     let x = at.permutationAt s + place g in
     let sub : q + n - (q + p) ≡ n - place g = omega arith in
-    let kept : part (words a) x (n - place g) ≡ part (words bs) x (n - place g) = rw ea (part-before bs (at.nodeAt s 0) (grownRows g) x (n - place g) (omega (arith, zero-mul (at.nodeWidth (s .variables)))) (omega (arith, zero-mul (at.nodeWidth (s .variables))))) in
+    let kept : part (words a) x (n - place g) ≡ part (words bs) x (n - place g) = rw ea
+    (part-before bs (at.nodeAt s 0) (grownRows g) x (n - place g) (omega (arith, zero-mul (at.nodeWidth (s .variables)))) (omega (arith, zero-mul (at.nodeWidth (s .variables))))) in
     let row : b ≡ pasteW (pasteW bs (at.nodeAt s 0) (grownRows g)) x (n ∷ part (words bs) x (n - place g)) = eb ∙ rw (sub, eq, ep, kept, ea) in
     ed ∙ putW-paste b at.lengthAt (n + 1) (omega arith) ∙ rw row
 
@@ -176,7 +178,8 @@ module _ (bs : List ℕ) (st : State) (I : Is st bs) (e : Entry) (good : GoodEnt
   abbrev pub half : List (List ℕ)
   half =
       header st ∷ tracked (st .kind) e (st .maxima) ∷ st .mapMaxima
-      ∷ (table (length (st .entries) + 1) (λ i. entryWords (st .kind) (st .variables) (st .mapMaxima) (labelled (st .kind) (st .labels) e) (entryAt (st .entries ++ (numbered (length (st .entries)) e ∷ [])) i))
+      ∷ (table (length (st .entries) + 1) (λ i. entryWords (st .kind) (st .variables) (st .mapMaxima) (labelled (st .kind) (st .labels) e)
+      (entryAt (st .entries ++ (numbered (length (st .entries)) e ∷ [])) i))
       ++ zeros ((st .capacity - (length (st .entries) + 1)) * at.entryWidth (shapeOf st)))
       ∷ (inorder (st .tree) ++ zeros (st .capacity - length (st .entries))) ∷ labelWords (st .kind) (labelled (st .kind) (st .labels) e)
       ∷ (treeWords (st .variables) (st .mapMaxima) (powerIn (st .entries)) (st .tree)
@@ -212,7 +215,8 @@ module _ (bs : List ℕ) (st : State) (I : Is st bs) (e : Entry) (good : GoodEnt
         permutation = length-append (inorder t) _ ∙ omega (arith, length-zeros (c - n), F .all, F .few);
         labels = F′ .label-words;
         tree = lt;
-        nodes-are = length-append (treeWords m xs (powerIn es) t) _ ∙ omega (arith, lt, length-zeros ((2 * c - 1 - nodes t) * at.nodeWidth m), split-rows (nodes t) (2 * c - 1) (at.nodeWidth m) (F .nodes-to));
+        nodes-are = length-append (treeWords m xs (powerIn es) t) _ ∙
+            omega (arith, lt, length-zeros ((2 * c - 1 - nodes t) * at.nodeWidth m), split-rows (nodes t) (2 * c - 1) (at.nodeWidth m) (F .nodes-to));
       }
 
   -- ---- the tree, the permutation and the header
@@ -318,8 +322,10 @@ module _ (bs : List ℕ) (st : State) (I : Is st bs) (e : Entry) (good : GoodEnt
         let z : c - n - 1 ≡ c - (n + 1) = omega arith in
         place-over (inorder t) p n (c - n) (omega (arith, place-in, F .all)) (omega arith) ∙ rw (z, ← insert-inorder J n t, same-tree)
 
-    tree-new : over (treeWords m xs (powerIn es) t ++ zeros ((2 * c - 1 - nodes t) * at.nodeWidth m)) 0 (treeWords m xs pw (insert J n t)) ≡ treeWords m xs pw t′ ++ zeros ((2 * c - 1 - nodes t) * at.nodeWidth m)
-    tree-new = over-mid [] (treeWords m xs (powerIn es) t) (zeros ((2 * c - 1 - nodes t) * at.nodeWidth m)) (treeWords m xs pw (insert J n t)) 0 refl (omega (arith, long-new, lengths .tree)) ∙ rw same-tree
+    tree-new : over (treeWords m xs (powerIn es) t ++ zeros ((2 * c - 1 - nodes t) * at.nodeWidth m)) 0 (treeWords m xs pw (insert J n t)) ≡ treeWords m xs pw t′ ++ zeros
+        ((2 * c - 1 - nodes t) * at.nodeWidth m)
+    tree-new = over-mid [] (treeWords m xs (powerIn es) t) (zeros ((2 * c - 1 - nodes t) * at.nodeWidth m)) (treeWords m xs pw (insert J n t)) 0 refl
+        (omega (arith, long-new, lengths .tree)) ∙ rw same-tree
 
     pieces : list3 ≡ coarse (inserted st e)
     unfolding inserted

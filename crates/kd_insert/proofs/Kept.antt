@@ -39,7 +39,8 @@ pasted-is bs im st val room b e =
     let long : length im ≡ length bs = ap length e ∙ length-pasteW bs 0 (encode st) (omega arith) in
     record { valid = val; room = omega arith; is = ap (part (words im) 0) (sym l) ∙ rw e (part-pasted bs 0 (encode st) w (omega arith)) }
 
-pub insert-keeps : (e : Entry) (r : ℕ) (bs im : List ℕ) → Inserted e r bs im → Bytes im → (st : State) → Is st bs → GoodEntry (st .variables) e → OfKind (st .kind) e → length (st .entries) < st .capacity → Is (inserted st e) im
+pub insert-keeps : (e : Entry) (r : ℕ) (bs im : List ℕ) → Inserted e r bs im → Bytes im → (st : State) → Is st bs → GoodEntry (st .variables) e → OfKind (st .kind) e
+    → length (st .entries) < st .capacity → Is (inserted st e) im
 unfolding inserted
 insert-keeps e r bs im d b st I good ofk few = pasted-is bs im (inserted st e) (inserted-valid st (I .valid) e good few ofk) (I .room) b (d .bytes st I)
 

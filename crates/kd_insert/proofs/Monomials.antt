@@ -58,7 +58,8 @@ pub basics : (bs : List ℕ) (s : Shape) → Room bs s → Basics bs s
 basics bs s R = rw (shape-is bs s (R .head) (R .sound .state) (R .sound .is)) at (basics-of bs (R .sound .state) (R .sound .is))
 
 -- ---- the maxima of the map stay when the present ones are raised
-pub map-tracked : (bs im : List ℕ) (s : Shape) (lm : List ℕ) → Basics bs s → im ≡ pasteW bs at.maximaAt (updated lm (part (words bs) at.maximaAt (s .variables))) → (length im ≡ length bs) × (mapMaxima (words im) s ≡ mapMaxima (words bs) s)
+pub map-tracked : (bs im : List ℕ) (s : Shape) (lm : List ℕ) → Basics bs s → im ≡ pasteW bs at.maximaAt (updated lm (part (words bs) at.maximaAt (s .variables)))
+    → (length im ≡ length bs) × (mapMaxima (words im) s ≡ mapMaxima (words bs) s)
 map-tracked bs im s lm b e =
     let m = s .variables in
     let us = updated lm (part (words bs) at.maximaAt m) in
@@ -189,12 +190,14 @@ monomial-hangs bs im1 im2 lm s B R f =
     let g : First bs lm im1 im2 (shapeOf st) = subst (λ (x : Shape). First bs lm im1 im2 x) (sym q) f in
     subst (λ (x : Shape). Hangs (words im2) x lm 0) q (hangs2 bs B st (R .sound .is) lm (g .1 .1 .0) (code-monomial (st .kind) (g .1 .1 .1 .0)) (g .1 .1 .1 .1) im1 im2 (g .0) (g .1 .0))
 
-pub monomial-inserted : (bs im1 im2 im3 lm : List ℕ) (s : Shape) → Bytes bs → Room bs s → First bs lm im1 im2 s → ((h : Hangs (words im2) s lm 0) → im3 ≡ hung im2 s lm 0 (h .growth)) → Inserted (plain lm) (s .entries) bs im3
+pub monomial-inserted : (bs im1 im2 im3 lm : List ℕ) (s : Shape) → Bytes bs → Room bs s → First bs lm im1 im2 s
+    → ((h : Hangs (words im2) s lm 0) → im3 ≡ hung im2 s lm 0 (h .growth)) → Inserted (plain lm) (s .entries) bs im3
 monomial-inserted bs im1 im2 im3 lm s B R f h = record {
   number = λ st I. ap (λ (x : Shape). x .entries) (sym (shape-is bs s (R .head) st I));
   bytes = λ st I.
       let q = shape-is bs s (R .head) st I in
       let g : First bs lm im1 im2 (shapeOf st) = subst (λ (x : Shape). First bs lm im1 im2 x) (sym q) f in
-      let h′ : (z : Hangs (words im2) (shapeOf st) lm 0) → im3 ≡ hung im2 (shapeOf st) lm 0 (z .growth) = subst (λ (x : Shape). (z : Hangs (words im2) x lm 0) → im3 ≡ hung im2 x lm 0 (z .growth)) (sym q) h in
+      let h′ : (z : Hangs (words im2) (shapeOf st) lm 0) → im3 ≡ hung im2 (shapeOf st) lm 0 (z .growth) = subst
+      (λ (x : Shape). (z : Hangs (words im2) x lm 0) → im3 ≡ hung im2 x lm 0 (z .growth)) (sym q) h in
       finish2 bs B st I lm (g .1 .1 .0) (code-monomial (st .kind) (g .1 .1 .1 .0)) (g .1 .1 .1 .1) im1 im2 (g .0) (g .1 .0) im3 h′;
 }

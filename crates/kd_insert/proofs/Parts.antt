@@ -66,7 +66,8 @@ module _ (bs : List ℕ) (s : Shape) (R : at.InRange s) (room : 4 * at.size s �
   lent-ready S =
       rw part-is (record { state = S .state; is = S .is }, rw (vars-of (labelBytes bs s) (S .state) (S .is) ∙ S .vars) good)
 
-  module _ (ys : List ℕ) (done : (l : map.State) → labels.Is l (take (4 * x + 4 * y - 4 * x) (drop (4 * x) bs)) → ys ≡ pasteW (take (4 * x + 4 * y - 4 * x) (drop (4 * x) bs)) 0 (labels.encode (settled l v)))
+  module _ (ys : List ℕ) (done : (l : map.State) → labels.Is l (take (4 * x + 4 * y - 4 * x) (drop (4 * x) bs))
+      → ys ≡ pasteW (take (4 * x + 4 * y - 4 * x) (drop (4 * x) bs)) 0 (labels.encode (settled l v)))
       (l : map.State) (M : MapIs (words bs) s l) where
     pub is-l : labels.Is l (take (4 * x + 4 * y - 4 * x) (drop (4 * x) bs))
     is-l = rw part-is (is-map bs s R room one l M)
@@ -87,7 +88,8 @@ module _ (bs : List ℕ) (s : Shape) (R : at.InRange s) (room : 4 * at.size s �
     ys-long = ap length (done l is-l) ∙ length-pasteW _ 0 (labels.encode (settled l v)) (omega (arith, long, part-long)) ∙ omega (arith, part-long)
 
     back : take (4 * x + 4 * y - 4 * x) (drop (4 * x) (putMid (4 * x) (4 * x + 4 * y - 4 * x) bs ys)) ≡ ys
-    back = rw (drop-at (take (4 * x) bs) (ys ++ drop (4 * x + 4 * y - 4 * x) (drop (4 * x) bs)) (4 * x) (length-take-le (4 * x) bs (omega (arith, fits)))) (take-at ys _ (4 * x + 4 * y - 4 * x) ys-long)
+    back = rw (drop-at (take (4 * x) bs) (ys ++ drop (4 * x + 4 * y - 4 * x) (drop (4 * x) bs)) (4 * x) (length-take-le (4 * x) bs (omega (arith, fits))))
+        (take-at ys _ (4 * x + 4 * y - 4 * x) ys-long)
 
     pub read-again : labels.Is (settled l v) (take (4 * x + 4 * y - 4 * x) (drop (4 * x) (putMid (4 * x) (4 * x + 4 * y - 4 * x) bs ys)))
     read-again =
@@ -96,7 +98,8 @@ module _ (bs : List ℕ) (s : Shape) (R : at.InRange s) (room : 4 * at.size s �
     pub labels-are : (r : ℕ) → r ≡ rowOf (settled l v) v → Labels s l v r bs (putMid (4 * x) (4 * x + 4 * y - 4 * x) bs ys)
     labels-are r er = record {
       row = er;
-      bytes = lent-back bs x y (4 * x + 4 * y - 4 * x) ys (labels.encode (settled l v)) (omega arith) fits (omega (arith, long)) (done l is-l) ∙ ap (λ (i : ℕ). pasteW bs i (labels.encode (settled l v))) ex;
+      bytes = lent-back bs x y (4 * x + 4 * y - 4 * x) ys (labels.encode (settled l v)) (omega arith) fits (omega (arith, long)) (done l is-l)
+          ∙ ap (λ (i : ℕ). pasteW bs i (labels.encode (settled l v))) ex;
     }
 
 -- ---- the ratio of a signature and an lm
@@ -106,6 +109,7 @@ ratio-good m i a b h hi ca cb = record {
   canonical = canonical-result m a b ca cb Op.Ratio (omega arith) (λ z. absurd (let q : _≡_ {A = ℕ} 0 1 = cc in omega arith));
 }
 
-pub as-quotient : (s : Shape) (l : map.State) (i r : ℕ) (a b ws entry exit : List ℕ) → ws ≡ result Op.Ratio a b → Labels s l (map.valueOf i ws) r entry exit → Labels s l (quotientOf i a b) r entry exit
+pub as-quotient : (s : Shape) (l : map.State) (i r : ℕ) (a b ws entry exit : List ℕ) → ws ≡ result Op.Ratio a b → Labels s l (map.valueOf i ws) r entry exit
+    → Labels s l (quotientOf i a b) r entry exit
 unfolding quotientOf
 as-quotient s l i r a b ws entry exit e h = rw e at h

@@ -58,7 +58,8 @@ basics-labelled bs im s ws b l e =
     let map-is : mapMaxima (words im) s ≡ mapMaxima (words bs) s = rw e (part-before bs (at.labelsAt s) ws (at.mapAt (s .variables)) (s .variables) fit (omega arith)) in
     record { range = b .range; room = omega arith; present = rw present (b .present); map = rw map-is (b .map) }
 
-pub basics-tracked : (im im′ : List ℕ) (s : Shape) (ws : List ℕ) → Basics im s → Canonical 1 (s .variables) ws → im′ ≡ pasteW im at.maximaAt (updated ws (part (words im) at.maximaAt (s .variables))) → Basics im′ s
+pub basics-tracked : (im im′ : List ℕ) (s : Shape) (ws : List ℕ) → Basics im s → Canonical 1 (s .variables) ws
+    → im′ ≡ pasteW im at.maximaAt (updated ws (part (words im) at.maximaAt (s .variables))) → Basics im′ s
 basics-tracked im im′ s ws b can e =
     let m = s .variables in
     let us = updated ws (part (words im) at.maximaAt m) in
@@ -249,7 +250,8 @@ module _ (bs : List ℕ) (B : Bytes bs) (st : State) (I : Is st bs) (i : ℕ) (s
       let ml : length (labels.encode l′) ≡ at.labelsSize (shapeOf st) = map-long in
       let D = draft-step bs bs im0 (coarse st) 5 0 (at.labelsAt s) (labels.encode l′) (start bs st I e good ofk few B) e0
       (omega (arith, L .head, of.fits bs st I .maxima, L .map-is, halves.rows-long bs st I e good ofk few, L .permutation)) (omega arith) (omega (arith, old, ml)) in
-      let z : over (labelWords (st .kind) l) 0 (labels.encode l′) ≡ labelWords (st .kind) l′ = over-all (labelWords (st .kind) l) (labels.encode l′) (omega (arith, old, ml)) ∙ sym (map-words (st .kind) l′ k) in
+      let z : over (labelWords (st .kind) l) 0 (labels.encode l′) ≡ labelWords (st .kind) l′ = over-all (labelWords (st .kind) l) (labels.encode l′)
+      (omega (arith, old, ml)) ∙ sym (map-words (st .kind) l′ k) in
       rw z at D
 
   made : Draft bs im2 (half bs st I e good ofk few)
@@ -275,7 +277,9 @@ module _ (bs : List ℕ) (B : Bytes bs) (st : State) (I : Is st bs) (i : ℕ) (s
 
   -- ---- the label map
   there : part (words im0) (at.labelsAt s) (at.labelsSize s) ≡ labels.encode l′
-  there = ap (λ (x : List ℕ). part (words x) (at.labelsAt s) (at.labelsSize s)) e0 ∙ ap (part (words (pasteW bs (at.labelsAt s) (labels.encode l′))) (at.labelsAt s)) (sym map-long) ∙ part-pasted bs (at.labelsAt s) (labels.encode l′) (encode-small l′ (settles .valid)) map-fits
+  there = ap (λ (x : List ℕ). part (words x) (at.labelsAt s) (at.labelsSize s)) e0
+      ∙ ap (part (words (pasteW bs (at.labelsAt s) (labels.encode l′))) (at.labelsAt s)) (sym map-long)
+      ∙ part-pasted bs (at.labelsAt s) (labels.encode l′) (encode-small l′ (settles .valid)) map-fits
 
   map0 : MapIs (words im0) s l′
   map0 = record { valid = settles .valid; vars = vars′; cap = cap′; is = there }
@@ -362,7 +366,8 @@ module _ (bs : List ℕ) (B : Bytes bs) (s : Shape) (R : Room bs s) (i : ℕ) (s
     pub small : r < s .capacity
     pub basics : Basics im0 s
 
-  pub early : s .kind ≡ 1 → i < 268435456 → Canonical 1 (s .variables) sign → Canonical 1 (s .variables) lm → ((l : map.State) → MapIs (words bs) s l → Labels s l (quotientOf i sign lm) r bs im0) → Early
+  pub early : s .kind ≡ 1 → i < 268435456 → Canonical 1 (s .variables) sign → Canonical 1 (s .variables) lm
+      → ((l : map.State) → MapIs (words bs) s l → Labels s l (quotientOf i sign lm) r bs im0) → Early
   early one hi cs cl d =
       let st = R .sound .state in
       let I = R .sound .is in
@@ -405,6 +410,7 @@ module _ (bs : List ℕ) (B : Bytes bs) (s : Shape) (R : Room bs s) (i : ℕ) (s
       number = λ st I. ap (λ (x : Shape). x .entries) (sym (shape-is bs s (R .head) st I));
       bytes = λ st I.
           let q = shape-is bs s (R .head) st I in
-          let h′ : (z : Hangs (words im2) (shapeOf st) lm lab) → im3 ≡ hung im2 (shapeOf st) lm lab (z .growth) = subst (λ (x : Shape). (z : Hangs (words im2) x lm lab) → im3 ≡ hung im2 x lm lab (z .growth)) (sym q) h in
+          let h′ : (z : Hangs (words im2) (shapeOf st) lm lab) → im3 ≡ hung im2 (shapeOf st) lm lab (z .growth) = subst
+          (λ (x : Shape). (z : Hangs (words im2) x lm lab) → im3 ≡ hung im2 x lm lab (z .growth)) (sym q) h in
           ratio-finish bs B st I i sign lm im0 r lab ima im1 im2 (calls-for st I) im3 h′;
     }

@@ -125,7 +125,8 @@ module _ (bs : List ℕ) (s : Shape) (R : at.InRange s) (room : 4 * at.size s �
   here-at t e =
       let row = nodeWords m xs pw (tagOf t) (keyOf t) (skipOf t) (inorder t) in
       let rest = restOf m xs pw t in
-      let n : nodes t * (at.nodeWidth m) ≡ (at.nodeWidth m) + length rest = sym (long t) ∙ ap length (tree-row m xs pw t) ∙ length-append row rest ∙ omega (arith, wide (tagOf t) (keyOf t) (skipOf t) (inorder t)) in
+      let n : nodes t * (at.nodeWidth m) ≡ (at.nodeWidth m) + length rest = sym (long t) ∙ ap length (tree-row m xs pw t) ∙ length-append row rest
+      ∙ omega (arith, wide (tagOf t) (keyOf t) (skipOf t) (inorder t)) in
       let z = part-append W i (at.nodeWidth m) (length rest) row rest fit (wide (tagOf t) (keyOf t) (skipOf t) (inorder t)) .0 (ap (part W i) (sym n) ∙ e ∙ tree-row m xs pw t) in
       record { row = row-is m xs pw (R .vars-to) (g .power-small) (g .power-absent) W i (tagOf t) (keyOf t) (skipOf t) (inorder t) fit (z .0); row-words = z .0; rest = z .1 }
 

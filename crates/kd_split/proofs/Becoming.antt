@@ -236,14 +236,17 @@ module _ (st : State) (s : Shape) where
           grown = omega (arith, x .grown);
           more = omega (arith, x .more);
           same = omega (arith, both, both₁, x .same);
-          stands = uncut st U s B₁ k lo d key a b₁ rows₁ (omega (arith, x .grown, h .fits)) (tree-became bs bs₁ (k + 1 + nodes a) (lo + count a) rows rows₁ b b₁ (tree-other (words bs) k lo rows d key a b h) x q .rows-to) (omega (arith, h .inside, both, x .same)) (record {
-            here = row-same (s .variables) (st .mapMaxima) (powerIn (st .entries)) U (at.nodeAt s k) (suc d) key (nodes a) (inorder a ++ inorder b) (inorder a ++ inorder b₁) mixed (omega (arith, both, both₁, x .same)) (omega (arith, both, some-one (words bs) k lo rows d key a b h)) here₀;
-            one = record {
-              rows = part-kept W U (at.nodeAt s (k + 1)) (nodes a * w) (omega (arith, ends, fit)) long (λ i l r. kept i (omega (arith, next)) (omega (arith, ends))) ∙ p .one .rows;
-              perm = part-kept W U (at.permutationAt s + lo) (count a) (omega (arith, low, row-in)) long (λ i l r. x .before i (omega arith)) ∙ p .one .perm;
-            };
-            two = x .stands;
-          });
+          stands = uncut st U s B₁ k lo d key a b₁ rows₁ (omega (arith, x .grown, h .fits))
+              (tree-became bs bs₁ (k + 1 + nodes a) (lo + count a) rows rows₁ b b₁ (tree-other (words bs) k lo rows d key a b h) x q .rows-to)
+              (omega (arith, h .inside, both, x .same)) (record {
+                here = row-same (s .variables) (st .mapMaxima) (powerIn (st .entries)) U (at.nodeAt s k) (suc d) key (nodes a) (inorder a ++ inorder b)
+                    (inorder a ++ inorder b₁) mixed (omega (arith, both, both₁, x .same)) (omega (arith, both, some-one (words bs) k lo rows d key a b h)) here₀;
+                one = record {
+                  rows = part-kept W U (at.nodeAt s (k + 1)) (nodes a * w) (omega (arith, ends, fit)) long (λ i l r. kept i (omega (arith, next)) (omega (arith, ends))) ∙ p .one .rows;
+                  perm = part-kept W U (at.permutationAt s + lo) (count a) (omega (arith, low, row-in)) long (λ i l r. x .before i (omega arith)) ∙ p .one .perm;
+                };
+                two = x .stands;
+              });
           before = λ i l. x .before i (omega arith);
           between = λ i l r. x .between i (omega (arith, both)) (omega (arith, next, ends));
           later = λ i l. moved (e-sum b) (e-sum b₁) i (x .later i (omega (arith, ap (at.nodeAt s) (e-sum b))));
@@ -253,7 +256,8 @@ module _ (st : State) (s : Shape) where
         e-sum : (c : Tree) → k + nodes (branch d key a c) ≡ k + 1 + nodes a + nodes c
         e-sum c = omega (arith, nodes-branch d key a c)
 
-        moved : {m n m₁ n₁ : ℕ} → n ≡ m → n₁ ≡ m₁ → (i : ℕ) → getD (words bs₁) (at.nodeAt s m₁ + i) 0 ≡ getD (words bs) (at.nodeAt s m + i) 0 → getD (words bs₁) (at.nodeAt s n₁ + i) 0 ≡ getD (words bs) (at.nodeAt s n + i) 0
+        moved : {m n m₁ n₁ : ℕ} → n ≡ m → n₁ ≡ m₁ → (i : ℕ) → getD (words bs₁) (at.nodeAt s m₁ + i) 0 ≡ getD (words bs) (at.nodeAt s m + i) 0
+            → getD (words bs₁) (at.nodeAt s n₁ + i) 0 ≡ getD (words bs) (at.nodeAt s n + i) 0
         moved e f i z = rw (e, f) z
 
     -- ---- the less side became another, and the skip was written
@@ -292,18 +296,21 @@ module _ (st : State) (s : Shape) where
           count-is = kept (at.nodeAt s k + 2) (omega (arith, low)) (omega (arith, next)) (λ e. omega arith) ∙ r₀ .count-is;
           skip-is = rw set-is (getD-set-same U (at.nodeAt s k + 3) (nodes a₁) 0 (omega (arith, row-in, long₁)));
           mask-is = kept (at.nodeAt s k + 4) (omega (arith, low)) (omega (arith, next)) (λ e. omega arith) ∙ r₀ .mask-is;
-          slot-is = part-kept W X (at.nodeAt s k + 5) (s .variables + 1) (omega (arith, row-in)) (long₂ ∙ long₁) (λ i l r. kept i (omega (arith, low)) (omega (arith, next)) (λ e. omega arith)) ∙ r₀ .slot-is;
+          slot-is = part-kept W X (at.nodeAt s k + 5) (s .variables + 1) (omega (arith, row-in)) (long₂ ∙ long₁)
+              (λ i l r. kept i (omega (arith, low)) (omega (arith, next)) (λ e. omega arith)) ∙ r₀ .slot-is;
         } in
         let mixed : Same (inorder a ++ inorder b) (inorder a₁ ++ inorder b) = λ n. simp (occurs-append, q .same n) in
         let B₁ : Based st X s = record { valid = B .valid; vars = B .vars; range = B .range; room = omega (arith, long₁, long₂, B .room) } in
         record {
           long = rw w₂ (length-putW bs₁ (at.nodeAt s k + 3) (nodes a₁)) ∙ x .long;
-          rest = rw w₂ (put-rest bs₁ (at.nodeAt s k + 3) (nodes a₁) (at.size s) (omega (arith, next, node-le s (k + 1) (2 * s .capacity - 1) (omega (arith, h .fits, h .rows-to)))) (omega (arith, B .room, length-words bs, x .long))) ∙ x .rest;
+          rest = rw w₂ (put-rest bs₁ (at.nodeAt s k + 3) (nodes a₁) (at.size s)
+              (omega (arith, next, node-le s (k + 1) (2 * s .capacity - 1) (omega (arith, h .fits, h .rows-to)))) (omega (arith, B .room, length-words bs, x .long))) ∙ x .rest;
           grown = omega (arith, x .grown);
           more = omega (arith, x .more);
           same = omega (arith, both, both₁, x .same);
           stands = uncut st X s B₁ k lo d key a₁ b rows₁ (omega (arith, x .grown, h .fits)) (hl .rows-to) (omega (arith, h .inside, both, x .same)) (record {
-            here = row-same (s .variables) (st .mapMaxima) (powerIn (st .entries)) X (at.nodeAt s k) (suc d) key (nodes a₁) (inorder a ++ inorder b) (inorder a₁ ++ inorder b) mixed (omega (arith, both, both₁, x .same)) (omega (arith, both, some-one (words bs) k lo rows d key a b h)) here₀;
+            here = row-same (s .variables) (st .mapMaxima) (powerIn (st .entries)) X (at.nodeAt s k) (suc d) key (nodes a₁) (inorder a ++ inorder b)
+                (inorder a₁ ++ inorder b) mixed (omega (arith, both, both₁, x .same)) (omega (arith, both, some-one (words bs) k lo rows d key a b h)) here₀;
             one = record {
               rows = part-kept U X (at.nodeAt s (k + 1)) (nodes a₁ * w) (omega (arith, ends₁, ends₂, last₁)) long₂ (λ i l r. put i (λ e. omega (arith, next))) ∙ x .stands .rows;
               perm = part-kept U X (at.permutationAt s + lo) (count a₁) (omega (arith, low, row-in, long₁, x .same)) long₂ (λ i l r. put i (λ e. omega (arith, low, x .same))) ∙ x .stands .perm;
@@ -311,13 +318,15 @@ module _ (st : State) (s : Shape) where
             two = record {
               rows = part-same W X (at.nodeAt s (k + 1 + nodes a)) (at.nodeAt s (k + 1 + nodes a₁)) (nodes b * w) (omega (arith, e1, last)) (omega (arith, ends₂, last₁, long₂))
                   (λ i l. put (at.nodeAt s (k + 1 + nodes a₁) + i) (λ e. omega (arith, next, ends₁)) ∙ x .later i (omega (arith, e1, end-in))) ∙ p .two .rows;
-              perm = part-same W X (at.permutationAt s + (lo + count a)) (at.permutationAt s + (lo + count a₁)) (count b) (omega (arith, low, row-in)) (omega (arith, low, row-in, long₁, long₂, x .same))
+              perm = part-same W X (at.permutationAt s + (lo + count a)) (at.permutationAt s + (lo + count a₁)) (count b) (omega (arith, low, row-in))
+                  (omega (arith, low, row-in, long₁, long₂, x .same))
                   (λ i l. same-place i (x .same) (kept (at.permutationAt s + (lo + count a) + i) (omega arith) (omega (arith, low, next)) (λ e. omega (arith, low)))) ∙ p .two .perm;
             };
           });
           before = λ i l. put i (λ e. omega (arith, low)) ∙ x .before i l;
           between = λ i l r. put i (λ e. omega arith) ∙ x .between i (omega (arith, both)) (omega (arith, next));
-          later = λ i l. shifted (nodes b * w + i) i (omega (arith, e2)) (omega (arith, e1)) (put (at.nodeAt s (k + 1 + nodes a₁) + (nodes b * w + i)) (λ e. omega (arith, next, ends₁)) ∙ x .later (nodes b * w + i) (omega (arith, e1)));
+          later = λ i l. shifted (nodes b * w + i) i (omega (arith, e2)) (omega (arith, e1))
+              (put (at.nodeAt s (k + 1 + nodes a₁) + (nodes b * w + i)) (λ e. omega (arith, next, ends₁)) ∙ x .later (nodes b * w + i) (omega (arith, e1)));
           behind = λ i l. put i (λ e. omega (arith, next, node-le s (k + 1) rows₁ (omega (arith, hl .fits)))) ∙ x .behind i l;
         }
       where

@@ -94,7 +94,8 @@ module _ (bs : List ℕ) (s : Shape) (k lo rows c d x key : ℕ) (u : Splittable
       }
 
   pub less-few : (n : ℕ) → n ≡ length (lesses (words bs) s d x lo c) → n ≤ c
-  less-few n en = let z = stood (u .state) (u .es) (u .has) in let e : n ≡ length (keep (onSide pw₀ d x true) (u .es)) = en ∙ rw (z .are) refl in omega (arith, e, sides-length pw₀ d x (u .es), z .count)
+  less-few n en = let z = stood (u .state) (u .es) (u .has) in let e : n ≡ length (keep (onSide pw₀ d x true) (u .es)) = en
+      ∙ rw (z .are) refl in omega (arith, e, sides-length pw₀ d x (u .es), z .count)
 
   module _ (bs₁ : List ℕ) (by₁ : Bytes bs₁) (e₁ : bs₁ ≡ pasteW bs (at.permutationAt s + lo) (lesses (words bs) s d x lo c ++ others (words bs) s d x lo c)) where
     one : (st : State) (es : List ℕ) → Stood st es → Wrote bs bs₁ (at.permutationAt s + lo) (keep (onSide (keyIn (words bs) s) d x true) es ++ keep (onSide (keyIn (words bs) s) d x false) es)
@@ -107,10 +108,12 @@ module _ (bs : List ℕ) (s : Shape) (k lo rows c d x key : ℕ) (u : Splittable
         (omega (arith, la, sides-length pw₀ d x es, z .count, r .low, r .three, r .in-size, r .room)) (rw (z .are) at e₁)
 
     module _ (bs₂ bs₃ : List ℕ) (q : ℕ)
-        (e₂ : bs₂ ≡ pasteW bs₁ (at.nodeAt s k + (s .variables + 6) + 2 * (s .variables + 6)) (part (words bs₁) (at.nodeAt s k + (s .variables + 6)) (at.nodeAt s rows - (at.nodeAt s k + (s .variables + 6)))))
+        (e₂ : bs₂ ≡ pasteW bs₁ (at.nodeAt s k + (s .variables + 6) + 2 * (s .variables + 6))
+        (part (words bs₁) (at.nodeAt s k + (s .variables + 6)) (at.nodeAt s rows - (at.nodeAt s k + (s .variables + 6)))))
         (eq : q ≡ getD (words bs₂) (at.nodeAt s k + 4) 0)
         (e₃ : bs₃ ≡ pasteW bs₂ (at.nodeAt s k) ((d + 1) ∷ key ∷ c ∷ 1 ∷ q ∷ [])) where
-      two : (st : State) (es : List ℕ) → Stood st es → Wrote bs₁ bs₂ (at.nodeAt s k + (s .variables + 6) + 2 * (s .variables + 6)) (part (words bs₁) (at.nodeAt s k + (s .variables + 6)) (at.nodeAt s rows - (at.nodeAt s k + (s .variables + 6))))
+      two : (st : State) (es : List ℕ) → Stood st es → Wrote bs₁ bs₂ (at.nodeAt s k + (s .variables + 6) + 2 * (s .variables + 6))
+          (part (words bs₁) (at.nodeAt s k + (s .variables + 6)) (at.nodeAt s rows - (at.nodeAt s k + (s .variables + 6))))
       two st es z =
           let N = split-numbers in
           let l₁ = one st es z .long in
@@ -123,7 +126,8 @@ module _ (bs : List ℕ) (s : Shape) (k lo rows c d x key : ℕ) (u : Splittable
           let N = split-numbers in
           let w₂ = two st es z in
           let small-q : q < 2 ^ 32 = omega (arith, eq, w₂ .before (A + 4) (omega arith), words-small bs₁ by₁ (A + 4)) in
-          let all : Small ((d + 1) ∷ key ∷ c ∷ 1 ∷ q ∷ []) = small-cons (omega (arith, N .dim)) (small-cons small-x (small-cons (omega (arith, N .count)) (small-cons (omega arith) (small-cons small-q small-nil)))) in
+          let all : Small ((d + 1) ∷ key ∷ c ∷ 1 ∷ q ∷ []) = small-cons (omega (arith, N .dim))
+          (small-cons small-x (small-cons (omega (arith, N .count)) (small-cons (omega arith) (small-cons small-q small-nil)))) in
           wrote bs₂ bs₃ A ((d + 1) ∷ key ∷ c ∷ 1 ∷ q ∷ []) (all .each) (omega (arith, N .three, w₂ .long, one st es z .long)) e₃
 
       held₃ : (st : State) (es : List ℕ) → Stood st es → Holds st (words bs₃) s
@@ -140,12 +144,14 @@ module _ (bs : List ℕ) (s : Shape) (k lo rows c d x key : ℕ) (u : Splittable
         n-is : (st : State) (es : List ℕ) → Stood st es → n ≡ length (keep (onSide (keyIn (words bs) s) d x true) es)
         n-is st es z = en ∙ rw (z .are) refl
 
-        four : (st : State) (es : List ℕ) → Stood st es → Wrote bs₃ bs₄ (at.nodeAt s k + (s .variables + 6)) (nodeWords (s .variables) (st .mapMaxima) (powerIn (st .entries)) 0 0 0 (keep (onSide (keyIn (words bs) s) d x true) es))
+        four : (st : State) (es : List ℕ) → Stood st es → Wrote bs₃ bs₄ (at.nodeAt s k + (s .variables + 6))
+            (nodeWords (s .variables) (st .mapMaxima) (powerIn (st .entries)) 0 0 0 (keep (onSide (keyIn (words bs) s) d x true) es))
         four st es z =
             let N = split-numbers in
             let Ls = keep (onSide pw₀ d x true) es in
             let H = held₃ st es z in
-            let ent : entriesFrom (words bs₃) s lo n ≡ Ls = rw (n-is st es z) (less-entries st s bs k lo rows c d x key es (z .has) (z .count) (u .many) pw₀ bs₁ (one st es z) bs₂ bs₃ q (two st es z) eq (three st es z)) in
+            let ent : entriesFrom (words bs₃) s lo n ≡ Ls = rw (n-is st es z)
+            (less-entries st s bs k lo rows c d x key es (z .has) (z .count) (u .many) pw₀ bs₁ (one st es z) bs₂ bs₃ q (two st es z) eq (three st es z)) in
             let same = leaf-words st (words bs₃) s lo n Ls H ent (small-less st s bs k lo rows c d x key es (z .has) (z .count) (u .many) pw₀) in
             let small = rw same at (leaf-small (words bs₃) s lo n (N .vars) (rw ent (omega (arith, sides-length pw₀ d x es, z .count, N .count)))) in
             let l = length-row st W s (based (z .has .holds)) 0 0 0 Ls in
@@ -167,13 +173,16 @@ module _ (bs : List ℕ) (s : Shape) (k lo rows c d x key : ℕ) (u : Splittable
             let N = split-numbers in
             let Os = keep (onSide pw₀ d x false) es in
             let H = held₄ st es z in
-            let ent : entriesFrom (words bs₄) s (lo + n) (c - n) ≡ Os = rw (n-is st es z) (other-entries st s bs k lo rows c d x key es (z .has) (z .count) (u .many) pw₀ bs₁ (one st es z) bs₂ bs₃ q (two st es z) eq (three st es z) bs₄ (four st es z)) in
+            let ent : entriesFrom (words bs₄) s (lo + n) (c - n) ≡ Os = rw (n-is st es z)
+            (other-entries st s bs k lo rows c d x key es (z .has) (z .count) (u .many) pw₀ bs₁ (one st es z) bs₂ bs₃ q (two st es z) eq (three st es z) bs₄ (four st es z)) in
             let same = leaf-words st (words bs₄) s (lo + n) (c - n) Os H ent (small-other st s bs k lo rows c d x key es (z .has) (z .count) (u .many) pw₀) in
             let small = rw same at (leaf-small (words bs₄) s (lo + n) (c - n) (N .vars) (rw ent (omega (arith, sides-length pw₀ d x es, z .count, N .count)))) in
             let l = length-row st W s (based (z .has .holds)) 0 0 0 Os in
             let five : Wrote bs₄ bs₅ (A + 2 * w) (nodeWords (s .variables) (st .mapMaxima) (powerIn (st .entries)) 0 0 0 Os) =
             wrote bs₄ bs₅ (A + 2 * w) (nodeWords (s .variables) (st .mapMaxima) (powerIn (st .entries)) 0 0 0 Os) small (omega (arith, l, N .three, long₄)) (rw same at e₅) in
-            turned (ek ∙ rw (z .are) refl) (split-became st s bs k lo rows c d x key es (z .has) (z .count) (u .many) pw₀ bs₁ (one st es z) bs₂ bs₃ q (two st es z) eq (three st es z) bs₄ (four st es z) bs₅ five)
+            turned (ek ∙ rw (z .are) refl) (split-became st s bs k lo rows c d x key es (z .has) (z .count) (u .many) pw₀ bs₁ (one st es z) bs₂ bs₃ q (two st es z) eq
+            (three st es z) bs₄ (four st es z) bs₅ five)
           where
-            turned : {a b : ℕ} {st : State} {es Ls Os : List ℕ} → a ≡ b → Became st bs bs₅ s k lo rows (rows + 2) (leaf es) (branch d a (leaf Ls) (leaf Os)) → Became st bs bs₅ s k lo rows (rows + 2) (leaf es) (branch d b (leaf Ls) (leaf Os))
+            turned : {a b : ℕ} {st : State} {es Ls Os : List ℕ} → a ≡ b → Became st bs bs₅ s k lo rows (rows + 2) (leaf es) (branch d a (leaf Ls) (leaf Os))
+                → Became st bs bs₅ s k lo rows (rows + 2) (leaf es) (branch d b (leaf Ls) (leaf Os))
             turned e y = rw e at y

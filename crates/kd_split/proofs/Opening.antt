@@ -87,7 +87,8 @@ pick true c r = some c
 pick false c r = r
 
 try-pick : (f : ℕ → ℕ → ℕ) (mk : ℕ → ℕ → List ℕ → ℕ) (D i n : ℕ) (es : List ℕ)
-    → tryFrom f mk D (suc i) n es ≡ pick (ltb (least (f (n % D)) es) (greatest (f (n % D)) es)) (cut f mk (n % D) (average (least (f (n % D)) es) (greatest (f (n % D)) es)) es) (tryFrom f mk D i (suc n) es)
+    → tryFrom f mk D (suc i) n es ≡ pick (ltb (least (f (n % D)) es) (greatest (f (n % D)) es))
+    (cut f mk (n % D) (average (least (f (n % D)) es) (greatest (f (n % D)) es)) es) (tryFrom f mk D i (suc n) es)
 unfolding tryFrom pick
 try-pick f mk D i n es = go (ltb (least (f (n % D)) es) (greatest (f (n % D)) es)) (cut f mk (n % D) (average (least (f (n % D)) es) (greatest (f (n % D)) es)) es) (tryFrom f mk D i (suc n) es)
   where
@@ -96,12 +97,19 @@ try-pick f mk D i n es = go (ltb (least (f (n % D)) es) (greatest (f (n % D)) es
     go false c r = refl
 
 -- the same keys and marks, the same split
-try-ext : (f g : ℕ → ℕ → ℕ) (mf mg : ℕ → ℕ → List ℕ → ℕ) (D i n : ℕ) (es : List ℕ) → ((d e : ℕ) → e ∈ es → f d e ≡ g d e) → ((d m : ℕ) (xs : List ℕ) → ((e : ℕ) → e ∈ xs → e ∈ es) → mf d m xs ≡ mg d m xs)
+try-ext : (f g : ℕ → ℕ → ℕ) (mf mg : ℕ → ℕ → List ℕ → ℕ) (D i n : ℕ) (es : List ℕ) → ((d e : ℕ) → e ∈ es → f d e ≡ g d e)
+    → ((d m : ℕ) (xs : List ℕ) → ((e : ℕ) → e ∈ xs → e ∈ es) → mf d m xs ≡ mg d m xs)
     → tryFrom f mf D i n es ≡ tryFrom g mg D i n es
 try-ext f g mf mg D zero n es h k = try-zero f mf D n es ∙ sym (try-zero g mg D n es)
 try-ext f g mf mg D (suc i) n es h k =
     try-pick f mf D i n es
-    ∙ rw (least-ext (f (n % D)) (g (n % D)) es (h (n % D)), greatest-ext (f (n % D)) (g (n % D)) es (h (n % D)), cut-ext f g mf mg (n % D) (average (least (g (n % D)) es) (greatest (g (n % D)) es)) es (h (n % D)) (k (n % D) (average (least (g (n % D)) es) (greatest (g (n % D)) es))), try-ext f g mf mg D i (suc n) es h k) (sym (try-pick g mg D i n es))
+    ∙ rw (
+      least-ext (f (n % D)) (g (n % D)) es (h (n % D)),
+      greatest-ext (f (n % D)) (g (n % D)) es (h (n % D)),
+      cut-ext f g mf mg (n % D) (average (least (g (n % D)) es) (greatest (g (n % D)) es)) es (h (n % D))
+          (k (n % D) (average (least (g (n % D)) es) (greatest (g (n % D)) es))),
+      try-ext f g mf mg D i (suc n) es h k,
+    ) (sym (try-pick g mg D i n es))
 
 -- ---- keys and marks by the state
 skip-one : (z x y : ℕ) (ys : List ℕ) → z ∈ (x ∷ ys) → z ∈ (x ∷ y ∷ ys)
@@ -245,7 +253,8 @@ module _ (bs : List ℕ) (s : Shape) (k lo rows : ℕ) where
     pub leaf-here : (c : ℕ) → c ≡ getD (words bs) (at.nodeAt s k + 2) 0 → Standing bs s k lo rows → LeafHere c
     leaf-here c e w = let l = is-leaf (w .state) (w .tree) (w .has) in record { few = omega (arith, l .count, l .has .inside); is = e }
 
-    module _ (c : ℕ) (ec : c ≡ getD (words bs) (at.nodeAt s k + 2) 0) (many : 64 < c) (dim : ℕ) (D : Dimension) (C : Chose (keyIn (words bs) s) (markIn (words bs) s) (dims s) (dims s) dim (entriesFrom (words bs) s lo c) D) where
+    module _ (c : ℕ) (ec : c ≡ getD (words bs) (at.nodeAt s k + 2) 0) (many : 64 < c) (dim : ℕ) (D : Dimension)
+        (C : Chose (keyIn (words bs) s) (markIn (words bs) s) (dims s) (dims s) dim (entriesFrom (words bs) s lo c) D) where
       entries-are : (st : State) (t : Tree) (l : IsLeaf st t) → entriesFrom (words bs) s lo c ≡ l .es
       entries-are st t l = let e : c ≡ length (l .es) = ec ∙ l .count in rw e (l .has .stands .perm)
 
@@ -254,13 +263,16 @@ module _ (bs : List ℕ) (s : Shape) (k lo rows : ℕ) where
       node-flat e st t w =
           let l = is-leaf st t w in
           let n : tryFrom (keyIn (words bs) s) (markIn (words bs) s) (dims s) (dims s) dim (l .es) ≡ none = rw (entries-are st t l) at (flat e C) in
-          as-zero st dim t l (splitRoot-stays st dim (l .es) true none (lt-ltb 64 (length (l .es)) (omega (arith, l .count))) (split-is st (words bs) s k lo rows dim (l .es) (l .has) ∙ n) ∙ leaf-none (l .es))
+          as-zero st dim t l (splitRoot-stays st dim (l .es) true none (lt-ltb 64 (length (l .es)) (omega (arith, l .count)))
+          (split-is st (words bs) s k lo rows dim (l .es) (l .has) ∙ n) ∙ leaf-none (l .es))
         where
-          flat : {D : Dimension} → D ≡ Flat → Chose (keyIn (words bs) s) (markIn (words bs) s) (dims s) (dims s) dim (entriesFrom (words bs) s lo c) D → tryFrom (keyIn (words bs) s) (markIn (words bs) s) (dims s) (dims s) dim (entriesFrom (words bs) s lo c) ≡ none
+          flat : {D : Dimension} → D ≡ Flat → Chose (keyIn (words bs) s) (markIn (words bs) s) (dims s) (dims s) dim (entriesFrom (words bs) s lo c) D
+              → tryFrom (keyIn (words bs) s) (markIn (words bs) s) (dims s) (dims s) dim (entriesFrom (words bs) s lo c) ≡ none
           flat e x = rw e at x
 
       record Chosen (a : Average) : Type 0 where
-        is : tryFrom (keyIn (words bs) s) (markIn (words bs) s) (dims s) (dims s) dim (entriesFrom (words bs) s lo c) ≡ some (cut (keyIn (words bs) s) (markIn (words bs) s) (a .dim) (a .value) (entriesFrom (words bs) s lo c))
+        is : tryFrom (keyIn (words bs) s) (markIn (words bs) s) (dims s) (dims s) dim (entriesFrom (words bs) s lo c) ≡ some
+            (cut (keyIn (words bs) s) (markIn (words bs) s) (a .dim) (a .value) (entriesFrom (words bs) s lo c))
         small : a .dim < dims s
 
       chosen : (a : Average) → D ≡ At a → Chosen a
@@ -272,12 +284,15 @@ module _ (bs : List ℕ) (s : Shape) (k lo rows : ℕ) where
           let l = is-leaf (w .state) (w .tree) (w .has) in
           record { state = w .state; es = l .es; has = l .has; count = ec ∙ l .count; many = many; dim = chosen a e .small }
 
-      cut-is : (d m : ℕ) (es : List ℕ) → branch (cut (keyIn (words bs) s) (markIn (words bs) s) d m es .dim) (cut (keyIn (words bs) s) (markIn (words bs) s) d m es .key) (leaf (cut (keyIn (words bs) s) (markIn (words bs) s) d m es .less)) (leaf (cut (keyIn (words bs) s) (markIn (words bs) s) d m es .other))
-          ≡ branch d (markIn (words bs) s d m (keep (onSide (keyIn (words bs) s) d m false) es)) (leaf (keep (onSide (keyIn (words bs) s) d m true) es)) (leaf (keep (onSide (keyIn (words bs) s) d m false) es))
+      cut-is : (d m : ℕ) (es : List ℕ) → branch (cut (keyIn (words bs) s) (markIn (words bs) s) d m es .dim) (cut (keyIn (words bs) s) (markIn (words bs) s) d m es .key)
+          (leaf (cut (keyIn (words bs) s) (markIn (words bs) s) d m es .less)) (leaf (cut (keyIn (words bs) s) (markIn (words bs) s) d m es .other))
+          ≡ branch d (markIn (words bs) s d m (keep (onSide (keyIn (words bs) s) d m false) es)) (leaf (keep (onSide (keyIn (words bs) s) d m true) es))
+          (leaf (keep (onSide (keyIn (words bs) s) d m false) es))
       unfolding cut onSide
       cut-is d m es = refl
 
-      as-more : (st : State) (t : Tree) (d key : ℕ) (x y : Tree) (bs′ : List ℕ) (n : ℕ) → 0 < n → splitRoot (split st) dim t ≡ branch d key x y → Became st bs bs′ s k lo rows n t (branch d key x y) → RootSplitAs st bs bs′ s dim k lo rows t n
+      as-more : (st : State) (t : Tree) (d key : ℕ) (x y : Tree) (bs′ : List ℕ) (n : ℕ) → 0 < n → splitRoot (split st) dim t ≡ branch d key x y
+          → Became st bs bs′ s k lo rows n t (branch d key x y) → RootSplitAs st bs bs′ s dim k lo rows t n
       unfolding RootSplitAs
       as-more st t d key x y bs′ zero h e b = absurd (omega arith)
       as-more st t d key x y bs′ (suc n) h e b = record { d = d; key = key; less = x; other = y; splitRoot-is = e; became = b }
@@ -287,10 +302,13 @@ module _ (bs : List ℕ) (s : Shape) (k lo rows : ℕ) where
       node-split a e bs′ S st t w =
           let l = is-leaf st t w in
           let es = l .es in
-          let y : tryFrom (keyIn (words bs) s) (markIn (words bs) s) (dims s) (dims s) dim es ≡ some (cut (keyIn (words bs) s) (markIn (words bs) s) (a .dim) (a .value) es) = rw (entries-are st t l) at (chosen a e .is) in
-          let o : splitRoot (split st) dim t ≡ branch (a .dim) (markIn (words bs) s (a .dim) (a .value) (keep (onSide (keyIn (words bs) s) (a .dim) (a .value) false) es)) (leaf (keep (onSide (keyIn (words bs) s) (a .dim) (a .value) true) es)) (leaf (keep (onSide (keyIn (words bs) s) (a .dim) (a .value) false) es)) =
+          let y : tryFrom (keyIn (words bs) s) (markIn (words bs) s) (dims s) (dims s) dim es ≡ some
+          (cut (keyIn (words bs) s) (markIn (words bs) s) (a .dim) (a .value) es) = rw (entries-are st t l) at (chosen a e .is) in
+          let o : splitRoot (split st) dim t ≡ branch (a .dim) (markIn (words bs) s (a .dim) (a .value) (keep (onSide (keyIn (words bs) s) (a .dim) (a .value) false) es))
+          (leaf (keep (onSide (keyIn (words bs) s) (a .dim) (a .value) true) es)) (leaf (keep (onSide (keyIn (words bs) s) (a .dim) (a .value) false) es)) =
           ap (splitRoot (split st) dim) (l .is)
-          ∙ splitRoot-stays st dim es true (some (cut (keyIn (words bs) s) (markIn (words bs) s) (a .dim) (a .value) es)) (lt-ltb 64 (length es) (omega (arith, l .count))) (split-is st (words bs) s k lo rows dim es (l .has) ∙ y)
+          ∙ splitRoot-stays st dim es true (some (cut (keyIn (words bs) s) (markIn (words bs) s) (a .dim) (a .value) es))
+          (lt-ltb 64 (length es) (omega (arith, l .count))) (split-is st (words bs) s k lo rows dim es (l .has) ∙ y)
           ∙ leaf-some es (cut (keyIn (words bs) s) (markIn (words bs) s) (a .dim) (a .value) es) ∙ cut-is (a .dim) (a .value) es in
           as-more st t (a .dim) _ _ _ bs′ (rows + 2) (omega arith) o (turned (l .is) (S st es (l .has)))
         where

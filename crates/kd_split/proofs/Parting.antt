@@ -120,7 +120,8 @@ module _ (W : List ℕ) (s : Shape) (R : walk.Ready W s) (v lo c p : ℕ) (hc : 
         greatest-is = eb ∙ rw (q .snoc, greatest-snoc (keyIn W s v) (entriesFrom W s lo i) e pos, ← ex, ← E .greatest-is) refl;
       }
 
-pub extremes-small : (W : List ℕ) (s : Shape) (v : ℕ) (es : List ℕ) (a b : ℕ) → ((d e : ℕ) → keyIn W s d e ≤ 4294967295) → a ≡ least (keyIn W s v) es → b ≡ greatest (keyIn W s v) es → (a ≤ 4294967295) × (b ≤ 4294967295)
+pub extremes-small : (W : List ℕ) (s : Shape) (v : ℕ) (es : List ℕ) (a b : ℕ) → ((d e : ℕ) → keyIn W s d e ≤ 4294967295) → a ≡ least (keyIn W s v) es
+    → b ≡ greatest (keyIn W s v) es → (a ≤ 4294967295) × (b ≤ 4294967295)
 extremes-small W s v es a b h ea eb =
     (omega (arith, least-most (keyIn W s v) 4294967295 es (h v)), omega (arith, greatest-most (keyIn W s v) 4294967295 es (h v)))
 
@@ -197,7 +198,8 @@ module _ (pw : ℕ → ℕ → ℕ) (mark : ℕ → ℕ → List ℕ → ℕ) (D
       let u : tryFrom pw mark D (D - i) (n + i) es ≡ tryFrom pw mark D (D - (i + 1)) (suc (n + i)) es = rw z (try-no (D - (i + 1)) (n + i) a b ea eb l) in
       t ∙ (rw y at u)
 
-  pub tried-hit : (i a b : ℕ) → i < D → (n + i) % D < D → a ≡ least (pw ((n + i) % D)) es → b ≡ greatest (pw ((n + i) % D)) es → a < b → Tried i → Chose pw mark D D n es (At (record { dim = (n + i) % D; value = (a + b + 1) / 2 }))
+  pub tried-hit : (i a b : ℕ) → i < D → (n + i) % D < D → a ≡ least (pw ((n + i) % D)) es → b ≡ greatest (pw ((n + i) % D)) es → a < b → Tried i
+      → Chose pw mark D D n es (At (record { dim = (n + i) % D; value = (a + b + 1) / 2 }))
   unfolding Tried Chose
   tried-hit i a b h m ea eb l t =
       let z : D - i ≡ suc (D - (i + 1)) = omega arith in
@@ -213,7 +215,8 @@ unfolding keep
 keep-joined p [] ys = refl
 keep-joined p (x ∷ xs) ys = go (p x) (keep-joined p xs ys)
   where
-    go : (b : Bool) → keep p (xs ++ ys) ≡ keep p xs ++ keep p ys → elim b [ true ↦ x ∷ keep p (xs ++ ys) | false ↦ keep p (xs ++ ys) ] ≡ elim b [ true ↦ x ∷ keep p xs | false ↦ keep p xs ] ++ keep p ys
+    go : (b : Bool) → keep p (xs ++ ys) ≡ keep p xs ++ keep p ys → elim b [ true ↦ x ∷ keep p (xs ++ ys) | false ↦ keep p (xs ++ ys) ] ≡ elim b
+        [ true ↦ x ∷ keep p xs | false ↦ keep p xs ] ++ keep p ys
     go true ih = rw ih refl
     go false ih = ih
 
@@ -231,7 +234,8 @@ push-few p e m h = omega (arith, keep-most p (e ∷ []))
 pub push-room : (p : ℕ → Bool) (e : ℕ) (b : Bool) (bs : List ℕ) (o : ℕ) → b ≡ p e → b ≡ true → 4 * (o + length (keep p (e ∷ []))) ≤ length bs → 4 * o + 4 ≤ length bs
 push-room p e b bs o eb t h = let z : length (keep p (e ∷ [])) ≡ 1 = rw (keep-one p e true (sym eb ∙ t)) refl in omega (arith, z)
 
-pub push-yes : (p : ℕ → Bool) (e : ℕ) (b : Bool) (bs bs′ : List ℕ) (o : ℕ) → b ≡ p e → b ≡ true → 4 * o + 4 ≤ length bs → bs′ ≡ putW bs o e → (_≡_ {A = ℕ} 1 (length (keep p (e ∷ [])))) × (bs′ ≡ pasteW bs o (keep p (e ∷ [])))
+pub push-yes : (p : ℕ → Bool) (e : ℕ) (b : Bool) (bs bs′ : List ℕ) (o : ℕ) → b ≡ p e → b ≡ true → 4 * o + 4 ≤ length bs → bs′ ≡ putW bs o e
+    → (_≡_ {A = ℕ} 1 (length (keep p (e ∷ [])))) × (bs′ ≡ pasteW bs o (keep p (e ∷ [])))
 push-yes p e b bs bs′ o eb t r w =
     let k = keep-one p e true (sym eb ∙ t) in
     (rw k refl, w ∙ putW-paste bs o e r ∙ rw k refl)
@@ -258,7 +262,8 @@ module _ (W : List ℕ) (s : Shape) (p : ℕ → Bool) (lo : ℕ) (out₀ : List
   prefix : (i c : ℕ) → i ≤ c → length (keep p (entriesFrom W s lo i)) ≤ length (keep p (entriesFrom W s lo c))
   prefix i c h =
       let e : i + (c - i) ≡ c = omega arith in
-      let z : entriesFrom W s lo c ≡ entriesFrom W s lo i ++ part W (at.permutationAt s + lo + i) (c - i) = ap (part W (at.permutationAt s + lo)) (sym e) ∙ part-add W (at.permutationAt s + lo) i (c - i) in
+      let z : entriesFrom W s lo c ≡ entriesFrom W s lo i ++ part W (at.permutationAt s + lo + i) (c - i) = ap (part W (at.permutationAt s + lo)) (sym e)
+      ∙ part-add W (at.permutationAt s + lo) i (c - i) in
       let k = ap (length {A = ℕ}) (ap (keep p) z ∙ keep-joined p (entriesFrom W s lo i) (part W (at.permutationAt s + lo + i) (c - i))) in
       omega (arith, k, length-append (keep p (entriesFrom W s lo i)) (keep p (part W (at.permutationAt s + lo + i) (c - i))))
 
@@ -270,7 +275,8 @@ module _ (W : List ℕ) (s : Shape) (p : ℕ → Bool) (lo : ℕ) (out₀ : List
       omega (arith, k, length-append (keep p (entriesFrom W s lo i)) (keep p (e ∷ [])), prefix (i + 1) c (omega arith), g .count, g .long)
 
   pub gather-more : (c i e n m : ℕ) (out out′ : List ℕ) → walk.Ready W s → lo + c ≤ s .entries → i < c → (q : ℕ) → q ≡ at.permutationAt s → e ≡ getD W (q + lo + i) 0
-      → Gathered W s p lo i out₀ out o n → m ≡ length (keep p (e ∷ [])) → 4 * (o + length (keep p (entriesFrom W s lo c))) ≤ length out₀ → length out′ ≡ length out → out′ ≡ pasteW out (o + n) (keep p (e ∷ [])) → Gathered W s p lo (i + 1) out₀ out′ o (n + m)
+      → Gathered W s p lo i out₀ out o n → m ≡ length (keep p (e ∷ [])) → 4 * (o + length (keep p (entriesFrom W s lo c))) ≤ length out₀ → length out′ ≡ length out
+      → out′ ≡ pasteW out (o + n) (keep p (e ∷ [])) → Gathered W s p lo (i + 1) out₀ out′ o (n + m)
   gather-more c i e n m out out′ R hc hi q eq ee g em hr l w =
       let z = place W s R lo c i q e hc hi eq ee in
       let k : keep p (entriesFrom W s lo (i + 1)) ≡ keep p (entriesFrom W s lo i) ++ keep p (e ∷ []) = ap (keep p) (z .snoc) ∙ keep-joined p (entriesFrom W s lo i) (e ∷ []) in
@@ -376,6 +382,8 @@ module _ (W : List ℕ) (s : Shape) (d x : ℕ) (es : List ℕ) where
   unfolding markIn
   mark-power k n = sym (mark-by-power (s .kind) (label W s) d x es k n)
 
-pub mark-entry : (W : List ℕ) (s : Shape) (d x lo c e r : ℕ) → s .kind ≡ 1 → d ≡ 0 → e ≡ leastPlace (label W s) (keep (onSide (keyIn W s) 0 x false) (entriesFrom W s lo c)) → r ≡ e - 1 → r ≡ markIn W s d x (keep (onSide (keyIn W s) d x false) (entriesFrom W s lo c))
+pub mark-entry : (W : List ℕ) (s : Shape) (d x lo c e r : ℕ) → s .kind ≡ 1 → d ≡ 0
+    → e ≡ leastPlace (label W s) (keep (onSide (keyIn W s) 0 x false) (entriesFrom W s lo c)) → r ≡ e - 1
+    → r ≡ markIn W s d x (keep (onSide (keyIn W s) d x false) (entriesFrom W s lo c))
 unfolding markIn
 mark-entry W s d x lo c e r k z h er = er ∙ rw z (ap (λ (y : ℕ). y - 1) h ∙ sym (mark-by-entry (s .kind) (label W s) 0 x (keep (onSide (keyIn W s) 0 x false) (entriesFrom W s lo c)) k refl))

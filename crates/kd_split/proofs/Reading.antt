@@ -72,9 +72,11 @@ module _ (st : State) (W : List ℕ) (s : Shape) (H : Holds st W s) where
     label-at j h =
         let fits : labels.size (l .variables) (l .capacity) ≤ length (drop (at.labelsAt s) W) = omega (arith, length-drop (at.labelsAt s) W, size-is, H .room) in
         let v : l .variables ≡ s .variables = H .valid .labels-vars ∙ sym (H .vars) in
-        sym (getD-drop (at.labelsAt s) W (labels.rowAt (s .variables) j + (s .variables + 2)) 0) ∙ turned v (images.row-is l (H .valid .labels-valid) (drop (at.labelsAt s) W) fits front-is j h) .label-is
+        sym (getD-drop (at.labelsAt s) W (labels.rowAt (s .variables) j + (s .variables + 2)) 0)
+        ∙ turned v (images.row-is l (H .valid .labels-valid) (drop (at.labelsAt s) W) fits front-is j h) .label-is
       where
-        turned : {a b : ℕ} → a ≡ b → images.RowIs (drop (at.labelsAt s) W) a (labels.rowAt a j) (map.row (st .labels .rows) j) → images.RowIs (drop (at.labelsAt s) W) b (labels.rowAt b j) (map.row (st .labels .rows) j)
+        turned : {a b : ℕ} → a ≡ b → images.RowIs (drop (at.labelsAt s) W) a (labels.rowAt a j) (map.row (st .labels .rows) j)
+            → images.RowIs (drop (at.labelsAt s) W) b (labels.rowAt b j) (map.row (st .labels .rows) j)
         turned e r = rw e at r
 
     -- the row that an entry names

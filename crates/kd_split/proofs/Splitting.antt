@@ -199,7 +199,8 @@ module _ (st : State) (s : Shape) (bs : List ℕ) (k lo rows c d x key : ℕ) (e
 
     -- ---- the rows
     module _ (bs₂ bs₃ : List ℕ) (mask : ℕ)
-        (w₂ : Wrote bs₁ bs₂ (at.nodeAt s k + (s .variables + 6) + 2 * (s .variables + 6)) (part (words bs₁) (at.nodeAt s k + (s .variables + 6)) (at.nodeAt s rows - (at.nodeAt s k + (s .variables + 6)))))
+        (w₂ : Wrote bs₁ bs₂ (at.nodeAt s k + (s .variables + 6) + 2 * (s .variables + 6))
+        (part (words bs₁) (at.nodeAt s k + (s .variables + 6)) (at.nodeAt s rows - (at.nodeAt s k + (s .variables + 6)))))
         (em : mask ≡ getD (words bs₂) (at.nodeAt s k + 4) 0)
         (w₃ : Wrote bs₂ bs₃ (at.nodeAt s k) ((d + 1) ∷ key ∷ c ∷ 1 ∷ mask ∷ [])) where
       moved-is : length (part (words bs₁) (A + w) (at.nodeAt s rows - (A + w))) ≡ at.nodeAt s rows - (A + w)
@@ -215,18 +216,23 @@ module _ (st : State) (s : Shape) (bs : List ℕ) (k lo rows c d x key : ℕ) (e
       holds₃ = holds-rows st (words bs₁) (words bs₃) s holds₁ long₃ (λ j l. under₃ j (omega (arith, node-le s 0 k (omega arith))))
 
       perm₃ : part (words bs₃) (at.permutationAt s + lo) (length (Ls ++ Os)) ≡ Ls ++ Os
-      perm₃ = part-kept (words bs₁) (words bs₃) (at.permutationAt s + lo) (length (Ls ++ Os)) (omega (arith, all-is, rooms .low, holds₁ .room, rooms .three, rooms .in-size)) long₃ (λ i a b. under₃ i (omega (arith, all-is, rooms .low))) ∙ w₁ .here
+      perm₃ = part-kept (words bs₁) (words bs₃) (at.permutationAt s + lo) (length (Ls ++ Os))
+          (omega (arith, all-is, rooms .low, holds₁ .room, rooms .three, rooms .in-size)) long₃ (λ i a b. under₃ i (omega (arith, all-is, rooms .low))) ∙ w₁ .here
 
       pub less-entries : entriesFrom (words bs₃) s lo (length (keep (onSide pw₀ d x true) es)) ≡ keep (onSide pw₀ d x true) es
       less-entries = cutting .0
         where
           cutting : (part (words bs₃) (at.permutationAt s + lo) (length Ls) ≡ Ls) × (part (words bs₃) (at.permutationAt s + lo + length Ls) (length Os) ≡ Os)
-          cutting = part-append (words bs₃) (at.permutationAt s + lo) (length Ls) (length Os) Ls Os (omega (arith, length-append Ls Os, all-is, rooms .low, holds₃ .room, rooms .three, rooms .in-size)) refl .0 (ap (part (words bs₃) (at.permutationAt s + lo)) (sym (length-append Ls Os)) ∙ perm₃)
+          cutting = part-append (words bs₃) (at.permutationAt s + lo) (length Ls) (length Os) Ls Os
+              (omega (arith, length-append Ls Os, all-is, rooms .low, holds₃ .room, rooms .three, rooms .in-size)) refl .0
+              (ap (part (words bs₃) (at.permutationAt s + lo)) (sym (length-append Ls Os)) ∙ perm₃)
 
       other-entries₃ : part (words bs₃) (at.permutationAt s + (lo + length Ls)) (length Os) ≡ Os
       other-entries₃ =
           let z : at.permutationAt s + lo + length Ls ≡ at.permutationAt s + (lo + length Ls) = omega arith in
-          let q = part-append (words bs₃) (at.permutationAt s + lo) (length Ls) (length Os) Ls Os (omega (arith, length-append Ls Os, all-is, rooms .low, holds₃ .room, rooms .three, rooms .in-size)) refl .0 (ap (part (words bs₃) (at.permutationAt s + lo)) (sym (length-append Ls Os)) ∙ perm₃) in
+          let q = part-append (words bs₃) (at.permutationAt s + lo) (length Ls) (length Os) Ls Os
+          (omega (arith, length-append Ls Os, all-is, rooms .low, holds₃ .room, rooms .three, rooms .in-size)) refl .0
+          (ap (part (words bs₃) (at.permutationAt s + lo)) (sym (length-append Ls Os)) ∙ perm₃) in
           rw z at (q .1)
 
       module _ (bs₄ : List ℕ) (w₄ : Wrote bs₃ bs₄ (at.nodeAt s k + (s .variables + 6)) (nodeWords (s .variables) (st .mapMaxima) (powerIn (st .entries)) 0 0 0 (keep (onSide pw₀ d x true) es))) where
@@ -242,9 +248,12 @@ module _ (st : State) (s : Shape) (bs : List ℕ) (k lo rows c d x key : ℕ) (e
         pub other-entries : entriesFrom (words bs₄) s (lo + length (keep (onSide pw₀ d x true) es)) (c - length (keep (onSide pw₀ d x true) es)) ≡ keep (onSide pw₀ d x false) es
         other-entries =
             let z : c - length Ls ≡ length Os = omega (arith, sides-length pw₀ d x es) in
-            rw z (part-kept (words bs₃) (words bs₄) (at.permutationAt s + (lo + length Ls)) (length Os) (omega (arith, sides-length pw₀ d x es, rooms .low, holds₃ .room, rooms .three, rooms .in-size)) long₄ (λ i a b. w₄ .before i (omega (arith, sides-length pw₀ d x es, rooms .low))) ∙ other-entries₃)
+            rw z (part-kept (words bs₃) (words bs₄) (at.permutationAt s + (lo + length Ls)) (length Os)
+            (omega (arith, sides-length pw₀ d x es, rooms .low, holds₃ .room, rooms .three, rooms .in-size)) long₄
+            (λ i a b. w₄ .before i (omega (arith, sides-length pw₀ d x es, rooms .low))) ∙ other-entries₃)
 
-        module _ (bs₅ : List ℕ) (w₅ : Wrote bs₄ bs₅ (at.nodeAt s k + 2 * (s .variables + 6)) (nodeWords (s .variables) (st .mapMaxima) (powerIn (st .entries)) 0 0 0 (keep (onSide pw₀ d x false) es))) where
+        module _ (bs₅ : List ℕ) (w₅ : Wrote bs₄ bs₅ (at.nodeAt s k + 2 * (s .variables + 6))
+            (nodeWords (s .variables) (st .mapMaxima) (powerIn (st .entries)) 0 0 0 (keep (onSide pw₀ d x false) es))) where
           l₅ : length (nodeWords (s .variables) xs pw 0 0 0 Os) ≡ w
           l₅ = length-row st (words bs) s B 0 0 0 Os
 
@@ -275,16 +284,19 @@ module _ (st : State) (s : Shape) (bs : List ℕ) (k lo rows c d x key : ℕ) (e
           here₅ =
               let z : at.nodeAt s k + 0 ≡ at.nodeAt s k = omega arith in
               let t : getD (words bs₅) (at.nodeAt s k) 0 ≡ d + 1 = rw z at (head 0 (omega arith)) in
-              row-same (s .variables) (st .mapMaxima) (powerIn (st .entries)) (words bs₅) (at.nodeAt s k) (suc d) key 1 es (Ls ++ Os) (sides-same pw₀ d x es) (sym (all-is ∙ ec)) (omega arith) (record {
+              row-same (s .variables) (st .mapMaxima) (powerIn (st .entries)) (words bs₅) (at.nodeAt s k) (suc d) key 1 es (Ls ++ Os) (sides-same pw₀ d x es)
+              (sym (all-is ∙ ec)) (omega arith) (record {
                 tag-is = omega (arith, t);
                 key-is = head 1 (omega arith);
                 count-is = head 2 (omega arith) ∙ ec;
                 skip-is = head 3 (omega arith);
                 mask-is = head 4 (omega arith) ∙ mask-is ∙ row₀ .mask-is;
-                slot-is = part-kept (words bs) (words bs₅) (at.nodeAt s k + 5) (s .variables + 1) (omega (arith, rooms .row, row-inside st (words bs) s B rows rows (omega arith) (h .rows-to))) long (λ j a b. slot-kept j a (omega arith)) ∙ row₀ .slot-is;
+                slot-is = part-kept (words bs) (words bs₅) (at.nodeAt s k + 5) (s .variables + 1)
+                    (omega (arith, rooms .row, row-inside st (words bs) s B rows rows (omega arith) (h .rows-to))) long (λ j a b. slot-kept j a (omega arith)) ∙ row₀ .slot-is;
               })
 
-          perm₅ : (lo′ : ℕ) (es′ : List ℕ) → lo ≤ lo′ → lo′ + length es′ ≤ lo + c → part (words bs₃) (at.permutationAt s + lo′) (length es′) ≡ es′ → part (words bs₅) (at.permutationAt s + lo′) (length es′) ≡ es′
+          perm₅ : (lo′ : ℕ) (es′ : List ℕ) → lo ≤ lo′ → lo′ + length es′ ≤ lo + c → part (words bs₃) (at.permutationAt s + lo′) (length es′) ≡ es′
+              → part (words bs₅) (at.permutationAt s + lo′) (length es′) ≡ es′
           perm₅ lo′ es′ a b e =
               part-kept (words bs₃) (words bs₅) (at.permutationAt s + lo′) (length es′) (omega (arith, rooms .low, holds₃ .room, rooms .three, rooms .in-size)) (long₅ ∙ long₄)
               (λ j u v. w₅ .before j (omega (arith, rooms .low)) ∙ w₄ .before j (omega (arith, rooms .low))) ∙ e

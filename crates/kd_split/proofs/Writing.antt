@@ -51,15 +51,18 @@ module _ (W : List ℕ) (s : Shape) (R : walk.Ready W s) (d x lo c : ℕ) (h : l
       let es = entriesFrom W s lo c in
       let a = keep (onSide (keyIn W s) d x true) es in
       let b = keep (onSide (keyIn W s) d x false) es in
-      small-each (a ++ b) (λ i l. in-both (λ e. e < 2 ^ 32) a b (λ e m. entry-small e (keep-holds (onSide (keyIn W s) d x true) e es m .1)) (λ e m. entry-small e (keep-holds (onSide (keyIn W s) d x false) e es m .1)) (getD (a ++ b) i 0) (get-in (a ++ b) i l)) .each
+      small-each (a ++ b) (λ i l. in-both (λ e. e < 2 ^ 32) a b (λ e m. entry-small e (keep-holds (onSide (keyIn W s) d x true) e es m .1))
+      (λ e m. entry-small e (keep-holds (onSide (keyIn W s) d x false) e es m .1)) (getD (a ++ b) i 0) (get-in (a ++ b) i l)) .each
 
-pub parted-words : (z s₁ s₂ a b : List ℕ) (n m : ℕ) → Words (a ++ b) → n ≡ length a → m ≡ length b → s₁ ≡ pasteW z 0 a → s₂ ≡ pasteW s₁ n b → 4 * (n + m) ≤ length z → words (take (4 * (n + m)) s₂) ≡ a ++ b
+pub parted-words : (z s₁ s₂ a b : List ℕ) (n m : ℕ) → Words (a ++ b) → n ≡ length a → m ≡ length b → s₁ ≡ pasteW z 0 a → s₂ ≡ pasteW s₁ n b → 4 * (n + m) ≤ length z
+    → words (take (4 * (n + m)) s₂) ≡ a ++ b
 parted-words z s₁ s₂ a b n m small en em e₁ e₂ room =
     let w : s₂ ≡ pasteW z 0 (a ++ b) = e₂ ∙ rw e₁ (pasteW-append z 0 a n b (omega arith) (omega arith)) in
     rw w (front-pasted z (a ++ b) (n + m) small (omega (arith, length-append a b)))
 
 -- ---- the words in front of a gcd
-pub head-written : (b₀ b₁ b₂ b₃ b₄ b₅ : List ℕ) (i t k c s m : ℕ) → 4 * (i + 5) ≤ length b₀ → b₁ ≡ putW b₀ i t → b₂ ≡ putW b₁ (i + 1) k → b₃ ≡ putW b₂ (i + 2) c → b₄ ≡ putW b₃ (i + 3) s → b₅ ≡ putW b₄ (i + 4) m
+pub head-written : (b₀ b₁ b₂ b₃ b₄ b₅ : List ℕ) (i t k c s m : ℕ) → 4 * (i + 5) ≤ length b₀ → b₁ ≡ putW b₀ i t → b₂ ≡ putW b₁ (i + 1) k → b₃ ≡ putW b₂ (i + 2) c
+    → b₄ ≡ putW b₃ (i + 3) s → b₅ ≡ putW b₄ (i + 4) m
     → b₅ ≡ pasteW b₀ i (t ∷ k ∷ c ∷ s ∷ m ∷ [])
 head-written b₀ b₁ b₂ b₃ b₄ b₅ i t k c s m room e₁ e₂ e₃ e₄ e₅ =
     let p₁ : b₁ ≡ pasteW b₀ i (t ∷ []) = e₁ ∙ putW-paste b₀ i t (omega arith) in
@@ -73,7 +76,8 @@ powers-are : (pw : ℕ → ℕ → ℕ) (es : List ℕ) (v : ℕ) → gcdPowers 
 unfolding gcdPowers
 powers-are pw es v = refl
 
-row-is : (m : ℕ) (xs : List ℕ) (pw : ℕ → ℕ → ℕ) (es : List ℕ) (c q r : ℕ) (g : List ℕ) → c ≡ length es → q ≡ masks.mask m xs (gcdPowers pw es) → g ≡ monomialOf 1 (gcdPowers pw es) → r ≡ length (monomialOf 1 (gcdPowers pw es))
+row-is : (m : ℕ) (xs : List ℕ) (pw : ℕ → ℕ → ℕ) (es : List ℕ) (c q r : ℕ) (g : List ℕ) → c ≡ length es → q ≡ masks.mask m xs (gcdPowers pw es)
+    → g ≡ monomialOf 1 (gcdPowers pw es) → r ≡ length (monomialOf 1 (gcdPowers pw es))
     → (0 ∷ 0 ∷ c ∷ 0 ∷ q ∷ []) ++ (g ++ zeros (m + 1 - r)) ≡ nodeWords m xs pw 0 0 0 es
 unfolding nodeWords slot
 row-is m xs pw es c q r g ec eq eg er = rw (ec, eq, eg, er) refl
@@ -102,7 +106,8 @@ module _ (W : List ℕ) (s : Shape) (R : walk.Ready W s) (lo c : ℕ) (h : lo + 
       }
 
   pub leaf-written : (bs b₁ b₂ b₃ g : List ℕ) (i r m : ℕ) → 4 * (i + (s .variables + 6)) ≤ length bs → r ≡ length g → r ≤ s .variables + 1 → g ≡ gcdOf (power W s) (entriesFrom W s lo c)
-      → m ≡ masks.mask (s .variables) (mapMaxima W s) (pow 1 (first 1 g)) → b₁ ≡ pasteW bs i (0 ∷ 0 ∷ c ∷ 0 ∷ m ∷ []) → b₂ ≡ pasteW b₁ (i + 5) g → b₃ ≡ pasteW b₂ (i + 5 + r) (zeros (s .variables + 1 - r))
+      → m ≡ masks.mask (s .variables) (mapMaxima W s) (pow 1 (first 1 g)) → b₁ ≡ pasteW bs i (0 ∷ 0 ∷ c ∷ 0 ∷ m ∷ []) → b₂ ≡ pasteW b₁ (i + 5) g
+      → b₃ ≡ pasteW b₂ (i + 5 + r) (zeros (s .variables + 1 - r))
       → b₃ ≡ pasteW bs i (nodeWords (s .variables) (mapMaxima W s) (power W s) 0 0 0 (entriesFrom W s lo c))
   leaf-written bs b₁ b₂ b₃ g i r m room er short eg em e₁ e₂ e₃ =
       let hd : List ℕ = 0 ∷ 0 ∷ c ∷ 0 ∷ m ∷ [] in
@@ -112,18 +117,24 @@ module _ (W : List ℕ) (s : Shape) (R : walk.Ready W s) (lo c : ℕ) (h : lo + 
       let long₁ : length b₁ ≡ length bs = rw e₁ (length-pasteW bs i hd (omega arith)) in
       let p₃ : b₃ ≡ pasteW b₁ (i + 5) (g ++ z) = e₃ ∙ rw e₂ (pasteW-append b₁ (i + 5) g (i + 5 + r) z (omega (arith, er)) (omega arith)) in
       let p₂ : b₃ ≡ pasteW bs i (hd ++ (g ++ z)) = p₃ ∙ rw e₁ (pasteW-append bs i hd (i + 5) (g ++ z) (omega arith) (omega arith)) in
-      let mm : m ≡ masks.mask (s .variables) (mapMaxima W s) (gcdPowers (power W s) es) = em ∙ ap (λ (l : List ℕ). masks.mask (s .variables) (mapMaxima W s) (pow 1 l)) (first-whole canonical-g ∙ eg) ∙ mask-powers es in
+      let mm : m ≡ masks.mask (s .variables) (mapMaxima W s) (gcdPowers (power W s) es) = em
+      ∙ ap (λ (l : List ℕ). masks.mask (s .variables) (mapMaxima W s) (pow 1 l)) (first-whole canonical-g ∙ eg) ∙ mask-powers es in
       p₂ ∙ ap (pasteW bs i) (row-is (s .variables) (mapMaxima W s) (power W s) es c m r g ec mm eg (er ∙ ap (length {A = ℕ}) eg))
     where
       mask-powers : (es : List ℕ) → masks.mask (s .variables) (mapMaxima W s) (pow 1 (gcdOf (power W s) es)) ≡ masks.mask (s .variables) (mapMaxima W s) (gcdPowers (power W s) es)
-      mask-powers es = mask-ext (s .variables) (mapMaxima W s) (pow 1 (gcdOf (power W s) es)) (gcdPowers (power W s) es) (λ v l. gcd-pow (s .variables) (power W s) (image-powers W s (R .range .vars-to)) es v ∙ sym (powers-are (power W s) es v))
+      mask-powers es = mask-ext (s .variables) (mapMaxima W s) (pow 1 (gcdOf (power W s) es)) (gcdPowers (power W s) es)
+          (λ v l. gcd-pow (s .variables) (power W s) (image-powers W s (R .range .vars-to)) es v ∙ sym (powers-are (power W s) es v))
 
 -- the words of a leaf's row are words
-pub leaf-small : (W : List ℕ) (s : Shape) (lo c : ℕ) → s .variables ≤ 64 → length (entriesFrom W s lo c) < 2 ^ 32 → Words (nodeWords (s .variables) (mapMaxima W s) (power W s) 0 0 0 (entriesFrom W s lo c))
+pub leaf-small : (W : List ℕ) (s : Shape) (lo c : ℕ) → s .variables ≤ 64 → length (entriesFrom W s lo c) < 2 ^ 32
+    → Words (nodeWords (s .variables) (mapMaxima W s) (power W s) 0 0 0 (entriesFrom W s lo c))
 unfolding nodeWords slot
 leaf-small W s lo c few l =
     let es = entriesFrom W s lo c in
     let g : Small (gcdOf (power W s) es) = record { each = gcd-words (s .variables) (power W s) (image-powers W s few) es } in
-    let all : Small (0 ∷ 0 ∷ length es ∷ 0 ∷ masks.mask (s .variables) (mapMaxima W s) (gcdPowers (power W s) es) ∷ (gcdOf (power W s) es ++ zeros (s .variables + 1 - length (gcdOf (power W s) es)))) =
-    small-cons (omega arith) (small-cons (omega arith) (small-cons l (small-cons (omega arith) (small-cons (mask-small (s .variables) (mapMaxima W s) (gcdPowers (power W s) es)) (small-append g (small-zeros (s .variables + 1 - length (gcdOf (power W s) es)))))))) in
+    let all : Small (0 ∷ 0 ∷ length es ∷ 0 ∷ masks.mask (s .variables) (mapMaxima W s) (gcdPowers (power W s) es) ∷
+    (gcdOf (power W s) es ++ zeros (s .variables + 1 - length (gcdOf (power W s) es)))) =
+    small-cons (omega arith) (small-cons (omega arith) (small-cons l
+    (small-cons (omega arith) (small-cons (mask-small (s .variables) (mapMaxima W s) (gcdPowers (power W s) es))
+    (small-append g (small-zeros (s .variables + 1 - length (gcdOf (power W s) es)))))))) in
     all .each

@@ -92,7 +92,8 @@ unfoldable pub SplitAt : (bs bs′ : List ℕ) (s : Shape) (k lo rows d x : ℕ)
 SplitAt bs bs′ s k lo rows d x =
     (st : State) (es : List ℕ) → HasTree st (words bs) s k lo rows (leaf es)
     → Became st bs bs′ s k lo rows (rows + 2) (leaf es)
-    (branch d (markIn (words bs) s d x (keep (onSide (keyIn (words bs) s) d x false) es)) (leaf (keep (onSide (keyIn (words bs) s) d x true) es)) (leaf (keep (onSide (keyIn (words bs) s) d x false) es)))
+    (branch d (markIn (words bs) s d x (keep (onSide (keyIn (words bs) s) d x false) es)) (leaf (keep (onSide (keyIn (words bs) s) d x true) es))
+    (leaf (keep (onSide (keyIn (words bs) s) d x false) es)))
 
 -- a node is opened: n is 0 where it is a leaf that stays, else the number of rows then in use
 pub record Stays (st : State) (bs bs′ : List ℕ) (dim : ℕ) (t : Tree) : Type 0 where

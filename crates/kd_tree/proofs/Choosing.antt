@@ -87,9 +87,11 @@ bit-small a i = omega arith
 
 all-set : (m : ℕ) → within m 4294967295 ≡ true
 unfolding within
-all-set m = all-true 32 (λ i. leb (bit m i) (bit 4294967295 i)) (λ i h. le-leb (bit m i) (bit 4294967295 i) (let z = all-each 32 (λ i. leb 1 (bit 4294967295 i)) ones i h in omega (arith, leb-true, bit-small m i)))
+all-set m = all-true 32 (λ i. leb (bit m i) (bit 4294967295 i))
+    (λ i h. le-leb (bit m i) (bit 4294967295 i) (let z = all-each 32 (λ i. leb 1 (bit 4294967295 i)) ones i h in omega (arith, leb-true, bit-small m i)))
 
-may-is : (st : State) (q es : List ℕ) (m qm : ℕ) → m ≡ mask (st .variables) (st .mapMaxima) (gcdPowers (powerIn (st .entries)) es) → qm ≡ mask (st .variables) (st .mapMaxima) (pow 1 q) → may st q es ≡ within m qm
+may-is : (st : State) (q es : List ℕ) (m qm : ℕ) → m ≡ mask (st .variables) (st .mapMaxima) (gcdPowers (powerIn (st .entries)) es)
+    → qm ≡ mask (st .variables) (st .mapMaxima) (pow 1 q) → may st q es ≡ within m qm
 unfolding may nodeMask gcdPowers
 may-is st q es m qm e f = rw (e, f) refl
 
@@ -125,11 +127,13 @@ module _ (bs ms : List ℕ) (s : Shape) (Q : List ℕ) (k lo rows tag : ℕ) (et
         small = omega (arith, dd .small, h .holds .range .vars-to, h .holds .range .kind-to);
       }
     where
-      go : (b : Bool) {x : Bool} → nodeMaskIn Q ≡ cond b (maskIn Q) 4294967295 → x ≡ within (getD (words bs) (at.nodeAt s k + 4) 0) (maskIn Q) → cond b x true ≡ within (getD (words bs) (at.nodeAt s k + 4) 0) (nodeMaskIn Q)
+      go : (b : Bool) {x : Bool} → nodeMaskIn Q ≡ cond b (maskIn Q) 4294967295 → x ≡ within (getD (words bs) (at.nodeAt s k + 4) 0) (maskIn Q)
+          → cond b x true ≡ within (getD (words bs) (at.nodeAt s k + 4) 0) (nodeMaskIn Q)
       go true e f = f ∙ rw e refl
       go false e f = rw e (sym (all-set m))
 
-  goes : (st : State) (r : Query) (d key : ℕ) (a b : Tree) (u v u′ v′ : Bool) → Seen st r d key a b → u ≡ u′ → v ≡ v′ → Goes (path st r d key (inorder a ++ inorder b)) u v → SidesAre st r d key (inorder a ++ inorder b) u′ v′ tag
+  goes : (st : State) (r : Query) (d key : ℕ) (a b : Tree) (u v u′ v′ : Bool) → Seen st r d key a b → u ≡ u′ → v ≡ v′
+      → Goes (path st r d key (inorder a ++ inorder b)) u v → SidesAre st r d key (inorder a ++ inorder b) u′ v′ tag
   goes st r d key a b u v u′ v′ z e f g = record { less-is = sym (g .less-is ∙ e); other-is = sym (g .other-is ∙ f); next-is = z .tag-is; next-to = omega (arith, z .tag-is, z .small) }
 
   -- a ratio's branch has dimension 0
@@ -137,7 +141,8 @@ module _ (bs ms : List ℕ) (s : Shape) (Q : List ℕ) (k lo rows tag : ℕ) (et
     z : Seen st r d key a b
     z = seen st r d key a b q h
 
-    at-ratio : tag ≡ s .kind → Goes (path st r d key (inorder a ++ inorder b)) (mayGo st r (inorder a ++ inorder b) && notBelow (st .entries) r key) (mayGo st r (inorder a ++ inorder b) && notPast (st .entries) r key)
+    at-ratio : tag ≡ s .kind → Goes (path st r d key (inorder a ++ inorder b)) (mayGo st r (inorder a ++ inorder b) && notBelow (st .entries) r key)
+        (mayGo st r (inorder a ++ inorder b) && notPast (st .entries) r key)
     at-ratio t =
         let one : s .kind ≡ 1 = omega (arith, z .tag-is, h .holds .range .kind-to) in
         let d0 : d ≡ 0 = omega (arith, z .tag-is) in
@@ -154,7 +159,8 @@ module _ (bs ms : List ℕ) (s : Shape) (Q : List ℕ) (k lo rows tag : ℕ) (et
         go monomials f g = rw (← f) (omega arith)
         go ratioed f g = rw (← f) (omega arith)
 
-    at-variable : (tag ≡ s .kind → ⊥) → (v : ℕ) → d ≡ s .kind + v → Goes (path st r d key (inorder a ++ inorder b)) (mayGo st r (inorder a ++ inorder b)) (mayGo st r (inorder a ++ inorder b) && leb key (limitOf r v))
+    at-variable : (tag ≡ s .kind → ⊥) → (v : ℕ) → d ≡ s .kind + v
+        → Goes (path st r d key (inorder a ++ inorder b)) (mayGo st r (inorder a ++ inorder b)) (mayGo st r (inorder a ++ inorder b) && leb key (limitOf r v))
     at-variable t v e =
         let small : key < 4294967296 = omega (arith, z .key-is, words-fit (at.nodeAt s k + 1)) in
         turned (variable-is v e) (variable-goes st r v key (inorder a ++ inorder b) small)
@@ -197,7 +203,8 @@ module _ (bs ms : List ℕ) (s : Shape) (Q : List ℕ) (k lo rows tag : ℕ) (et
         let R = q .range kk in
         let n : key < length (st .entries) = omega (arith, h .holds .size, ke) in
         let o = open-now st r d key a b zz in
-        goes st r d key a b _ _ (leb (fromIn Q) l) (ltb l (toIn Q)) zz (and-self _ _ o ∙ R .from-is key n ∙ ap (leb (fromIn Q)) ll) (and-self _ _ o ∙ R .to-is key n ∙ ap (λ (y : ℕ). ltb y (toIn Q)) ll) (at-ratio st r d key a b q h t)
+        goes st r d key a b _ _ (leb (fromIn Q) l) (ltb l (toIn Q)) zz (and-self _ _ o ∙ R .from-is key n ∙ ap (leb (fromIn Q)) ll)
+        (and-self _ _ o ∙ R .to-is key n ∙ ap (λ (y : ℕ). ltb y (toIn Q)) ll) (at-ratio st r d key a b q h t)
 
     pub path-limit : (tag ≡ s .kind → ⊥) → (c : Bool) → c ≡ leb (getD (words bs) (at.nodeAt s k + 1) 0) (getD Q tag 0) → Chosen bs ms s Q k lo rows true c tag
     unfolding Chosen

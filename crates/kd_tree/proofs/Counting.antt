@@ -59,7 +59,8 @@ is-within a b e = go (within a b) e
     go true e = refl
     go false e = absurd (let z : _≡_ {A = ℕ} 0 1 = cc in omega arith)
 
-one-may : (st : State) (q : List ℕ) (e : ℕ) → within (mask (st .variables) (st .mapMaxima) (pow 1 (entryAt (st .entries) e .lm))) (mask (st .variables) (st .mapMaxima) (pow 1 q)) ≡ false → may st q (e ∷ []) ≡ false
+one-may : (st : State) (q : List ℕ) (e : ℕ) → within (mask (st .variables) (st .mapMaxima) (pow 1 (entryAt (st .entries) e .lm)))
+    (mask (st .variables) (st .mapMaxima) (pow 1 q)) ≡ false → may st q (e ∷ []) ≡ false
 unfolding may nodeMask powerIn least leastOf
 one-may st q e h = h
 
@@ -246,12 +247,15 @@ module _ (st : State) (r : Query) (ms : List ℕ) (s : Shape) (Q W : List ℕ) (
   unfolding divisorOf mayAt
   masked-out w =
       let x = cond (byLm r) (entryAt (st .entries) e .lm) (entryAt (st .entries) e .sign) in
-      let m : getD W (maskAtIn Q + e * getD Q 83 0) 0 ≡ mask (st .variables) (st .mapMaxima) (pow 1 (cond (byLm r) (entryAt (st .entries) e .lm) (entryAt (st .entries) e .sign))) = ap (λ (j : ℕ). getD W j 0) mask-word ∙ my-slot .masked in
+      let m : getD W (maskAtIn Q + e * getD Q 83 0) 0 ≡ mask (st .variables) (st .mapMaxima)
+      (pow 1 (cond (byLm r) (entryAt (st .entries) e .lm) (entryAt (st .entries) e .sign))) = ap (λ (j : ℕ). getD W j 0) mask-word ∙ my-slot .masked in
       let f : maskAtIn Q + e * getD Q 83 0 + 1 ≡ at.vectorAt (s .variables) (slotAt s (byLm r) e) = omega (arith, mask-word) in
-      let v : getD W (maskAtIn Q + e * getD Q 83 0 + 1) 0 ≡ vector (st .variables) (pow 1 (cond (byLm r) (entryAt (st .entries) e .lm) (entryAt (st .entries) e .sign))) = ap (λ (j : ℕ). getD W j 0) f ∙ my-slot .vectored in
+      let v : getD W (maskAtIn Q + e * getD Q 83 0 + 1) 0 ≡ vector (st .variables) (pow 1 (cond (byLm r) (entryAt (st .entries) e .lm) (entryAt (st .entries) e .sign))) =
+      ap (λ (j : ℕ). getD W j 0) f ∙ my-slot .vectored in
       divisor-is ∙ either (within (mask (st .variables) (st .mapMaxima) (pow 1 x)) (mask (st .variables) (st .mapMaxima) (pow 1 (dividend r)))) refl (rw (m, v, A .masked, A .vectored) at w)
     where
-      either : (b : Bool) → within (mask (st .variables) (st .mapMaxima) (pow 1 (cond (byLm r) (entryAt (st .entries) e .lm) (entryAt (st .entries) e .sign)))) (mask (st .variables) (st .mapMaxima) (pow 1 (dividend r))) ≡ b
+      either : (b : Bool) → within (mask (st .variables) (st .mapMaxima) (pow 1 (cond (byLm r) (entryAt (st .entries) e .lm) (entryAt (st .entries) e .sign))))
+          (mask (st .variables) (st .mapMaxima) (pow 1 (dividend r))) ≡ b
           → b && within (vector (st .variables) (pow 1 (cond (byLm r) (entryAt (st .entries) e .lm) (entryAt (st .entries) e .sign)))) (vector (st .variables) (pow 1 (dividend r))) ≡ false
           → divides (cond (byLm r) (entryAt (st .entries) e .lm) (entryAt (st .entries) e .sign)) (dividend r) ≡ false
       either true z u = unruled (st .variables) (cond (byLm r) (entryAt (st .entries) e .lm) (entryAt (st .entries) e .sign)) (dividend r) u

@@ -7,7 +7,8 @@ use lib.Dec.{eqb}
 use borrow.Author.Tests.{eq-eqb, ne-eqb}
 use Rattle.kd_tree.specs.Searched.{rowsOf, bestOf, onOf}
 
-pub packed-going : (a b : ℕ) → b ≤ 4096 → (rowsOf (16384 * (a / 16384) + (2 * b + 1)) ≡ rowsOf a) × ((bestOf (16384 * (a / 16384) + (2 * b + 1)) ≡ b) × (onOf (16384 * (a / 16384) + (2 * b + 1)) ≡ true))
+pub packed-going : (a b : ℕ) → b ≤ 4096 → (rowsOf (16384 * (a / 16384) + (2 * b + 1)) ≡ rowsOf a) ×
+    ((bestOf (16384 * (a / 16384) + (2 * b + 1)) ≡ b) × (onOf (16384 * (a / 16384) + (2 * b + 1)) ≡ true))
 unfolding rowsOf bestOf onOf
 packed-going a b h =
     let e : (16384 * (a / 16384) + (2 * b + 1)) % 2 ≡ 1 = omega arith in

@@ -63,10 +63,12 @@ module _ (bs : List ℕ) (st : State) (I : Is st bs) where
   abbrev P : Pieces (words bs) st
   P = image.pieces bs st I
 
-  entry-words : (i : ℕ) → i < length (st .entries) → part (words bs) (at.entryAt (shapeOf st) i) (at.entryWidth (shapeOf st)) ≡ entryWords (st .kind) (st .variables) (st .mapMaxima) (st .labels) (entryAt (st .entries) i)
+  entry-words : (i : ℕ) → i < length (st .entries) → part (words bs) (at.entryAt (shapeOf st) i) (at.entryWidth (shapeOf st)) ≡ entryWords (st .kind) (st .variables)
+      (st .mapMaxima) (st .labels) (entryAt (st .entries) i)
   entry-words i h =
       let inside : at.entriesAt m + n * ew ≤ length W = omega (arith, image.long bs st I, split-rows n c ew (I .valid .few)) in
-      table-iff W (at.entriesAt m) n ew (λ i. entryWords (st .kind) m (st .mapMaxima) (st .labels) (entryAt (st .entries) i)) inside (λ i h. entry-length (st .kind) m (st .mapMaxima) (st .labels) (entryAt (st .entries) i) (I .valid .map-good .few) (I .valid .canonical i h)) .0 (P .entries) i h
+      table-iff W (at.entriesAt m) n ew (λ i. entryWords (st .kind) m (st .mapMaxima) (st .labels) (entryAt (st .entries) i)) inside
+      (λ i h. entry-length (st .kind) m (st .mapMaxima) (st .labels) (entryAt (st .entries) i) (I .valid .map-good .few) (I .valid .canonical i h)) .0 (P .entries) i h
 
   pub root-tree : HasTree st (words bs) (shapeOf st) 0 0 (nodes (st .tree)) (st .tree)
   root-tree = record {
@@ -139,7 +141,8 @@ module _ (bs : List ℕ) (st : State) (I : Is st bs) where
     head₂ =
         let H = image.head-ok bs st I in
         let five : getD (words bs₂) at.nodesCountAt 0 ≡ nodes u = rw set-is (getD-set-same (words bs₁) at.nodesCountAt rows 0 (omega (arith, size-in, long₁))) ∙ rows-is in
-        let six : part (words bs₂) at.keptAt at.kept ≡ part (words bs) at.keptAt at.kept = part-kept W X at.keptAt at.kept (omega (arith, size-in)) long (λ j u v. low j (omega arith) (λ e. omega arith)) in
+        let six : part (words bs₂) at.keptAt at.kept ≡ part (words bs) at.keptAt at.kept = part-kept W X at.keptAt at.kept (omega (arith, size-in)) long
+        (λ j u v. low j (omega arith) (λ e. omega arith)) in
         words-of-head X (omega (arith, size-in, long))
         ∙ rw (
           low at.layoutAt (omega arith) (λ e. omega arith) ∙ H .layout,
@@ -152,7 +155,8 @@ module _ (bs : List ℕ) (st : State) (I : Is st bs) where
         ) refl
 
     -- the words behind the rows
-    rest₂ : part (words bs₂) (at.nodeAt (shapeOf st) (nodes u)) ((2 * st .capacity - 1 - nodes u) * at.nodeWidth (st .variables)) ≡ zeros ((2 * st .capacity - 1 - nodes u) * at.nodeWidth (st .variables))
+    rest₂ : part (words bs₂) (at.nodeAt (shapeOf st) (nodes u)) ((2 * st .capacity - 1 - nodes u) * at.nodeWidth (st .variables)) ≡ zeros
+        ((2 * st .capacity - 1 - nodes u) * at.nodeWidth (st .variables))
     rest₂ =
         let z = (2 * c - 1 - nodes u) * nw in
         let a = at.nodeAt s (nodes u) in
@@ -162,7 +166,8 @@ module _ (bs : List ℕ) (st : State) (I : Is st bs) where
         let whole₀ = split-rows (nodes (st .tree)) (2 * c - 1) nw (valid-fits st (I .valid) .nodes-to) in
         let le : nodes (st .tree) * nw ≤ nodes u * nw = mul-le-mul-right {m = nodes (st .tree)} {n = nodes u} nw (x .more) in
         let was : (j : ℕ) → b ≤ j → j < b + old → getD W j 0 ≡ 0 = λ j h l. zero-at b old j (j - b) (omega arith) (omega arith) (P .nodes-rest) in
-        zeros-by a z (λ i l. put (a + i) (λ e. omega arith) ∙ x .behind (a + i) (omega (arith, ap (λ (r : ℕ). r * at.nodeWidth (st .variables)) rows-is)) ∙ was (a + i) (omega arith) (omega arith)) (omega (arith, size-in, long))
+        zeros-by a z (λ i l. put (a + i) (λ e. omega arith) ∙ x .behind (a + i) (omega (arith, ap (λ (r : ℕ). r * at.nodeWidth (st .variables)) rows-is))
+        ∙ was (a + i) (omega arith) (omega arith)) (omega (arith, size-in, long))
       where
         zero-at : (b old j i : ℕ) → j ≡ b + i → i < old → part (words bs) b old ≡ zeros old → getD (words bs) j 0 ≡ 0
         zero-at b old j i e h p = rw e (sym (part-get (words bs) b old i h) ∙ ap (λ (l : List ℕ). getD l i 0) p ∙ zeros-get old i)
@@ -180,10 +185,12 @@ module _ (bs : List ℕ) (st : State) (I : Is st bs) where
       map = kept (at.mapAt m) m (omega arith) (omega arith) ∙ P .map;
       entries = kept (at.entriesAt m) (n * ew) (omega arith) (omega (arith, split-rows n c ew (I .valid .few))) ∙ P .entries;
       entries-rest = kept (at.entryAt s n) ((c - n) * ew) (omega arith) (omega (arith, split-rows n c ew (I .valid .few))) ∙ P .entries-rest;
-      permutation = moved X (part-kept (words bs₁) X (at.permutationAt s + 0) (count u) (omega (arith, size-in, long₁, x .same, I .valid .size, I .valid .few)) long₂ (λ j a b. put j (λ e. omega arith)) ∙ x .stands .perm) (omega arith) (x .same ∙ I .valid .size);
+      permutation = moved X (part-kept (words bs₁) X (at.permutationAt s + 0) (count u) (omega (arith, size-in, long₁, x .same, I .valid .size, I .valid .few)) long₂
+          (λ j a b. put j (λ e. omega arith)) ∙ x .stands .perm) (omega arith) (x .same ∙ I .valid .size);
       permutation-rest = kept-mid (at.permutationAt s + n) (c - n) (omega arith) (omega (arith, I .valid .few)) ∙ P .permutation-rest;
       labels = kept-mid (at.labelsAt s) (at.labelsSize s) (omega (arith, I .valid .few)) (omega arith) ∙ P .labels;
-      nodes-are = moved X (part-kept (words bs₁) X (at.nodeAt s 0) (nodes u * nw) (omega (arith, size-in, long₁, split-rows (nodes u) (2 * c - 1) nw (fits .nodes-to))) long₂ (λ j a b. put j (λ e. omega arith)) ∙ x .stands .rows) (omega arith) refl;
+      nodes-are = moved X (part-kept (words bs₁) X (at.nodeAt s 0) (nodes u * nw) (omega (arith, size-in, long₁, split-rows (nodes u) (2 * c - 1) nw (fits .nodes-to)))
+          long₂ (λ j a b. put j (λ e. omega arith)) ∙ x .stands .rows) (omega arith) refl;
       nodes-rest = rest₂;
     }
 
@@ -201,7 +208,8 @@ module _ (bs : List ℕ) (st : State) (I : Is st bs) where
         let E = encode (withTree st u) in
         let l : length (encode (withTree st u)) ≡ at.size (shapeOf st) = image-length X (withTree st u) fits (omega (arith, size-in, long)) in
         let own : bs₂ ≡ pasteW bs₂ 0 (encode (withTree st u)) = sym (paste-own bs₂ (at.size s) by room₂) ∙ ap (pasteW bs₂ 0) written in
-        let same : drop (4 * at.size (shapeOf st)) bs₂ ≡ drop (4 * at.size (shapeOf st)) bs = rw w₂ (put-rest bs₁ at.nodesCountAt rows (at.size s) (omega arith) (omega (arith, I .room, x .long))) ∙ x .rest in
+        let same : drop (4 * at.size (shapeOf st)) bs₂ ≡ drop (4 * at.size (shapeOf st)) bs = rw w₂
+        (put-rest bs₁ at.nodesCountAt rows (at.size s) (omega arith) (omega (arith, I .room, x .long))) ∙ x .rest in
         let tail : drop (4 * length (encode (withTree st u))) bs₂ ≡ drop (4 * length (encode (withTree st u))) bs = rw l same in
         own ∙ pasteW-front bs₂ E ∙ ap (λ (r : List ℕ). bytes E ++ r) tail ∙ sym (pasteW-front bs E)
 
@@ -216,7 +224,8 @@ root-ready bs ms Q w = record {
   small = omega arith;
 }
   where
-    turned : {s : Shape} → s ≡ shapeOf (w .state) → HasTree (w .state) (words bs) (shapeOf (w .state)) 0 0 (nodes (w .state .tree)) (w .state .tree) → HasTree (w .state) (words bs) s 0 0 (s .nodes) (w .state .tree)
+    turned : {s : Shape} → s ≡ shapeOf (w .state) → HasTree (w .state) (words bs) (shapeOf (w .state)) 0 0 (nodes (w .state .tree)) (w .state .tree)
+        → HasTree (w .state) (words bs) s 0 0 (s .nodes) (w .state .tree)
     turned e h = rw e h
 
 pub root-rows : (bs ms Q : List ℕ) → RootReady bs ms Q → shapeIn Q .nodes ≤ 8191
@@ -231,7 +240,8 @@ module _ (bs bs₁ ms Q : List ℕ) (best : ℕ) (on : Bool) (rows : ℕ) (S : S
   unfolding Searched
   found-root st r R = rw (first-search st r) (turned (R .shape) (R .asks) S)
     where
-      turned : {s : Shape} → s ≡ shapeOf st → Asks st r ms s Q → Searched bs bs₁ ms s Q 0 0 0 (s .nodes) 0 best on rows → Found st bs bs₁ (shapeOf st) 0 0 (nodes (st .tree)) (st .tree) (searchFrom st r 0 (st .tree) (optionOf 0)) best on rows
+      turned : {s : Shape} → s ≡ shapeOf st → Asks st r ms s Q → Searched bs bs₁ ms s Q 0 0 0 (s .nodes) 0 best on rows
+          → Found st bs bs₁ (shapeOf st) 0 0 (nodes (st .tree)) (st .tree) (searchFrom st r 0 (st .tree) (optionOf 0)) best on rows
       turned e a S = (rw e at S) st r (st .tree) (rw e at a) (root-tree bs st (R .is))
 
   pub record RootNumbers : Type 0 where

@@ -37,7 +37,8 @@ use Rattle.kd_tree.proofs.Counting.{labels-home, stops, goes-on, floor-
 pub Scanning : (bs ms : List ℕ) (s : Shape) (Q : List ℕ) (lo c best found i : ℕ) → Type 0
 Scanning bs ms s Q lo c best found i =
     (st : State) (r : Query) → Asks st r ms s Q → Holds st (words bs) s
-    → foldUntil (process (st .entries) r) (start (optionOf best)) (entriesFrom (words bs) s lo c) ≡ foldUntil (process (st .entries) r) (start (optionOf found)) (drop i (entriesFrom (words bs) s lo c))
+    → foldUntil (process (st .entries) r) (start (optionOf best)) (entriesFrom (words bs) s lo c) ≡ foldUntil (process (st .entries) r) (start (optionOf found))
+    (drop i (entriesFrom (words bs) s lo c))
 
 -- what is made of one entry
 pub Made : (bs ms : List ℕ) (s : Shape) (Q : List ℕ) (e found found′ : ℕ) (on : Bool) → Type 0
@@ -61,7 +62,8 @@ module _ (bs ms : List ℕ) (s : Shape) (Q : List ℕ) (lo c best : ℕ) (inside
 
   module _ (found i e : ℕ) (S : Scanning bs ms s Q lo c best found i) (b : i < c) (ee : e ≡ getD (words bs) (at.permutationAt s + (lo + i)) 0) where
     scan-one : (found′ : ℕ) (on : Bool) → Made bs ms s Q e found found′ on → (st : State) (r : Query) → Asks st r ms s Q → Holds st (words bs) s
-        → foldUntil (process (st .entries) r) (start (optionOf best)) (entriesFrom (words bs) s lo c) ≡ foldUntil (process (st .entries) r) (record { acc = optionOf found′; on = on }) (drop (i + 1) (entriesFrom (words bs) s lo c))
+        → foldUntil (process (st .entries) r) (start (optionOf best)) (entriesFrom (words bs) s lo c) ≡ foldUntil (process (st .entries) r)
+        (record { acc = optionOf found′; on = on }) (drop (i + 1) (entriesFrom (words bs) s lo c))
     unfolding Scanning Made
     scan-one found′ on v st r a h =
         let es = entriesFrom (words bs) s lo c in
@@ -77,7 +79,8 @@ module _ (bs ms : List ℕ) (s : Shape) (Q : List ℕ) (lo c best : ℕ) (inside
     pub scan-stop : (found′ best′ : ℕ) (on : Bool) → best′ ≡ found′ → on ≡ false → found′ ≤ s .entries → Made bs ms s Q e found found′ false → Visited bs ms s Q lo c best best′ on
     unfolding Visited
     scan-stop found′ best′ on w t l v st r a h = record {
-      is = rw (w, t) (sym (scan-one found′ false v st r a h ∙ fold-stopped (process (st .entries) r) (record { acc = optionOf found′; on = false }) (drop (i + 1) (entriesFrom (words bs) s lo c)) refl));
+      is = rw (w, t) (sym (scan-one found′ false v st r a h ∙ fold-stopped (process (st .entries) r) (record { acc = optionOf found′; on = false })
+          (drop (i + 1) (entriesFrom (words bs) s lo c)) refl));
       small = omega arith;
     }
 
@@ -135,12 +138,14 @@ module _ (bs ms : List ℕ) (s : Shape) (Q : List ℕ) (e found : ℕ) (he : e <
     pub largest-miss : hit ≡ false → Made bs ms s Q e found found true
     unfolding Made
     largest-miss f st r a h =
-        step-miss st r ms s Q (words bs) a h e he found hit (largest-is st r ms s Q (words bs) a h e he (home st r a (λ z. omega arith)) found hf (omega (arith, a .search)) (omega (arith, a .search)) ∙ sym t) f
+        step-miss st r ms s Q (words bs) a h e he found hit (largest-is st r ms s Q (words bs) a h e he (home st r a (λ z. omega arith)) found hf
+        (omega (arith, a .search)) (omega (arith, a .search)) ∙ sym t) f
 
     pub largest-hit : hit ≡ true → Made bs ms s Q e found (e + 1) true
     unfolding Made
     largest-hit f st r a h =
-        step-hit st r ms s Q (words bs) a h e he found hit true (largest-is st r ms s Q (words bs) a h e he (home st r a (λ z. omega arith)) found hf (omega (arith, a .search)) (omega (arith, a .search)) ∙ sym t) f
+        step-hit st r ms s Q (words bs) a h e he found hit true (largest-is st r ms s Q (words bs) a h e he (home st r a (λ z. omega arith)) found hf
+        (omega (arith, a .search)) (omega (arith, a .search)) ∙ sym t) f
         (goes-on (st .entries) r e (omega (arith, a .search)) (omega (arith, a .search)))
 
 -- ---- what the loops' calls ask
@@ -208,7 +213,8 @@ leaf-ready bs ms s Q k lo rows best c e w = record {
   small = w .small;
 }
 
-pub leaf-done : (bs ms : List ℕ) (s : Shape) (Q : List ℕ) (k lo rows best best′ c : ℕ) (on : Bool) → c ≡ getD (words bs) (at.nodeAt s k + 2) 0 → Visited bs ms s Q lo c best best′ on → Scanned bs ms s Q k lo rows best best′ on
+pub leaf-done : (bs ms : List ℕ) (s : Shape) (Q : List ℕ) (k lo rows best best′ c : ℕ) (on : Bool) → c ≡ getD (words bs) (at.nodeAt s k + 2) 0
+    → Visited bs ms s Q lo c best best′ on → Scanned bs ms s Q k lo rows best best′ on
 unfolding Visited Scanned
 leaf-done bs ms s Q k lo rows best best′ c on e v st r es a h = rw (places) at (v st r a (h .holds))
   where

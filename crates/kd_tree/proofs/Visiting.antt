@@ -66,10 +66,12 @@ unfolding RootSplitAs
 opens st bs bs′ s dim k lo rows t zero e o = absurd (e refl)
 opens st bs bs′ s dim k lo rows t (suc n) e o = o
 
-as-leaf : (st : State) (bs bs₁ : List ℕ) (s : Shape) (k lo rows : ℕ) (t : Tree) (es : List ℕ) → bs₁ ≡ bs → t ≡ leaf es → HasTree st (words bs) s k lo rows t → HasTree st (words bs₁) s k lo rows (leaf es)
+as-leaf : (st : State) (bs bs₁ : List ℕ) (s : Shape) (k lo rows : ℕ) (t : Tree) (es : List ℕ) → bs₁ ≡ bs → t ≡ leaf es → HasTree st (words bs) s k lo rows t
+    → HasTree st (words bs₁) s k lo rows (leaf es)
 as-leaf st bs bs₁ s k lo rows t es e i h = rw (e, ← i) h
 
-same-leaf : (st : State) (bs bs₁ : List ℕ) (s : Shape) (k lo rows : ℕ) (t : Tree) (es : List ℕ) → bs₁ ≡ bs → t ≡ leaf es → Became st bs bs s k lo rows rows t t → Became st bs bs₁ s k lo rows rows t (leaf es)
+same-leaf : (st : State) (bs bs₁ : List ℕ) (s : Shape) (k lo rows : ℕ) (t : Tree) (es : List ℕ) → bs₁ ≡ bs → t ≡ leaf es → Became st bs bs s k lo rows rows t t
+    → Became st bs bs₁ s k lo rows rows t (leaf es)
 same-leaf st bs bs₁ s k lo rows t es e i h = rw (e, ← i) h
 
 module _ (bs bs₁ ms : List ℕ) (s : Shape) (Q : List ℕ) (dim k lo rows best n : ℕ) (o : RootSplit bs bs₁ s dim k lo rows n) where
@@ -135,7 +137,8 @@ branch-falls bs bs₁ ms s Q dim k lo rows best n o e w =
     let z = opens (w .state) bs bs₁ s dim k lo rows (w .tree) n e (o (w .state) (w .tree) (w .has)) in
     let q = rw (z .splitRoot-is) at (splitRoot-kept (w .state) (w .has .holds .valid) (w .request) dim (w .tree) (w .has .ordered)) in
     let u = branch (z .d) (z .key) (z .less) (z .other) in
-    count-read (w .state) (words bs₁) s k lo n u (tree-became (w .state) s bs bs₁ k lo rows n (w .tree) u (w .has) (z .became) q) ∙ z .became .same ∙ sym (count-read (w .state) (words bs) s k lo rows (w .tree) (w .has))
+    count-read (w .state) (words bs₁) s k lo n u (tree-became (w .state) s bs bs₁ k lo rows n (w .tree) u (w .has) (z .became) q) ∙ z .became .same
+    ∙ sym (count-read (w .state) (words bs) s k lo rows (w .tree) (w .has))
 
 -- ---- the search of a branch
 -- the less side is done, visited or not
@@ -343,7 +346,14 @@ module _ (bs ms : List ℕ) (s : Shape) (Q : List ℕ) (k lo rows best : ℕ) (l
   pub skip-fits : ReadyBranch bs ms s Q k lo rows best → getD (words bs) (at.nodeAt s k + 3) 0 + 0 ≤ 8191
   skip-fits w =
       let h = w .has in
-      omega (arith, parts (w .state) s (words bs) k lo rows (w .dim) (w .key) (w .less) (w .other) h .here .skip-is, h .fits, nodes-branch (w .dim) (w .key) (w .less) (w .other), h .rows-to, h .holds .range .cap-to)
+      omega (
+        arith,
+        parts (w .state) s (words bs) k lo rows (w .dim) (w .key) (w .less) (w .other) h .here .skip-is,
+        h .fits,
+        nodes-branch (w .dim) (w .key) (w .less) (w .other),
+        h .rows-to,
+        h .holds .range .cap-to,
+      )
 
   -- neither side is visited
   pub ret-neither : less ≡ false → other ≡ false → best ≤ s .entries → Branched bs bs ms s Q k lo rows best best true rows
@@ -416,7 +426,8 @@ module _ (bs ms : List ℕ) (s : Shape) (Q : List ℕ) (k lo rows best : ℕ) (l
         let z = placed (m .row-is) (m .less-is) (c .next-is) (S st r b q (other-tree st r d key a b q h)) in
         end-other st r bs bs₂ s k lo rows rows₁ d key a b (m .tree) best best₁ on₁ h (m .half) e (sym (c .other-is) ∙ f) bs₃ best₂ on₂ rows₂ z
       where
-        placed : {u v w i j n : ℕ} → i ≡ u → j ≡ v → n ≡ w → Found st bs₂ bs₃ s i (lo + j) rows₁ b (searchFrom st r n b (optionOf best₁)) best₂ on₂ rows₂ → Found st bs₂ bs₃ s u (lo + v) rows₁ b (searchFrom st r w b (optionOf best₁)) best₂ on₂ rows₂
+        placed : {u v w i j n : ℕ} → i ≡ u → j ≡ v → n ≡ w → Found st bs₂ bs₃ s i (lo + j) rows₁ b (searchFrom st r n b (optionOf best₁)) best₂ on₂ rows₂
+            → Found st bs₂ bs₃ s u (lo + v) rows₁ b (searchFrom st r w b (optionOf best₁)) best₂ on₂ rows₂
         placed e f g z = rw (← e, ← f, ← g) z
 
 pub few-rows : (bs ms : List ℕ) (s : Shape) (Q : List ℕ) (k lo rows best : ℕ) → ReadyBranch bs ms s Q k lo rows best → rows ≤ 8191
@@ -433,8 +444,10 @@ as-node bs ms s Q k lo rows best w = record {
   small = w .small;
 }
 
-pub as-branch : (bs bs′ ms : List ℕ) (s : Shape) (Q : List ℕ) (dim k lo rows best best′ : ℕ) (on : Bool) (rows′ : ℕ) → Searched bs bs′ ms s Q dim k lo rows best best′ on rows′ → Branched bs bs′ ms s Q k lo rows best best′ on rows′
+pub as-branch : (bs bs′ ms : List ℕ) (s : Shape) (Q : List ℕ) (dim k lo rows best best′ : ℕ) (on : Bool) (rows′ : ℕ)
+    → Searched bs bs′ ms s Q dim k lo rows best best′ on rows′ → Branched bs bs′ ms s Q k lo rows best best′ on rows′
 unfolding Searched Branched splitRoot
 as-branch bs bs′ ms s Q dim k lo rows best best′ on rows′ c st r d key a b asks h =
-    let v : searchFrom st r dim (branch d key a b) (optionOf best) ≡ visitOf st r (branch d key a b) (optionOf best) = step st (h .holds .valid) r dim (branch d key a b) (optionOf best) (h .ordered) in
+    let v : searchFrom st r dim (branch d key a b) (optionOf best) ≡ visitOf st r (branch d key a b) (optionOf best) = step st (h .holds .valid) r dim (branch d key a b)
+    (optionOf best) (h .ordered) in
     rw v at (c st r (branch d key a b) asks h)

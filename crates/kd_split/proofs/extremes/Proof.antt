@@ -25,11 +25,15 @@ permutation-at-requires c κs = c .before .pre .0 .range
 
 -- src/bifurcate.rt:50:13
 add-p : tie.Need-add-p Inv-loop μ-loop
-add-p c = omega (arith, place-room (c .before .before .args .image .now) (c .before .before .args .s) (c .before .before .pre .0) ((c .before .before .args .lo) + (c .before .before .args .c)) (c .before .before .pre .1 .1 .0), c .permutation-at .ensures)
+add-p c =
+    let start = c .before .before in
+    omega (arith, place-room (start .args .image .now) (start .args .s) (start .pre .0) ((start .args .lo) + (start .args .c)) (start .pre .1 .1 .0), c .permutation-at .ensures)
 
 -- src/bifurcate.rt:51:39
 get-requires : tie.Need-get-requires Inv-loop μ-loop
-get-requires c κs = omega (arith, place-room (c .before .before .args .image .now) (c .before .before .args .s) (c .before .before .pre .0) ((c .before .before .args .lo) + (c .before .before .args .c)) (c .before .before .pre .1 .1 .0), c .permutation-at .ensures, c .before .before .pre .1 .1 .1)
+get-requires c κs =
+    let start = c .before .before in
+    omega (arith, place-room (start .args .image .now) (start .args .s) (start .pre .0) ((start .args .lo) + (start .args .c)) (start .pre .1 .1 .0), c .permutation-at .ensures, start .pre .1 .1 .1)
 
 -- src/bifurcate.rt:51:39
 cast-key-in : tie.Need-cast-key-in Inv-loop μ-loop
@@ -37,19 +41,32 @@ cast-key-in c = omega arith
 
 -- src/bifurcate.rt:51:9
 key-in-requires : tie.Need-key-in-requires Inv-loop μ-loop
-key-in-requires c κs = (c .before .before .before .pre .0, (c .before .before .before .pre .1 .0, rw (c .get .ensures, c .before .permutation-at .ensures) ((c .before .before .before .pre .0 .places) (c .before .before .before .args .lo) (omega (arith, c .before .before .before .pre .1 .1)))))
+key-in-requires c κs =
+    let start = c .before .before .before in
+    (start .pre .0, (start .pre .1 .0, rw (c .get .ensures, c .before .permutation-at .ensures) ((start .pre .0 .places) (start .args .lo) (omega (arith, start .pre .1 .1)))))
 
 -- src/bifurcate.rt:55:5
 loop-holds : tie.Need-loop-holds Inv-loop μ-loop
-loop-holds c = (c .before .before .before .before .pre .1 .1 .1, extremes-one _ _ (c .before .before .before .before .pre .0) _ _ _ _ (c .before .before .before .before .pre .1 .1 .0) (c .before .before .permutation-at .ensures) _ _ (c .before .before .before .before .pre .1 .1 .1) (c .before .get .ensures) (c .key-in .ensures))
+loop-holds c =
+    let start = c .before .before .before .before in (
+      start .pre .1 .1 .1,
+      extremes-one _ _ (start .pre .0) _ _ _ _ (start .pre .1 .1 .0) (c .before .before .permutation-at .ensures) _ _ (start .pre .1 .1 .1)
+          (c .before .get .ensures) (c .key-in .ensures),
+    )
 
 -- src/bifurcate.rt:56:57
 add-get : tie.Need-add-get Inv-loop μ-loop
-add-get c = omega (arith, place-room (c .before .before .before .before .before .before .args .image .now) (c .before .before .before .before .before .before .args .s) (c .before .before .before .before .before .before .pre .0) ((c .before .before .before .before .before .before .args .lo) + (c .before .before .before .before .before .before .args .c)) (c .before .before .before .before .before .before .pre .1 .1 .0), c .before .before .before .before .permutation-at .ensures)
+add-get c =
+    let start = c .before .before .before .before .before .before in
+    let permutation-at = c .before .before .before .before .permutation-at in
+    omega (arith, place-room (start .args .image .now) (start .args .s) (start .pre .0) ((start .args .lo) + (start .args .c)) (start .pre .1 .1 .0), permutation-at .ensures)
 
 -- src/bifurcate.rt:56:39
 get-requires-2 : tie.Need-get-requires-2 Inv-loop μ-loop
-get-requires-2 c κs = omega (arith, place-room (c .before .before .before .before .before .before .args .image .now) (c .before .before .before .before .before .before .args .s) (c .before .before .before .before .before .before .pre .0) ((c .before .before .before .before .before .before .args .lo) + (c .before .before .before .before .before .before .args .c)) (c .before .before .before .before .before .before .pre .1 .1 .0), c .before .before .before .before .permutation-at .ensures)
+get-requires-2 c κs =
+    let start = c .before .before .before .before .before .before in
+    let permutation-at = c .before .before .before .before .permutation-at in
+    omega (arith, place-room (start .args .image .now) (start .args .s) (start .pre .0) ((start .args .lo) + (start .args .c)) (start .pre .1 .1 .0), permutation-at .ensures)
 
 -- src/bifurcate.rt:56:39
 cast-key-in-2 : tie.Need-cast-key-in-2 Inv-loop μ-loop
@@ -57,7 +74,10 @@ cast-key-in-2 c = omega arith
 
 -- src/bifurcate.rt:56:13
 key-in-requires-2 : tie.Need-key-in-requires-2 Inv-loop μ-loop
-key-in-requires-2 c κs = (c .before .before .before .before .before .before .before .pre .0, (c .before .before .before .before .before .before .before .pre .1 .0, place _ _ (c .before .before .before .before .before .before .before .pre .0) _ _ _ _ _ (c .before .before .before .before .before .before .before .pre .1 .1 .0) (c .before .loop-test .taken) (c .before .before .before .before .before .permutation-at .ensures) (c .get2 .ensures) .small))
+key-in-requires-2 c κs =
+    let start = c .before .before .before .before .before .before .before in
+    let permutation-at = c .before .before .before .before .before .permutation-at in
+    (start .pre .0, (start .pre .1 .0, place _ _ (start .pre .0) _ _ _ _ _ (start .pre .1 .1 .0) (c .before .loop-test .taken) (permutation-at .ensures) (c .get2 .ensures) .small))
 
 -- src/bifurcate.rt:63:9
 add-i : tie.Need-add-i Inv-loop μ-loop
@@ -69,11 +89,24 @@ loop-less c = omega arith
 
 -- src/bifurcate.rt:55:5
 loop-again : tie.Need-loop-again Inv-loop μ-loop
-loop-again c = (omega arith, extremes-more _ _ (c .before .before .before .before .before .before .before .before .before .before .pre .0) _ _ _ _ (c .before .before .before .before .before .before .before .before .before .before .pre .1 .1 .0) (c .before .before .before .before .before .before .before .before .permutation-at .ensures) _ _ _ _ _ _ _ (c .before .before .before .before .loop-test .taken) (c .before .before .before .get2 .ensures) (c .before .before .key-in2 .ensures) (c .before .before .before .before .before .loop .inv .1) (⊎-elim (λ w. omega arith) (λ w. omega arith) (c .before .if1 .came)) (⊎-elim (λ w. omega arith) (λ w. omega arith) (c .if2 .came)))
+loop-again c =
+    let start = c .before .before .before .before .before .before .before .before .before .before in
+    let permutation-at = c .before .before .before .before .before .before .before .before .permutation-at in
+    let loop = c .before .before .before .before .before .loop in
+    let loop-test = c .before .before .before .before .loop-test in
+    let get2 = c .before .before .before .get2 in (
+      omega arith,
+      extremes-more _ _ (start .pre .0) _ _ _ _ (start .pre .1 .1 .0) (permutation-at .ensures) _ _ _ _ _ _ _ (loop-test .taken) (get2 .ensures)
+          (c .before .before .key-in2 .ensures) (loop .inv .1) (⊎-elim (λ w. omega arith) (λ w. omega arith) (c .before .if1 .came))
+          (⊎-elim (λ w. omega arith) (λ w. omega arith) (c .if2 .came)),
+    )
 
 -- src/bifurcate.rt:45:1
 returns : tie.Need-returns Inv-loop μ-loop
-returns c = let e : (c .before .loop .i) ≡ (c .before .before .before .before .before .before .args .c) = omega (arith, c .before .loop .inv .0) in (rw (← e) (c .before .loop .inv .1 .least-is), rw (← e) (c .before .loop .inv .1 .greatest-is))
+returns c =
+    let start = c .before .before .before .before .before .before in
+    let e : (c .before .loop .i) ≡ (start .args .c) = omega (arith, c .before .loop .inv .0) in
+    (rw (← e) (c .before .loop .inv .1 .least-is), rw (← e) (c .before .loop .inv .1 .greatest-is))
 
 pub extremes-spec : {M : Type 1} → statement M
 extremes-spec =

@@ -25,7 +25,9 @@ permutation-at-requires c κs = c .before .pre .0 .range
 
 -- src/bifurcate.rt:213:13
 add-p : tie.Need-add-p Inv-loop μ-loop
-add-p c = omega (arith, place-room (c .before .before .args .image .now) (c .before .before .args .s) (c .before .before .pre .0) ((c .before .before .args .lo) + (c .before .before .args .c)) (c .before .before .pre .1 .1), c .permutation-at .ensures)
+add-p c =
+    let start = c .before .before in
+    omega (arith, place-room (start .args .image .now) (start .args .s) (start .pre .0) ((start .args .lo) + (start .args .c)) (start .pre .1 .1), c .permutation-at .ensures)
 
 -- src/bifurcate.rt:216:5
 loop-holds : tie.Need-loop-holds Inv-loop μ-loop
@@ -33,11 +35,15 @@ loop-holds c = (omega arith, lowest-none _ _ (c .before .before .pre .1 .0) _ _)
 
 -- src/bifurcate.rt:217:35
 add-get : tie.Need-add-get Inv-loop μ-loop
-add-get c = omega (arith, place-room (c .before .before .before .before .args .image .now) (c .before .before .before .before .args .s) (c .before .before .before .before .pre .0) ((c .before .before .before .before .args .lo) + (c .before .before .before .before .args .c)) (c .before .before .before .before .pre .1 .1), c .before .before .permutation-at .ensures)
+add-get c =
+    let start = c .before .before .before .before in
+    omega (arith, place-room (start .args .image .now) (start .args .s) (start .pre .0) ((start .args .lo) + (start .args .c)) (start .pre .1 .1), c .before .before .permutation-at .ensures)
 
 -- src/bifurcate.rt:217:17
 get-requires : tie.Need-get-requires Inv-loop μ-loop
-get-requires c κs = omega (arith, place-room (c .before .before .before .before .args .image .now) (c .before .before .before .before .args .s) (c .before .before .before .before .pre .0) ((c .before .before .before .before .args .lo) + (c .before .before .before .before .args .c)) (c .before .before .before .before .pre .1 .1), c .before .before .permutation-at .ensures)
+get-requires c κs =
+    let start = c .before .before .before .before in
+    omega (arith, place-room (start .args .image .now) (start .args .s) (start .pre .0) ((start .args .lo) + (start .args .c)) (start .pre .1 .1), c .before .before .permutation-at .ensures)
 
 -- src/bifurcate.rt:217:17
 cast-e : tie.Need-cast-e Inv-loop μ-loop
@@ -45,7 +51,19 @@ cast-e c = search needs
 
 -- src/bifurcate.rt:218:9
 lower-requires : tie.Need-lower-requires Inv-loop μ-loop
-lower-requires c κs = (c .before .before .before .before .before .pre .0, (c .before .before .before .before .before .pre .1 .0, (place _ _ (c .before .before .before .before .before .pre .0) _ _ _ _ _ (c .before .before .before .before .before .pre .1 .1) (c .before .loop-test .taken) (c .before .before .before .permutation-at .ensures) (c .get .ensures) .small, c .before .before .loop .inv .1 .small)))
+lower-requires c κs =
+    let start = c .before .before .before .before .before in
+    let permutation-at = c .before .before .before .permutation-at in (
+      start .pre .0,
+      (
+        start .pre .1 .0,
+        (
+          place _ _ (start .pre .0) _ _ _ _ _ (start .pre .1 .1) (c .before .loop-test .taken) (permutation-at .ensures)
+              (c .get .ensures) .small,
+          c .before .before .loop .inv .1 .small,
+        ),
+      ),
+    )
 
 -- src/bifurcate.rt:219:9
 add-i : tie.Need-add-i Inv-loop μ-loop
@@ -57,11 +75,21 @@ loop-less c = omega arith
 
 -- src/bifurcate.rt:216:5
 loop-again : tie.Need-loop-again Inv-loop μ-loop
-loop-again c = (omega arith, lowest-more _ _ (c .before .before .before .before .before .before .pre .1 .0) _ _ _ _ _ _ _ _ (c .before .before .before .before .before .before .pre .0) (c .before .before .before .before .before .before .pre .1 .1) (c .before .before .loop-test .taken) (c .before .before .before .before .permutation-at .ensures) (c .before .get .ensures) (c .lower .ensures .0) (c .lower .ensures .1) (c .before .before .before .loop .inv .1))
+loop-again c =
+    let start = c .before .before .before .before .before .before in
+    let permutation-at = c .before .before .before .before .permutation-at in
+    let loop = c .before .before .before .loop in (
+      omega arith,
+      lowest-more _ _ (start .pre .1 .0) _ _ _ _ _ _ _ _ (start .pre .0) (start .pre .1 .1) (c .before .before .loop-test .taken) (permutation-at .ensures)
+          (c .before .get .ensures) (c .lower .ensures .0) (c .lower .ensures .1) (loop .inv .1),
+    )
 
 -- src/bifurcate.rt:208:1
 returns : tie.Need-returns Inv-loop μ-loop
-returns c = let e : (c .before .loop .i) ≡ (c .before .before .before .before .args .c) = omega (arith, c .before .loop .inv .0) in (rw (← e) (c .before .loop .inv .1 .is), c .before .loop .inv .1 .small)
+returns c =
+    let start = c .before .before .before .before in
+    let e : (c .before .loop .i) ≡ (start .args .c) = omega (arith, c .before .loop .inv .0) in
+    (rw (← e) (c .before .loop .inv .1 .is), c .before .loop .inv .1 .small)
 
 pub first-least-spec : {M : Type 1} → statement M
 first-least-spec =

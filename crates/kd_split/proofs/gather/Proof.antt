@@ -26,7 +26,9 @@ permutation-at-requires c κs = c .before .before .pre .0 .range
 
 -- src/bifurcate.rt:125:13
 add-p : tie.Need-add-p Inv-loop μ-loop
-add-p c = omega (arith, place-room (c .before .before .before .args .image .now) (c .before .before .before .args .s) (c .before .before .before .pre .0) ((c .before .before .before .args .lo) + (c .before .before .before .args .c)) (c .before .before .before .pre .1 .0 .1), c .permutation-at .ensures)
+add-p c =
+    let start = c .before .before .before in
+    omega (arith, place-room (start .args .image .now) (start .args .s) (start .pre .0) ((start .args .lo) + (start .args .c)) (start .pre .1 .0 .1), c .permutation-at .ensures)
 
 -- src/bifurcate.rt:128:5
 loop-holds : tie.Need-loop-holds Inv-loop μ-loop
@@ -34,19 +36,46 @@ loop-holds c = (omega arith, gather-none _ _ _ _ _ _)
 
 -- src/bifurcate.rt:129:35
 add-get : tie.Need-add-get Inv-loop μ-loop
-add-get c = omega (arith, place-room (c .before .before .before .before .before .args .image .now) (c .before .before .before .before .before .args .s) (c .before .before .before .before .before .pre .0) ((c .before .before .before .before .before .args .lo) + (c .before .before .before .before .before .args .c)) (c .before .before .before .before .before .pre .1 .0 .1), c .before .before .permutation-at .ensures)
+add-get c =
+    let start = c .before .before .before .before .before in
+    omega (arith, place-room (start .args .image .now) (start .args .s) (start .pre .0) ((start .args .lo) + (start .args .c)) (start .pre .1 .0 .1), c .before .before .permutation-at .ensures)
 
 -- src/bifurcate.rt:129:13
 get-requires : tie.Need-get-requires Inv-loop μ-loop
-get-requires c κs = omega (arith, place-room (c .before .before .before .before .before .args .image .now) (c .before .before .before .before .before .args .s) (c .before .before .before .before .before .pre .0) ((c .before .before .before .before .before .args .lo) + (c .before .before .before .before .before .args .c)) (c .before .before .before .before .before .pre .1 .0 .1), c .before .before .permutation-at .ensures)
+get-requires c κs =
+    let start = c .before .before .before .before .before in
+    omega (arith, place-room (start .args .image .now) (start .args .s) (start .pre .0) ((start .args .lo) + (start .args .c)) (start .pre .1 .0 .1), c .before .before .permutation-at .ensures)
 
 -- src/bifurcate.rt:130:49
 add-push : tie.Need-add-push Inv-loop μ-loop
-add-push c = omega (arith, gather-room _ _ _ _ _ _ _ _ _ _ _ (c .before .before .before .before .before .before .before .pre .0) (c .before .before .before .before .before .before .before .pre .1 .0 .1) (c .before .before .loop-test .taken) _ (c .before .before .before .before .permutation-at .ensures) (c .before .get .ensures) (c .before .before .before .loop .inv .1) (c .before .before .before .before .before .before .before .pre .1 .1))
+add-push c =
+    let start = c .before .before .before .before .before .before .before in
+    let permutation-at = c .before .before .before .before .permutation-at in
+    let loop = c .before .before .before .loop in
+    omega (
+      arith,
+      gather-room _ _ _ _ _ _ _ _ _ _ _ (start .pre .0) (start .pre .1 .0 .1) (c .before .before .loop-test .taken) _ (permutation-at .ensures)
+          (c .before .get .ensures) (loop .inv .1) (start .pre .1 .1),
+    )
 
 -- src/bifurcate.rt:130:14
 push-requires : tie.Need-push-requires Inv-loop μ-loop
-push-requires c κs = (c .before .before .before .before .before .before .before .pre .0, ((c .before .before .before .before .before .before .before .pre .1 .0 .0, place _ _ (c .before .before .before .before .before .before .before .pre .0) _ _ _ _ _ (c .before .before .before .before .before .before .before .pre .1 .0 .1) (c .before .before .loop-test .taken) (c .before .before .before .before .permutation-at .ensures) (c .before .get .ensures) .small), gather-room _ _ _ _ _ _ _ _ _ _ _ (c .before .before .before .before .before .before .before .pre .0) (c .before .before .before .before .before .before .before .pre .1 .0 .1) (c .before .before .loop-test .taken) _ (c .before .before .before .before .permutation-at .ensures) (c .before .get .ensures) (c .before .before .before .loop .inv .1) (c .before .before .before .before .before .before .before .pre .1 .1)))
+push-requires c κs =
+    let start = c .before .before .before .before .before .before .before in
+    let permutation-at = c .before .before .before .before .permutation-at in
+    let loop = c .before .before .before .loop in
+    let loop-test = c .before .before .loop-test in (
+      start .pre .0,
+      (
+        (
+          start .pre .1 .0 .0,
+          place _ _ (start .pre .0) _ _ _ _ _ (start .pre .1 .0 .1) (loop-test .taken) (permutation-at .ensures)
+              (c .before .get .ensures) .small,
+        ),
+        gather-room _ _ _ _ _ _ _ _ _ _ _ (start .pre .0) (start .pre .1 .0 .1) (loop-test .taken) _ (permutation-at .ensures)
+            (c .before .get .ensures) (loop .inv .1) (start .pre .1 .1),
+      ),
+    )
 
 -- src/bifurcate.rt:130:9
 add-n : tie.Need-add-n Inv-loop μ-loop
@@ -62,7 +91,17 @@ loop-less c = omega arith
 
 -- src/bifurcate.rt:128:5
 loop-again : tie.Need-loop-again Inv-loop μ-loop
-loop-again c = (omega arith, gather-more _ _ _ _ _ _ _ _ _ _ _ _ _ (c .before .before .before .before .before .before .before .before .before .before .pre .0) (c .before .before .before .before .before .before .before .before .before .before .pre .1 .0 .1) (c .before .before .before .before .before .loop-test .taken) _ (c .before .before .before .before .before .before .before .permutation-at .ensures) (c .before .before .before .before .get .ensures) (c .before .before .before .before .before .before .loop .inv .1) (c .before .before .push .ensures .0) (c .before .before .before .before .before .before .before .before .before .before .pre .1 .1) (c .before .before .push .kept .1 .1 .1 .1 .1 .1 .0) (c .before .before .push .ensures .1))
+loop-again c =
+    let start = c .before .before .before .before .before .before .before .before .before .before in
+    let permutation-at = c .before .before .before .before .before .before .before .permutation-at in
+    let loop = c .before .before .before .before .before .before .loop in
+    let loop-test = c .before .before .before .before .before .loop-test in
+    let get = c .before .before .before .before .get in
+    let push = c .before .before .push in (
+      omega arith,
+      gather-more _ _ _ _ _ _ _ _ _ _ _ _ _ (start .pre .0) (start .pre .1 .0 .1) (loop-test .taken) _ (permutation-at .ensures) (get .ensures) (loop .inv .1)
+          (push .ensures .0) (start .pre .1 .1) (push .kept .1 .1 .1 .1 .1 .1 .0) (push .ensures .1),
+    )
 
 -- src/bifurcate.rt:118:1
 same-length : tie.Need-same-length Inv-loop μ-loop
@@ -70,7 +109,10 @@ same-length c = c .before .loop .inv .1 .long
 
 -- src/bifurcate.rt:118:1
 returns : tie.Need-returns Inv-loop μ-loop
-returns c = let e : (c .before .loop .i) ≡ (c .before .before .before .before .before .args .c) = omega (arith, c .before .loop .inv .0) in (rw (← e) (c .before .loop .inv .1 .count), rw (← e) (c .before .loop .inv .1 .bytes))
+returns c =
+    let start = c .before .before .before .before .before in
+    let e : (c .before .loop .i) ≡ (start .args .c) = omega (arith, c .before .loop .inv .0) in
+    (rw (← e) (c .before .loop .inv .1 .count), rw (← e) (c .before .loop .inv .1 .bytes))
 
 pub gather-spec : {M : Type 1} → statement M
 gather-spec =

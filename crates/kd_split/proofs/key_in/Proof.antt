@@ -23,7 +23,9 @@ returns c = key-plain _ _ _ _ _ (c .before .if1 .taken) (c .power-in .ensures)
 
 -- src/bifurcate.rt:53:9
 label-in-requires : tie.Need-label-in-requires
-label-in-requires c κs = label-asked (c .before .before .before .before .args .image .now) (c .before .before .before .before .args .s) (c .before .before .before .before .pre .0) (c .before .before .before .before .args .e) (omega (arith, c .before .before .before .before .pre .0 .range .kind-to, c .before .if1 .left)) (c .before .before .before .before .pre .1 .1)
+label-in-requires c κs =
+    let start = c .before .before .before .before in
+    label-asked (start .args .image .now) (start .args .s) (start .pre .0) (start .args .e) (omega (arith, start .pre .0 .range .kind-to, c .before .if1 .left)) (start .pre .1 .1)
 
 -- src/bifurcate.rt:53:9
 returns-2 : tie.Need-returns-2
@@ -35,7 +37,9 @@ sub-power-in c = search needs
 
 -- src/bifurcate.rt:55:5
 power-in-requires-2 : tie.Need-power-in-requires-2
-power-in-requires-2 c κs = (c .before .before .before .before .pre .0, (omega (arith, c .before .before .before .before .pre .1 .0, c .if2 .left, c .before .before .before .before .pre .0 .range .kind-to), c .before .before .before .before .pre .1 .1))
+power-in-requires-2 c κs =
+    let start = c .before .before .before .before in
+    (start .pre .0, (omega (arith, start .pre .1 .0, c .if2 .left, start .pre .0 .range .kind-to), start .pre .1 .1))
 
 -- src/bifurcate.rt:55:5
 cast-result-2 : tie.Need-cast-result-2

@@ -16,7 +16,9 @@ label-in-requires c κs = label-asked (c .before .args .image .now) (c .before .
 
 -- src/bifurcate.rt:196:9
 returns : tie.Need-returns
-returns c = (lower-below (walk.label (words (c .before .before .before .args .image .now)) (c .before .before .before .args .s)) _ (c .before .before .before .args .e) _ _ (c .before .label-in .ensures) (c .if1 .taken), c .before .before .before .pre .1 .1 .1)
+returns c =
+    let start = c .before .before .before in
+    (lower-below (walk.label (words (start .args .image .now)) (start .args .s)) _ (start .args .e) _ _ (c .before .label-in .ensures) (c .if1 .taken), start .pre .1 .1 .1)
 
 -- src/bifurcate.rt:199:16
 add-result : tie.Need-add-result
@@ -24,7 +26,12 @@ add-result c = search needs
 
 -- src/bifurcate.rt:199:9
 returns-2 : tie.Need-returns-2
-returns-2 c = (lower-first (walk.label (words (c .before .before .before .before .args .image .now)) (c .before .before .before .before .args .s)) _ (c .before .before .before .before .args .e) _ _ (c .before .before .label-in .ensures) (c .before .if1 .left) (c .if2 .taken), omega (arith, c .before .before .before .before .pre .1 .1 .0))
+returns-2 c =
+    let start = c .before .before .before .before in (
+      lower-first (walk.label (words (start .args .image .now)) (start .args .s)) _ (start .args .e) _ _ (c .before .before .label-in .ensures) (c .before .if1 .left)
+          (c .if2 .taken),
+      omega (arith, start .pre .1 .1 .0),
+    )
 
 -- src/bifurcate.rt:201:50
 sub-label-in : tie.Need-sub-label-in
@@ -32,7 +39,9 @@ sub-label-in c = search needs
 
 -- src/bifurcate.rt:201:12
 label-in-requires-2 : tie.Need-label-in-requires-2
-label-in-requires-2 c κs = label-asked (c .before .before .before .before .args .image .now) (c .before .before .before .before .args .s) (c .before .before .before .before .pre .0) _ (c .before .before .before .before .pre .1 .0) (omega (arith, c .before .before .before .before .pre .1 .1 .1, c .if2 .left))
+label-in-requires-2 c κs =
+    let start = c .before .before .before .before in
+    label-asked (start .args .image .now) (start .args .s) (start .pre .0) _ (start .pre .1 .0) (omega (arith, start .pre .1 .1 .1, c .if2 .left))
 
 -- src/bifurcate.rt:202:16
 add-result-2 : tie.Need-add-result-2
@@ -40,11 +49,25 @@ add-result-2 c = search needs
 
 -- src/bifurcate.rt:202:9
 returns-3 : tie.Need-returns-3
-returns-3 c = (lower-new (walk.label (words (c .before .before .before .before .before .before .args .image .now)) (c .before .before .before .before .before .before .args .s)) _ (c .before .before .before .before .before .before .args .e) _ _ (c .before .before .before .before .label-in .ensures) _ (c .before .before .before .if1 .left) (c .before .before .if2 .left) (c .before .label-in2 .ensures) (c .if3 .taken), omega (arith, c .before .before .before .before .before .before .pre .1 .1 .0))
+returns-3 c =
+    let start = c .before .before .before .before .before .before in
+    let label-in = c .before .before .before .before .label-in in
+    let if1 = c .before .before .before .if1 in (
+      lower-new (walk.label (words (start .args .image .now)) (start .args .s)) _ (start .args .e) _ _ (label-in .ensures) _ (if1 .left) (c .before .before .if2 .left)
+          (c .before .label-in2 .ensures) (c .if3 .taken),
+      omega (arith, start .pre .1 .1 .0),
+    )
 
 -- src/bifurcate.rt:189:1
 returns-4 : tie.Need-returns-4
-returns-4 c = (lower-old (walk.label (words (c .before .before .before .before .before .before .args .image .now)) (c .before .before .before .before .before .before .args .s)) _ (c .before .before .before .before .before .before .args .e) _ _ (c .before .before .before .before .label-in .ensures) _ (c .before .before .before .if1 .left) (c .before .before .if2 .left) (c .before .label-in2 .ensures) (c .if3 .left), c .before .before .before .before .before .before .pre .1 .1 .1)
+returns-4 c =
+    let start = c .before .before .before .before .before .before in
+    let label-in = c .before .before .before .before .label-in in
+    let if1 = c .before .before .before .if1 in (
+      lower-old (walk.label (words (start .args .image .now)) (start .args .s)) _ (start .args .e) _ _ (label-in .ensures) _ (if1 .left) (c .before .before .if2 .left)
+          (c .before .label-in2 .ensures) (c .if3 .left),
+      start .pre .1 .1 .1,
+    )
 
 pub lower-spec : {M : Type 1} → statement M
 lower-spec =

@@ -20,7 +20,18 @@ slice-aggregate-gather c = search needs
 
 -- src/bifurcate.rt:144:9
 gather-requires : tie.Need-gather-requires
-gather-requires c κs = (c .before .before .before .pre .0, (c .before .before .before .pre .1, omega (arith, parts-length (words (c .before .before .before .args .image .now)) (c .before .before .before .args .s) (c .before .before .before .pre .0) (c .before .before .before .args .d) (c .before .before .before .args .x) (c .before .before .before .args .lo) (c .before .before .before .args .c) (c .before .before .before .pre .1 .1))))
+gather-requires c κs =
+    let start = c .before .before .before in (
+      start .pre .0,
+      (
+        start .pre .1,
+        omega (
+          arith,
+          parts-length (words (start .args .image .now)) (start .args .s) (start .pre .0) (start .args .d) (start .args .x)
+              (start .args .lo) (start .args .c) (start .pre .1 .1),
+        ),
+      ),
+    )
 
 -- src/bifurcate.rt:145:50
 slice-aggregate-gather-2 : tie.Need-slice-aggregate-gather-2
@@ -28,15 +39,45 @@ slice-aggregate-gather-2 c = search needs
 
 -- src/bifurcate.rt:145:9
 gather-requires-2 : tie.Need-gather-requires-2
-gather-requires-2 c κs = (c .before .before .before .before .before .before .before .pre .0, (c .before .before .before .before .before .before .before .pre .1, omega (arith, parts-length (words (c .before .before .before .before .before .before .before .args .image .now)) (c .before .before .before .before .before .before .before .args .s) (c .before .before .before .before .before .before .before .pre .0) (c .before .before .before .before .before .before .before .args .d) (c .before .before .before .before .before .before .before .args .x) (c .before .before .before .before .before .before .before .args .lo) (c .before .before .before .before .before .before .before .args .c) (c .before .before .before .before .before .before .before .pre .1 .1), c .before .before .before .gather .kept .1 .1 .1 .1 .1 .1 .1 .0, c .before .before .before .gather .ensures .0)))
+gather-requires-2 c κs =
+    let start = c .before .before .before .before .before .before .before in
+    let gather = c .before .before .before .gather in (
+      start .pre .0,
+      (
+        start .pre .1,
+        omega (
+          arith,
+          parts-length (words (start .args .image .now)) (start .args .s) (start .pre .0) (start .args .d) (start .args .x)
+              (start .args .lo) (start .args .c) (start .pre .1 .1),
+          gather .kept .1 .1 .1 .1 .1 .1 .1 .0,
+          gather .ensures .0,
+        ),
+      ),
+    )
 
 -- src/bifurcate.rt:146:18
 add-e : tie.Need-add-e
-add-e c = omega (arith, c .before .before .before .before .before .gather .ensures .0, c .before .gather2 .ensures .0, parts-length (words (c .before .before .before .before .before .before .before .before .before .args .image .now)) (c .before .before .before .before .before .before .before .before .before .args .s) (c .before .before .before .before .before .before .before .before .before .pre .0) (c .before .before .before .before .before .before .before .before .before .args .d) (c .before .before .before .before .before .before .before .before .before .args .x) (c .before .before .before .before .before .before .before .before .before .args .lo) (c .before .before .before .before .before .before .before .before .before .args .c) (c .before .before .before .before .before .before .before .before .before .pre .1 .1))
+add-e c =
+    let start = c .before .before .before .before .before .before .before .before .before in
+    let gather = c .before .before .before .before .before .gather in
+    omega (
+      arith,
+      gather .ensures .0,
+      c .before .gather2 .ensures .0,
+      parts-length (words (start .args .image .now)) (start .args .s) (start .pre .0) (start .args .d) (start .args .x) (start .args .lo) (start .args .c) (start .pre .1 .1),
+    )
 
 -- src/bifurcate.rt:146:13
 mul-e : tie.Need-mul-e
-mul-e c = omega (arith, c .before .before .before .before .before .gather .ensures .0, c .before .gather2 .ensures .0, parts-length (words (c .before .before .before .before .before .before .before .before .before .args .image .now)) (c .before .before .before .before .before .before .before .before .before .args .s) (c .before .before .before .before .before .before .before .before .before .pre .0) (c .before .before .before .before .before .before .before .before .before .args .d) (c .before .before .before .before .before .before .before .before .before .args .x) (c .before .before .before .before .before .before .before .before .before .args .lo) (c .before .before .before .before .before .before .before .before .before .args .c) (c .before .before .before .before .before .before .before .before .before .pre .1 .1))
+mul-e c =
+    let start = c .before .before .before .before .before .before .before .before .before in
+    let gather = c .before .before .before .before .before .gather in
+    omega (
+      arith,
+      gather .ensures .0,
+      c .before .gather2 .ensures .0,
+      parts-length (words (start .args .image .now)) (start .args .s) (start .pre .0) (start .args .d) (start .args .x) (start .args .lo) (start .args .c) (start .pre .1 .1),
+    )
 
 -- src/bifurcate.rt:147:31
 permutation-at-requires : tie.Need-permutation-at-requires
@@ -44,19 +85,68 @@ permutation-at-requires c κs = search needs
 
 -- src/bifurcate.rt:147:31
 add-paste : tie.Need-add-paste
-add-paste c = omega (arith, place-room (c .before .before .before .before .before .before .before .before .before .before .before .args .image .now) (c .before .before .before .before .before .before .before .before .before .before .before .args .s) (c .before .before .before .before .before .before .before .before .before .before .before .pre .0) ((c .before .before .before .before .before .before .before .before .before .before .before .args .lo) + (c .before .before .before .before .before .before .before .before .before .before .before .args .c)) (c .before .before .before .before .before .before .before .before .before .before .before .pre .1 .1), c .permutation-at .ensures)
+add-paste c =
+    let start = c .before .before .before .before .before .before .before .before .before .before .before in
+    omega (arith, place-room (start .args .image .now) (start .args .s) (start .pre .0) ((start .args .lo) + (start .args .c)) (start .pre .1 .1), c .permutation-at .ensures)
 
 -- src/bifurcate.rt:147:56
 array-share-prefix-scratch : tie.Need-array-share-prefix-scratch
-array-share-prefix-scratch c = omega (arith, c .before .before .before .before .before .before .before .gather .ensures .0, c .before .before .before .gather2 .ensures .0, parts-length (words (c .before .before .before .before .before .before .before .before .before .before .before .args .image .now)) (c .before .before .before .before .before .before .before .before .before .before .before .args .s) (c .before .before .before .before .before .before .before .before .before .before .before .pre .0) (c .before .before .before .before .before .before .before .before .before .before .before .args .d) (c .before .before .before .before .before .before .before .before .before .before .before .args .x) (c .before .before .before .before .before .before .before .before .before .before .before .args .lo) (c .before .before .before .before .before .before .before .before .before .before .before .args .c) (c .before .before .before .before .before .before .before .before .before .before .before .pre .1 .1), c .before .before .before .before .before .before .before .gather .kept .1 .1 .1 .1 .1 .1 .1 .0, c .before .before .before .gather2 .kept .1 .1 .1 .1 .1 .1 .1 .0)
+array-share-prefix-scratch c =
+    let start = c .before .before .before .before .before .before .before .before .before .before .before in
+    let gather = c .before .before .before .before .before .before .before .gather in
+    let gather2 = c .before .before .before .gather2 in
+    omega (
+      arith,
+      gather .ensures .0,
+      gather2 .ensures .0,
+      parts-length (words (start .args .image .now)) (start .args .s) (start .pre .0) (start .args .d)
+          (start .args .x) (start .args .lo) (start .args .c) (start .pre .1 .1),
+      gather .kept .1 .1 .1 .1 .1 .1 .1 .0,
+      gather2 .kept .1 .1 .1 .1 .1 .1 .1 .0,
+    )
 
 -- src/bifurcate.rt:147:56
 slice-aggregate-paste : tie.Need-slice-aggregate-paste
-slice-aggregate-paste c = sym (length-take-le (4 * ((c .before .before .before .before .before .before .before .before .gather .result) + (c .before .before .before .before .gather2 .result))) (c .before .before .before .before .gather2 .last .1 .1 .1 .1 .1 .1 .1 .0) (omega (arith, c .before .before .before .before .before .before .before .before .gather .ensures .0, c .before .before .before .before .gather2 .ensures .0, parts-length (words (c .before .before .before .before .before .before .before .before .before .before .before .before .args .image .now)) (c .before .before .before .before .before .before .before .before .before .before .before .before .args .s) (c .before .before .before .before .before .before .before .before .before .before .before .before .pre .0) (c .before .before .before .before .before .before .before .before .before .before .before .before .args .d) (c .before .before .before .before .before .before .before .before .before .before .before .before .args .x) (c .before .before .before .before .before .before .before .before .before .before .before .before .args .lo) (c .before .before .before .before .before .before .before .before .before .before .before .before .args .c) (c .before .before .before .before .before .before .before .before .before .before .before .before .pre .1 .1), c .before .before .before .before .before .before .before .before .gather .kept .1 .1 .1 .1 .1 .1 .1 .0, c .before .before .before .before .gather2 .kept .1 .1 .1 .1 .1 .1 .1 .0)))
+slice-aggregate-paste c =
+    let start = c .before .before .before .before .before .before .before .before .before .before .before .before in
+    let gather = c .before .before .before .before .before .before .before .before .gather in
+    let gather2 = c .before .before .before .before .gather2 in
+    sym (length-take-le (4 * ((gather .result) + (gather2 .result))) (gather2 .last .1 .1 .1 .1 .1 .1 .1 .0)
+    (omega (
+      arith,
+      gather .ensures .0,
+      gather2 .ensures .0,
+      parts-length (words (start .args .image .now)) (start .args .s) (start .pre .0) (start .args .d)
+          (start .args .x) (start .args .lo) (start .args .c) (start .pre .1 .1),
+      gather .kept .1 .1 .1 .1 .1 .1 .1 .0,
+      gather2 .kept .1 .1 .1 .1 .1 .1 .1 .0,
+    )))
 
 -- src/bifurcate.rt:147:5
 paste-requires : tie.Need-paste-requires
-paste-requires c κs = omega (arith, length-take-le (4 * ((c .before .before .before .before .before .before .before .before .gather .result) + (c .before .before .before .before .gather2 .result))) (c .before .before .before .before .gather2 .last .1 .1 .1 .1 .1 .1 .1 .0) (omega (arith, c .before .before .before .before .before .before .before .before .gather .ensures .0, c .before .before .before .before .gather2 .ensures .0, parts-length (words (c .before .before .before .before .before .before .before .before .before .before .before .before .args .image .now)) (c .before .before .before .before .before .before .before .before .before .before .before .before .args .s) (c .before .before .before .before .before .before .before .before .before .before .before .before .pre .0) (c .before .before .before .before .before .before .before .before .before .before .before .before .args .d) (c .before .before .before .before .before .before .before .before .before .before .before .before .args .x) (c .before .before .before .before .before .before .before .before .before .before .before .before .args .lo) (c .before .before .before .before .before .before .before .before .before .before .before .before .args .c) (c .before .before .before .before .before .before .before .before .before .before .before .before .pre .1 .1), c .before .before .before .before .before .before .before .before .gather .kept .1 .1 .1 .1 .1 .1 .1 .0, c .before .before .before .before .gather2 .kept .1 .1 .1 .1 .1 .1 .1 .0)), place-room (c .before .before .before .before .before .before .before .before .before .before .before .before .args .image .now) (c .before .before .before .before .before .before .before .before .before .before .before .before .args .s) (c .before .before .before .before .before .before .before .before .before .before .before .before .pre .0) ((c .before .before .before .before .before .before .before .before .before .before .before .before .args .lo) + (c .before .before .before .before .before .before .before .before .before .before .before .before .args .c)) (c .before .before .before .before .before .before .before .before .before .before .before .before .pre .1 .1), c .before .permutation-at .ensures, c .before .before .before .before .before .before .before .before .gather .ensures .0, c .before .before .before .before .gather2 .ensures .0, parts-length (words (c .before .before .before .before .before .before .before .before .before .before .before .before .args .image .now)) (c .before .before .before .before .before .before .before .before .before .before .before .before .args .s) (c .before .before .before .before .before .before .before .before .before .before .before .before .pre .0) (c .before .before .before .before .before .before .before .before .before .before .before .before .args .d) (c .before .before .before .before .before .before .before .before .before .before .before .before .args .x) (c .before .before .before .before .before .before .before .before .before .before .before .before .args .lo) (c .before .before .before .before .before .before .before .before .before .before .before .before .args .c) (c .before .before .before .before .before .before .before .before .before .before .before .before .pre .1 .1))
+paste-requires c κs =
+    let start = c .before .before .before .before .before .before .before .before .before .before .before .before in
+    let gather = c .before .before .before .before .before .before .before .before .gather in
+    let gather2 = c .before .before .before .before .gather2 in
+    let W = words (start .args .image .now) in
+    omega (
+      arith,
+      length-take-le (4 * ((gather .result) + (gather2 .result))) (gather2 .last .1 .1 .1 .1 .1 .1 .1 .0)
+          (omega (
+            arith,
+            gather .ensures .0,
+            gather2 .ensures .0,
+            parts-length W (start .args .s) (start .pre .0) (start .args .d) (start .args .x) (start .args .lo)
+                (start .args .c) (start .pre .1 .1),
+            gather .kept .1 .1 .1 .1 .1 .1 .1 .0,
+            gather2 .kept .1 .1 .1 .1 .1 .1 .1 .0,
+          )),
+      place-room (start .args .image .now) (start .args .s) (start .pre .0) ((start .args .lo) + (start .args .c)) (start .pre .1 .1),
+      c .before .permutation-at .ensures,
+      gather .ensures .0,
+      gather2 .ensures .0,
+      parts-length W (start .args .s) (start .pre .0) (start .args .d) (start .args .x) (start .args .lo) (start .args .c) (start .pre .1 .1),
+    )
 
 -- src/bifurcate.rt:137:1
 same-length : tie.Need-same-length
@@ -64,7 +154,27 @@ same-length c = search needs
 
 -- src/bifurcate.rt:137:1
 returns : tie.Need-returns
-returns c = (c .before .before .before .before .before .before .before .before .before .before .before .gather .ensures .0, c .before .before .paste .ensures ∙ rw (parted-words _ _ _ _ _ _ _ (parts-small (words (c .before .before .before .before .before .before .before .before .before .before .before .before .before .before .before .args .image .now)) (c .before .before .before .before .before .before .before .before .before .before .before .before .before .before .before .args .s) (c .before .before .before .before .before .before .before .before .before .before .before .before .before .before .before .pre .0) (c .before .before .before .before .before .before .before .before .before .before .before .before .before .before .before .args .d) (c .before .before .before .before .before .before .before .before .before .before .before .before .before .before .before .args .x) (c .before .before .before .before .before .before .before .before .before .before .before .before .before .before .before .args .lo) (c .before .before .before .before .before .before .before .before .before .before .before .before .before .before .before .args .c) (c .before .before .before .before .before .before .before .before .before .before .before .before .before .before .before .pre .1 .1)) (c .before .before .before .before .before .before .before .before .before .before .before .gather .ensures .0) (c .before .before .before .before .before .before .before .gather2 .ensures .0) (c .before .before .before .before .before .before .before .before .before .before .before .gather .ensures .1) (c .before .before .before .before .before .before .before .gather2 .ensures .1) (omega (arith, c .before .before .before .before .before .before .before .before .before .before .before .gather .ensures .0, c .before .before .before .before .before .before .before .gather2 .ensures .0, parts-length (words (c .before .before .before .before .before .before .before .before .before .before .before .before .before .before .before .args .image .now)) (c .before .before .before .before .before .before .before .before .before .before .before .before .before .before .before .args .s) (c .before .before .before .before .before .before .before .before .before .before .before .before .before .before .before .pre .0) (c .before .before .before .before .before .before .before .before .before .before .before .before .before .before .before .args .d) (c .before .before .before .before .before .before .before .before .before .before .before .before .before .before .before .args .x) (c .before .before .before .before .before .before .before .before .before .before .before .before .before .before .before .args .lo) (c .before .before .before .before .before .before .before .before .before .before .before .before .before .before .before .args .c) (c .before .before .before .before .before .before .before .before .before .before .before .before .before .before .before .pre .1 .1))), c .before .before .before .before .permutation-at .ensures) refl)
+returns c =
+    let start = c .before .before .before .before .before .before .before .before .before .before .before .before .before .before .before in
+    let gather = c .before .before .before .before .before .before .before .before .before .before .before .gather in
+    let gather2 = c .before .before .before .before .before .before .before .gather2 in
+    let permutation-at = c .before .before .before .before .permutation-at in
+    let W = words (start .args .image .now) in (
+      gather .ensures .0,
+      c .before .before .paste .ensures ∙ rw (
+        parted-words _ _ _ _ _ _ _
+            (parts-small W (start .args .s) (start .pre .0) (start .args .d) (start .args .x) (start .args .lo) (start .args .c) (start .pre .1 .1)) (gather .ensures .0)
+            (gather2 .ensures .0) (gather .ensures .1) (gather2 .ensures .1)
+            (omega (
+              arith,
+              gather .ensures .0,
+              gather2 .ensures .0,
+              parts-length W (start .args .s) (start .pre .0) (start .args .d) (start .args .x) (start .args .lo)
+                  (start .args .c) (start .pre .1 .1),
+            )),
+        permutation-at .ensures,
+      ) refl,
+    )
 
 pub part-entries-spec : {M : Type 1} → statement M
 part-entries-spec =

@@ -39,11 +39,22 @@ cast-power-of c = search needs
 
 -- src/lib.rt:41:5
 power-of-requires : tie.Need-power-of-requires
-power-of-requires c κs = ((omega arith, (omega arith, omega (arith, c .before .before .before .pre .1 .0, c .before .before .before .pre .0 .range .vars-to))), rest-starts (c .before .before .before .args .image .now) (c .before .before .before .args .s .variables) (c .before .entry-at .result) (length (c .before .before .before .args .image .now) - 4 * (c .before .entry-at .result)) (omega arith) (rw (c .before .entry-at .ensures) ((c .before .before .before .pre .0 .lms) (c .before .before .before .args .e) (c .before .before .before .pre .1 .1))))
+power-of-requires c κs =
+    let start = c .before .before .before in (
+      (omega arith, (omega arith, omega (arith, start .pre .1 .0, start .pre .0 .range .vars-to))),
+      rest-starts (start .args .image .now) (start .args .s .variables) (c .before .entry-at .result)
+          (length (start .args .image .now) - 4 * (c .before .entry-at .result)) (omega arith)
+          (rw (c .before .entry-at .ensures) ((start .pre .0 .lms) (start .args .e) (start .pre .1 .1))),
+    )
 
 -- src/lib.rt:35:1
 returns : tie.Need-returns
-returns c = power-read _ _ _ _ _ _ _ (c .before .before .entry-at .ensures) refl (c .power-of .ensures ∙ rw (rest-first (c .before .before .before .before .args .image .now) (c .before .before .before .before .args .s .variables) (c .before .before .entry-at .result) (length (c .before .before .before .before .args .image .now) - 4 * (c .before .before .entry-at .result)) (omega arith) (rw (c .before .before .entry-at .ensures) ((c .before .before .before .before .pre .0 .lms) (c .before .before .before .before .args .e) (c .before .before .before .before .pre .1 .1)))) refl)
+returns c =
+    let start = c .before .before .before .before in
+    let entry-at = c .before .before .entry-at in
+    power-read _ _ _ _ _ _ _ (entry-at .ensures) refl (c .power-of .ensures
+    ∙ rw (rest-first (start .args .image .now) (start .args .s .variables) (entry-at .result) (length (start .args .image .now) - 4 * (entry-at .result))
+    (omega arith) (rw (entry-at .ensures) ((start .pre .0 .lms) (start .args .e) (start .pre .1 .1)))) refl)
 
 pub power-in-spec : {M : Type 1} → statement M
 power-in-spec =

@@ -14,7 +14,9 @@ wanted-requires c κs = search needs
 
 -- src/bifurcate.rt:111:9
 put-requires : tie.Need-put-requires
-put-requires c κs = push-room _ _ _ (c .before .before .before .before .before .args .out .now) _ (c .before .before .wanted .ensures) (c .before .if1 .taken) (c .before .before .before .before .before .pre .1 .1)
+put-requires c κs =
+    let start = c .before .before .before .before .before in
+    push-room _ _ _ (start .args .out .now) _ (c .before .before .wanted .ensures) (c .before .if1 .taken) (start .pre .1 .1)
 
 -- src/bifurcate.rt:112:9
 same-length : tie.Need-same-length
@@ -22,7 +24,11 @@ same-length c = search needs
 
 -- src/bifurcate.rt:112:9
 returns : tie.Need-returns
-returns c = push-yes _ _ _ _ _ _ (c .before .before .before .before .before .wanted .ensures) (c .before .before .before .before .if1 .taken) (push-room _ _ _ (c .before .before .before .before .before .before .before .before .args .out .now) _ (c .before .before .before .before .before .wanted .ensures) (c .before .before .before .before .if1 .taken) (c .before .before .before .before .before .before .before .before .pre .1 .1)) (c .before .before .put .ensures)
+returns c =
+    let start = c .before .before .before .before .before .before .before .before in
+    let wanted = c .before .before .before .before .before .wanted in
+    let if1 = c .before .before .before .before .if1 in
+    push-yes _ _ _ _ _ _ (wanted .ensures) (if1 .taken) (push-room _ _ _ (start .args .out .now) _ (wanted .ensures) (if1 .taken) (start .pre .1 .1)) (c .before .before .put .ensures)
 
 -- src/bifurcate.rt:103:1
 returns-2 : tie.Need-returns-2

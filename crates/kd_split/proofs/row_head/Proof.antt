@@ -48,7 +48,13 @@ same-length c = search needs
 
 -- src/bifurcate.rt:152:1
 returns : tie.Need-returns
-returns c = head-written _ _ _ _ _ _ _ _ _ _ _ _ (c .before .before .before .before .before .before .before .before .before .before .before .before .before .before .before .before .before .before .before .before .before .pre) (c .before .before .before .before .before .before .before .before .before .before .before .before .before .before .before .before .before .before .put .ensures) (c .before .before .before .before .before .before .before .before .before .before .before .before .before .before .put2 .ensures) (c .before .before .before .before .before .before .before .before .before .before .put3 .ensures) (c .before .before .before .before .before .before .put4 .ensures) (c .before .before .put5 .ensures)
+returns c =
+    let start = c .before .before .before .before .before .before .before .before .before .before .before .before .before .before .before .before .before .before .before .before .before in
+    let put = c .before .before .before .before .before .before .before .before .before .before .before .before .before .before .before .before .before .before .put in
+    let put2 = c .before .before .before .before .before .before .before .before .before .before .before .before .before .before .put2 in
+    let put3 = c .before .before .before .before .before .before .before .before .before .before .put3 in
+    let put4 = c .before .before .before .before .before .before .put4 in
+    head-written _ _ _ _ _ _ _ _ _ _ _ _ (start .pre) (put .ensures) (put2 .ensures) (put3 .ensures) (put4 .ensures) (c .before .before .put5 .ensures)
 
 pub row-head-spec : {M : Type 1} → statement M
 row-head-spec =

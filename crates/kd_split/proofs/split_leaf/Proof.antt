@@ -20,7 +20,11 @@ mark-requires c κs = before-split _ _ _ _ _ _ _ (c .before .before .pre)
 
 -- src/bifurcate.rt:288:9
 part-entries-requires : tie.Need-part-entries-requires
-part-entries-requires c κs = (split-numbers _ _ _ _ _ _ _ (c .before .before .before .before .args .x) (c .before .mark .result) (c .before .before .before .before .pre) (omega (arith, c .before .mark .ok)) (c .before .mark .ensures) .ready, (c .before .before .before .before .pre .dim, split-numbers _ _ _ _ _ _ _ (c .before .before .before .before .args .x) (c .before .mark .result) (c .before .before .before .before .pre) (omega (arith, c .before .mark .ok)) (c .before .mark .ensures) .few))
+part-entries-requires c κs =
+    let start = c .before .before .before .before in (
+      split-numbers _ _ _ _ _ _ _ (start .args .x) (c .before .mark .result) (start .pre) (omega (arith, c .before .mark .ok)) (c .before .mark .ensures) .ready,
+      (start .pre .dim, split-numbers _ _ _ _ _ _ _ (start .args .x) (c .before .mark .result) (start .pre) (omega (arith, c .before .mark .ok)) (c .before .mark .ensures) .few),
+    )
 
 -- src/bifurcate.rt:289:13
 add-w : tie.Need-add-w
@@ -32,7 +36,10 @@ node-at-requires c κs = search needs
 
 -- src/bifurcate.rt:291:33
 add-move-up : tie.Need-add-move-up
-add-move-up c = omega (arith, split-numbers _ _ _ _ _ _ _ (c .before .before .before .before .before .before .before .before .before .before .args .x) (c .before .before .before .before .before .before .before .mark .result) (c .before .before .before .before .before .before .before .before .before .before .pre) (omega (arith, c .before .before .before .before .before .before .before .mark .ok)) (c .before .before .before .before .before .before .before .mark .ensures) .three, c .before .node-at .ensures)
+add-move-up c =
+    let start = c .before .before .before .before .before .before .before .before .before .before in
+    let mark = c .before .before .before .before .before .before .before .mark in
+    omega (arith, split-numbers _ _ _ _ _ _ _ (start .args .x) (mark .result) (start .pre) (omega (arith, mark .ok)) (mark .ensures) .three, c .before .node-at .ensures)
 
 -- src/bifurcate.rt:291:41
 node-at-requires-2 : tie.Need-node-at-requires-2
@@ -44,23 +51,55 @@ mul-move-up c = search needs
 
 -- src/bifurcate.rt:291:5
 move-up-requires : tie.Need-move-up-requires
-move-up-requires c κs = (omega (arith, split-numbers _ _ _ _ _ _ _ (c .before .before .before .before .before .before .before .before .before .before .before .args .x) (c .before .before .before .before .before .before .before .before .mark .result) (c .before .before .before .before .before .before .before .before .before .before .before .pre) (omega (arith, c .before .before .before .before .before .before .before .before .mark .ok)) (c .before .before .before .before .before .before .before .before .mark .ensures) .row, c .before .before .node-at .ensures, c .node-at2 .ensures), omega (arith, split-numbers _ _ _ _ _ _ _ (c .before .before .before .before .before .before .before .before .before .before .before .args .x) (c .before .before .before .before .before .before .before .before .mark .result) (c .before .before .before .before .before .before .before .before .before .before .before .pre) (omega (arith, c .before .before .before .before .before .before .before .before .mark .ok)) (c .before .before .before .before .before .before .before .before .mark .ensures) .end, c .node-at2 .ensures, c .before .before .before .before .before .before .part-entries .kept .0))
+move-up-requires c κs =
+    let start = c .before .before .before .before .before .before .before .before .before .before .before in
+    let mark = c .before .before .before .before .before .before .before .before .mark in
+    let part-entries = c .before .before .before .before .before .before .part-entries in (
+      omega (
+        arith,
+        split-numbers _ _ _ _ _ _ _ (start .args .x) (mark .result) (start .pre) (omega (arith, mark .ok)) (mark .ensures) .row,
+        c .before .before .node-at .ensures,
+        c .node-at2 .ensures,
+      ),
+      omega (
+        arith,
+        split-numbers _ _ _ _ _ _ _ (start .args .x) (mark .result) (start .pre) (omega (arith, mark .ok)) (mark .ensures) .end,
+        c .node-at2 .ensures,
+        part-entries .kept .0,
+      ),
+    )
 
 -- src/bifurcate.rt:292:34
 add-get : tie.Need-add-get
-add-get c = omega (arith, split-numbers _ _ _ _ _ _ _ (c .before .before .before .before .before .before .before .before .before .before .before .before .before .before .before .args .x) (c .before .before .before .before .before .before .before .before .before .before .before .before .mark .result) (c .before .before .before .before .before .before .before .before .before .before .before .before .before .before .before .pre) (omega (arith, c .before .before .before .before .before .before .before .before .before .before .before .before .mark .ok)) (c .before .before .before .before .before .before .before .before .before .before .before .before .mark .ensures) .three, c .before .before .before .before .before .before .node-at .ensures)
+add-get c =
+    let start = c .before .before .before .before .before .before .before .before .before .before .before .before .before .before .before in
+    let mark = c .before .before .before .before .before .before .before .before .before .before .before .before .mark in
+    let node-at = c .before .before .before .before .before .before .node-at in
+    omega (arith, split-numbers _ _ _ _ _ _ _ (start .args .x) (mark .result) (start .pre) (omega (arith, mark .ok)) (mark .ensures) .three, node-at .ensures)
 
 -- src/bifurcate.rt:292:9
 get-requires : tie.Need-get-requires
-get-requires c κs = omega (arith, split-numbers _ _ _ _ _ _ _ (c .before .before .before .before .before .before .before .before .before .before .before .before .before .before .before .args .x) (c .before .before .before .before .before .before .before .before .before .before .before .before .mark .result) (c .before .before .before .before .before .before .before .before .before .before .before .before .before .before .before .pre) (omega (arith, c .before .before .before .before .before .before .before .before .before .before .before .before .mark .ok)) (c .before .before .before .before .before .before .before .before .before .before .before .before .mark .ensures) .three, c .before .before .before .before .before .before .node-at .ensures, c .before .before .before .before .before .before .before .before .before .before .part-entries .kept .0, c .before .before .before .move-up .kept .0)
+get-requires c κs =
+    let start = c .before .before .before .before .before .before .before .before .before .before .before .before .before .before .before in
+    let mark = c .before .before .before .before .before .before .before .before .before .before .before .before .mark in
+    let part-entries = c .before .before .before .before .before .before .before .before .before .before .part-entries in
+    let node-at = c .before .before .before .before .before .before .node-at in
+    let move-up = c .before .before .before .move-up in
+    omega (arith, split-numbers _ _ _ _ _ _ _ (start .args .x) (mark .result) (start .pre) (omega (arith, mark .ok)) (mark .ensures) .three, node-at .ensures, part-entries .kept .0, move-up .kept .0)
 
 -- src/bifurcate.rt:293:25
 cast-row-head : tie.Need-cast-row-head
-cast-row-head c = omega (arith, split-numbers _ _ _ _ _ _ _ (c .before .before .before .before .before .before .before .before .before .before .before .before .before .before .before .before .before .args .x) (c .before .before .before .before .before .before .before .before .before .before .before .before .before .before .mark .result) (c .before .before .before .before .before .before .before .before .before .before .before .before .before .before .before .before .before .pre) (omega (arith, c .before .before .before .before .before .before .before .before .before .before .before .before .before .before .mark .ok)) (c .before .before .before .before .before .before .before .before .before .before .before .before .before .before .mark .ensures) .dim)
+cast-row-head c =
+    let start = c .before .before .before .before .before .before .before .before .before .before .before .before .before .before .before .before .before in
+    let mark = c .before .before .before .before .before .before .before .before .before .before .before .before .before .before .mark in
+    omega (arith, split-numbers _ _ _ _ _ _ _ (start .args .x) (mark .result) (start .pre) (omega (arith, mark .ok)) (mark .ensures) .dim)
 
 -- src/bifurcate.rt:293:25
 add-row-head : tie.Need-add-row-head
-add-row-head c = omega (arith, split-numbers _ _ _ _ _ _ _ (c .before .before .before .before .before .before .before .before .before .before .before .before .before .before .before .before .before .args .x) (c .before .before .before .before .before .before .before .before .before .before .before .before .before .before .mark .result) (c .before .before .before .before .before .before .before .before .before .before .before .before .before .before .before .before .before .pre) (omega (arith, c .before .before .before .before .before .before .before .before .before .before .before .before .before .before .mark .ok)) (c .before .before .before .before .before .before .before .before .before .before .before .before .before .before .mark .ensures) .dim)
+add-row-head c =
+    let start = c .before .before .before .before .before .before .before .before .before .before .before .before .before .before .before .before .before in
+    let mark = c .before .before .before .before .before .before .before .before .before .before .before .before .before .before .mark in
+    omega (arith, split-numbers _ _ _ _ _ _ _ (start .args .x) (mark .result) (start .pre) (omega (arith, mark .ok)) (mark .ensures) .dim)
 
 -- src/bifurcate.rt:293:44
 cast-row-head-2 : tie.Need-cast-row-head-2
@@ -68,15 +107,53 @@ cast-row-head-2 c = search needs
 
 -- src/bifurcate.rt:293:5
 row-head-requires : tie.Need-row-head-requires
-row-head-requires c κs = omega (arith, split-numbers _ _ _ _ _ _ _ (c .before .before .before .before .before .before .before .before .before .before .before .before .before .before .before .before .before .args .x) (c .before .before .before .before .before .before .before .before .before .before .before .before .before .before .mark .result) (c .before .before .before .before .before .before .before .before .before .before .before .before .before .before .before .before .before .pre) (omega (arith, c .before .before .before .before .before .before .before .before .before .before .before .before .before .before .mark .ok)) (c .before .before .before .before .before .before .before .before .before .before .before .before .before .before .mark .ensures) .three, c .before .before .before .before .before .before .before .before .node-at .ensures, c .before .before .before .before .before .before .before .before .before .before .before .before .part-entries .kept .0, c .before .before .before .before .before .move-up .kept .0)
+row-head-requires c κs =
+    let start = c .before .before .before .before .before .before .before .before .before .before .before .before .before .before .before .before .before in
+    let mark = c .before .before .before .before .before .before .before .before .before .before .before .before .before .before .mark in
+    let part-entries = c .before .before .before .before .before .before .before .before .before .before .before .before .part-entries in
+    let node-at = c .before .before .before .before .before .before .before .before .node-at in
+    let move-up = c .before .before .before .before .before .move-up in
+    omega (arith, split-numbers _ _ _ _ _ _ _ (start .args .x) (mark .result) (start .pre) (omega (arith, mark .ok)) (mark .ensures) .three, node-at .ensures, part-entries .kept .0, move-up .kept .0)
 
 -- src/bifurcate.rt:294:26
 add-write-leaf : tie.Need-add-write-leaf
-add-write-leaf c = omega (arith, split-numbers _ _ _ _ _ _ _ (c .before .before .before .before .before .before .before .before .before .before .before .before .before .before .before .before .before .before .before .before .before .args .x) (c .before .before .before .before .before .before .before .before .before .before .before .before .before .before .before .before .before .before .mark .result) (c .before .before .before .before .before .before .before .before .before .before .before .before .before .before .before .before .before .before .before .before .before .pre) (omega (arith, c .before .before .before .before .before .before .before .before .before .before .before .before .before .before .before .before .before .before .mark .ok)) (c .before .before .before .before .before .before .before .before .before .before .before .before .before .before .before .before .before .before .mark .ensures) .three, c .before .before .before .before .before .before .before .before .before .before .before .before .node-at .ensures)
+add-write-leaf c =
+    let start = c .before .before .before .before .before .before .before .before .before .before .before .before .before .before .before .before .before .before .before .before .before in
+    let mark = c .before .before .before .before .before .before .before .before .before .before .before .before .before .before .before .before .before .before .mark in
+    let node-at = c .before .before .before .before .before .before .before .before .before .before .before .before .node-at in
+    omega (arith, split-numbers _ _ _ _ _ _ _ (start .args .x) (mark .result) (start .pre) (omega (arith, mark .ok)) (mark .ensures) .three, node-at .ensures)
 
 -- src/bifurcate.rt:294:5
 write-leaf-requires : tie.Need-write-leaf-requires
-write-leaf-requires c κs = (ready₃ _ _ _ _ _ _ _ (c .before .before .before .before .before .before .before .before .before .before .before .before .before .before .before .before .before .before .before .before .before .args .x) (c .before .before .before .before .before .before .before .before .before .before .before .before .before .before .before .before .before .before .mark .result) (c .before .before .before .before .before .before .before .before .before .before .before .before .before .before .before .before .before .before .before .before .before .pre) (omega (arith, c .before .before .before .before .before .before .before .before .before .before .before .before .before .before .before .before .before .before .mark .ok)) (c .before .before .before .before .before .before .before .before .before .before .before .before .before .before .before .before .before .before .mark .ensures) _ (λ j. (c .before .before .before .before .before .before .before .before .before .before .before .before .before .before .slice-known2 .given) j .fits) (c .before .before .before .before .before .before .before .before .before .before .before .before .before .before .before .before .part-entries .ensures .1) _ _ _ (rw (c .before .before .before .before .before .before .before .before .before .before .before .before .node-at .ensures, c .before .before .before .before .before .before .before .before .before .before .node-at2 .ensures) at (c .before .before .before .before .before .before .before .before .before .move-up .ensures)) (rw (c .before .before .before .before .before .before .before .before .before .before .before .before .node-at .ensures) at (c .before .before .before .before .before .get .ensures)) (rw (c .before .before .before .before .before .before .before .before .before .before .before .before .node-at .ensures) at (c .before .before .before .row-head .ensures)), (omega (arith, less-few _ _ _ _ _ _ _ (c .before .before .before .before .before .before .before .before .before .before .before .before .before .before .before .before .before .before .before .before .before .args .x) (c .before .before .before .before .before .before .before .before .before .before .before .before .before .before .before .before .before .before .mark .result) (c .before .before .before .before .before .before .before .before .before .before .before .before .before .before .before .before .before .before .before .before .before .pre) (omega (arith, c .before .before .before .before .before .before .before .before .before .before .before .before .before .before .before .before .before .before .mark .ok)) (c .before .before .before .before .before .before .before .before .before .before .before .before .before .before .before .before .before .before .mark .ensures) _ (c .before .before .before .before .before .before .before .before .before .before .before .before .before .before .before .before .part-entries .ensures .0), split-numbers _ _ _ _ _ _ _ (c .before .before .before .before .before .before .before .before .before .before .before .before .before .before .before .before .before .before .before .before .before .args .x) (c .before .before .before .before .before .before .before .before .before .before .before .before .before .before .before .before .before .before .mark .result) (c .before .before .before .before .before .before .before .before .before .before .before .before .before .before .before .before .before .before .before .before .before .pre) (omega (arith, c .before .before .before .before .before .before .before .before .before .before .before .before .before .before .before .before .before .before .mark .ok)) (c .before .before .before .before .before .before .before .before .before .before .before .before .before .before .before .before .before .before .mark .ensures) .few), omega (arith, split-numbers _ _ _ _ _ _ _ (c .before .before .before .before .before .before .before .before .before .before .before .before .before .before .before .before .before .before .before .before .before .args .x) (c .before .before .before .before .before .before .before .before .before .before .before .before .before .before .before .before .before .before .mark .result) (c .before .before .before .before .before .before .before .before .before .before .before .before .before .before .before .before .before .before .before .before .before .pre) (omega (arith, c .before .before .before .before .before .before .before .before .before .before .before .before .before .before .before .before .before .before .mark .ok)) (c .before .before .before .before .before .before .before .before .before .before .before .before .before .before .before .before .before .before .mark .ensures) .three, c .before .before .before .before .before .before .before .before .before .before .before .before .node-at .ensures, c .before .before .before .before .before .before .before .before .before .before .before .before .before .before .before .before .part-entries .kept .0, c .before .before .before .before .before .before .before .before .before .move-up .kept .0, c .before .before .before .row-head .kept .0)))
+write-leaf-requires c κs =
+    let start = c .before .before .before .before .before .before .before .before .before .before .before .before .before .before .before .before .before .before .before .before .before in
+    let mark = c .before .before .before .before .before .before .before .before .before .before .before .before .before .before .before .before .before .before .mark in
+    let part-entries = c .before .before .before .before .before .before .before .before .before .before .before .before .before .before .before .before .part-entries in
+    let slice-known2 = c .before .before .before .before .before .before .before .before .before .before .before .before .before .before .slice-known2 in
+    let node-at = c .before .before .before .before .before .before .before .before .before .before .before .before .node-at in
+    let node-at2 = c .before .before .before .before .before .before .before .before .before .before .node-at2 in
+    let move-up = c .before .before .before .before .before .before .before .before .before .move-up in
+    let get = c .before .before .before .before .before .get in
+    let row-head = c .before .before .before .row-head in (
+      ready₃ _ _ _ _ _ _ _ (start .args .x) (mark .result) (start .pre) (omega (arith, mark .ok)) (mark .ensures) _ (λ j. (slice-known2 .given) j .fits)
+          (part-entries .ensures .1) _ _ _ (rw (node-at .ensures, node-at2 .ensures) at (move-up .ensures)) (rw (node-at .ensures) at (get .ensures))
+          (rw (node-at .ensures) at (row-head .ensures)),
+      (
+        omega (
+          arith,
+          less-few _ _ _ _ _ _ _ (start .args .x) (mark .result) (start .pre) (omega (arith, mark .ok)) (mark .ensures) _ (part-entries .ensures .0),
+          split-numbers _ _ _ _ _ _ _ (start .args .x) (mark .result) (start .pre) (omega (arith, mark .ok)) (mark .ensures) .few,
+        ),
+        omega (
+          arith,
+          split-numbers _ _ _ _ _ _ _ (start .args .x) (mark .result) (start .pre) (omega (arith, mark .ok)) (mark .ensures) .three,
+          node-at .ensures,
+          part-entries .kept .0,
+          move-up .kept .0,
+          row-head .kept .0,
+        ),
+      ),
+    )
 
 -- src/bifurcate.rt:295:31
 mul-write-leaf : tie.Need-mul-write-leaf
@@ -84,19 +161,66 @@ mul-write-leaf c = search needs
 
 -- src/bifurcate.rt:295:26
 add-write-leaf-2 : tie.Need-add-write-leaf-2
-add-write-leaf-2 c = omega (arith, split-numbers _ _ _ _ _ _ _ (c .before .before .before .before .before .before .before .before .before .before .before .before .before .before .before .before .before .before .before .before .before .before .before .before .before .args .x) (c .before .before .before .before .before .before .before .before .before .before .before .before .before .before .before .before .before .before .before .before .before .before .mark .result) (c .before .before .before .before .before .before .before .before .before .before .before .before .before .before .before .before .before .before .before .before .before .before .before .before .before .pre) (omega (arith, c .before .before .before .before .before .before .before .before .before .before .before .before .before .before .before .before .before .before .before .before .before .before .mark .ok)) (c .before .before .before .before .before .before .before .before .before .before .before .before .before .before .before .before .before .before .before .before .before .before .mark .ensures) .small, c .before .before .before .before .before .before .before .before .before .before .before .before .before .before .before .before .node-at .ensures)
+add-write-leaf-2 c =
+    let start = c .before .before .before .before .before .before .before .before .before .before .before .before .before .before .before .before .before .before .before .before .before .before .before .before .before in
+    let mark = c .before .before .before .before .before .before .before .before .before .before .before .before .before .before .before .before .before .before .before .before .before .before .mark in
+    let node-at = c .before .before .before .before .before .before .before .before .before .before .before .before .before .before .before .before .node-at in
+    omega (arith, split-numbers _ _ _ _ _ _ _ (start .args .x) (mark .result) (start .pre) (omega (arith, mark .ok)) (mark .ensures) .small, node-at .ensures)
 
 -- src/bifurcate.rt:295:38
 add-write-leaf-3 : tie.Need-add-write-leaf-3
-add-write-leaf-3 c = omega (arith, less-few _ _ _ _ _ _ _ (c .before .before .before .before .before .before .before .before .before .before .before .before .before .before .before .before .before .before .before .before .before .before .before .before .before .args .x) (c .before .before .before .before .before .before .before .before .before .before .before .before .before .before .before .before .before .before .before .before .before .before .mark .result) (c .before .before .before .before .before .before .before .before .before .before .before .before .before .before .before .before .before .before .before .before .before .before .before .before .before .pre) (omega (arith, c .before .before .before .before .before .before .before .before .before .before .before .before .before .before .before .before .before .before .before .before .before .before .mark .ok)) (c .before .before .before .before .before .before .before .before .before .before .before .before .before .before .before .before .before .before .before .before .before .before .mark .ensures) _ (c .before .before .before .before .before .before .before .before .before .before .before .before .before .before .before .before .before .before .before .before .part-entries .ensures .0), split-numbers _ _ _ _ _ _ _ (c .before .before .before .before .before .before .before .before .before .before .before .before .before .before .before .before .before .before .before .before .before .before .before .before .before .args .x) (c .before .before .before .before .before .before .before .before .before .before .before .before .before .before .before .before .before .before .before .before .before .before .mark .result) (c .before .before .before .before .before .before .before .before .before .before .before .before .before .before .before .before .before .before .before .before .before .before .before .before .before .pre) (omega (arith, c .before .before .before .before .before .before .before .before .before .before .before .before .before .before .before .before .before .before .before .before .before .before .mark .ok)) (c .before .before .before .before .before .before .before .before .before .before .before .before .before .before .before .before .before .before .before .before .before .before .mark .ensures) .few, split-numbers _ _ _ _ _ _ _ (c .before .before .before .before .before .before .before .before .before .before .before .before .before .before .before .before .before .before .before .before .before .before .before .before .before .args .x) (c .before .before .before .before .before .before .before .before .before .before .before .before .before .before .before .before .before .before .before .before .before .before .mark .result) (c .before .before .before .before .before .before .before .before .before .before .before .before .before .before .before .before .before .before .before .before .before .before .before .before .before .pre) (omega (arith, c .before .before .before .before .before .before .before .before .before .before .before .before .before .before .before .before .before .before .before .before .before .before .mark .ok)) (c .before .before .before .before .before .before .before .before .before .before .before .before .before .before .before .before .before .before .before .before .before .before .mark .ensures) .count)
+add-write-leaf-3 c =
+    let start = c .before .before .before .before .before .before .before .before .before .before .before .before .before .before .before .before .before .before .before .before .before .before .before .before .before in
+    let mark = c .before .before .before .before .before .before .before .before .before .before .before .before .before .before .before .before .before .before .before .before .before .before .mark in
+    let part-entries = c .before .before .before .before .before .before .before .before .before .before .before .before .before .before .before .before .before .before .before .before .part-entries in
+    omega (
+      arith,
+      less-few _ _ _ _ _ _ _ (start .args .x) (mark .result) (start .pre) (omega (arith, mark .ok)) (mark .ensures) _ (part-entries .ensures .0),
+      split-numbers _ _ _ _ _ _ _ (start .args .x) (mark .result) (start .pre) (omega (arith, mark .ok)) (mark .ensures) .few,
+      split-numbers _ _ _ _ _ _ _ (start .args .x) (mark .result) (start .pre) (omega (arith, mark .ok)) (mark .ensures) .count,
+    )
 
 -- src/bifurcate.rt:295:46
 sub-write-leaf : tie.Need-sub-write-leaf
-sub-write-leaf c = less-few _ _ _ _ _ _ _ (c .before .before .before .before .before .before .before .before .before .before .before .before .before .before .before .before .before .before .before .before .before .before .before .before .before .args .x) (c .before .before .before .before .before .before .before .before .before .before .before .before .before .before .before .before .before .before .before .before .before .before .mark .result) (c .before .before .before .before .before .before .before .before .before .before .before .before .before .before .before .before .before .before .before .before .before .before .before .before .before .pre) (omega (arith, c .before .before .before .before .before .before .before .before .before .before .before .before .before .before .before .before .before .before .before .before .before .before .mark .ok)) (c .before .before .before .before .before .before .before .before .before .before .before .before .before .before .before .before .before .before .before .before .before .before .mark .ensures) _ (c .before .before .before .before .before .before .before .before .before .before .before .before .before .before .before .before .before .before .before .before .part-entries .ensures .0)
+sub-write-leaf c =
+    let start = c .before .before .before .before .before .before .before .before .before .before .before .before .before .before .before .before .before .before .before .before .before .before .before .before .before in
+    let mark = c .before .before .before .before .before .before .before .before .before .before .before .before .before .before .before .before .before .before .before .before .before .before .mark in
+    let part-entries = c .before .before .before .before .before .before .before .before .before .before .before .before .before .before .before .before .before .before .before .before .part-entries in
+    less-few _ _ _ _ _ _ _ (start .args .x) (mark .result) (start .pre) (omega (arith, mark .ok)) (mark .ensures) _ (part-entries .ensures .0)
 
 -- src/bifurcate.rt:295:5
 write-leaf-requires-2 : tie.Need-write-leaf-requires-2
-write-leaf-requires-2 c κs = (ready₄ _ _ _ _ _ _ _ (c .before .before .before .before .before .before .before .before .before .before .before .before .before .before .before .before .before .before .before .before .before .before .before .before .before .args .x) (c .before .before .before .before .before .before .before .before .before .before .before .before .before .before .before .before .before .before .before .before .before .before .mark .result) (c .before .before .before .before .before .before .before .before .before .before .before .before .before .before .before .before .before .before .before .before .before .before .before .before .before .pre) (omega (arith, c .before .before .before .before .before .before .before .before .before .before .before .before .before .before .before .before .before .before .before .before .before .before .mark .ok)) (c .before .before .before .before .before .before .before .before .before .before .before .before .before .before .before .before .before .before .before .before .before .before .mark .ensures) _ (λ j. (c .before .before .before .before .before .before .before .before .before .before .before .before .before .before .before .before .before .before .slice-known2 .given) j .fits) (c .before .before .before .before .before .before .before .before .before .before .before .before .before .before .before .before .before .before .before .before .part-entries .ensures .1) _ _ _ (rw (c .before .before .before .before .before .before .before .before .before .before .before .before .before .before .before .before .node-at .ensures, c .before .before .before .before .before .before .before .before .before .before .before .before .before .before .node-at2 .ensures) at (c .before .before .before .before .before .before .before .before .before .before .before .before .before .move-up .ensures)) (rw (c .before .before .before .before .before .before .before .before .before .before .before .before .before .before .before .before .node-at .ensures) at (c .before .before .before .before .before .before .before .before .before .get .ensures)) (rw (c .before .before .before .before .before .before .before .before .before .before .before .before .before .before .before .before .node-at .ensures) at (c .before .before .before .before .before .before .before .row-head .ensures)) _ (c .before .before .before .before .before .before .before .before .before .before .before .before .before .before .before .before .before .before .before .before .part-entries .ensures .0) _ (rw (c .before .before .before .before .before .before .before .before .before .before .before .before .before .before .before .before .node-at .ensures) at (c .before .before .before .write-leaf .ensures)), (omega (arith, less-few _ _ _ _ _ _ _ (c .before .before .before .before .before .before .before .before .before .before .before .before .before .before .before .before .before .before .before .before .before .before .before .before .before .args .x) (c .before .before .before .before .before .before .before .before .before .before .before .before .before .before .before .before .before .before .before .before .before .before .mark .result) (c .before .before .before .before .before .before .before .before .before .before .before .before .before .before .before .before .before .before .before .before .before .before .before .before .before .pre) (omega (arith, c .before .before .before .before .before .before .before .before .before .before .before .before .before .before .before .before .before .before .before .before .before .before .mark .ok)) (c .before .before .before .before .before .before .before .before .before .before .before .before .before .before .before .before .before .before .before .before .before .before .mark .ensures) _ (c .before .before .before .before .before .before .before .before .before .before .before .before .before .before .before .before .before .before .before .before .part-entries .ensures .0), split-numbers _ _ _ _ _ _ _ (c .before .before .before .before .before .before .before .before .before .before .before .before .before .before .before .before .before .before .before .before .before .before .before .before .before .args .x) (c .before .before .before .before .before .before .before .before .before .before .before .before .before .before .before .before .before .before .before .before .before .before .mark .result) (c .before .before .before .before .before .before .before .before .before .before .before .before .before .before .before .before .before .before .before .before .before .before .before .before .before .pre) (omega (arith, c .before .before .before .before .before .before .before .before .before .before .before .before .before .before .before .before .before .before .before .before .before .before .mark .ok)) (c .before .before .before .before .before .before .before .before .before .before .before .before .before .before .before .before .before .before .before .before .before .before .mark .ensures) .few), omega (arith, split-numbers _ _ _ _ _ _ _ (c .before .before .before .before .before .before .before .before .before .before .before .before .before .before .before .before .before .before .before .before .before .before .before .before .before .args .x) (c .before .before .before .before .before .before .before .before .before .before .before .before .before .before .before .before .before .before .before .before .before .before .mark .result) (c .before .before .before .before .before .before .before .before .before .before .before .before .before .before .before .before .before .before .before .before .before .before .before .before .before .pre) (omega (arith, c .before .before .before .before .before .before .before .before .before .before .before .before .before .before .before .before .before .before .before .before .before .before .mark .ok)) (c .before .before .before .before .before .before .before .before .before .before .before .before .before .before .before .before .before .before .before .before .before .before .mark .ensures) .three, c .before .before .before .before .before .before .before .before .before .before .before .before .before .before .before .before .node-at .ensures, c .before .before .before .before .before .before .before .before .before .before .before .before .before .before .before .before .before .before .before .before .part-entries .kept .0, c .before .before .before .before .before .before .before .before .before .before .before .before .before .move-up .kept .0, c .before .before .before .before .before .before .before .row-head .kept .0, c .before .before .before .write-leaf .kept .0)))
+write-leaf-requires-2 c κs =
+    let start = c .before .before .before .before .before .before .before .before .before .before .before .before .before .before .before .before .before .before .before .before .before .before .before .before .before in
+    let mark = c .before .before .before .before .before .before .before .before .before .before .before .before .before .before .before .before .before .before .before .before .before .before .mark in
+    let part-entries = c .before .before .before .before .before .before .before .before .before .before .before .before .before .before .before .before .before .before .before .before .part-entries in
+    let slice-known2 = c .before .before .before .before .before .before .before .before .before .before .before .before .before .before .before .before .before .before .slice-known2 in
+    let node-at = c .before .before .before .before .before .before .before .before .before .before .before .before .before .before .before .before .node-at in
+    let node-at2 = c .before .before .before .before .before .before .before .before .before .before .before .before .before .before .node-at2 in
+    let move-up = c .before .before .before .before .before .before .before .before .before .before .before .before .before .move-up in
+    let get = c .before .before .before .before .before .before .before .before .before .get in
+    let row-head = c .before .before .before .before .before .before .before .row-head in
+    let write-leaf = c .before .before .before .write-leaf in (
+      ready₄ _ _ _ _ _ _ _ (start .args .x) (mark .result) (start .pre) (omega (arith, mark .ok)) (mark .ensures) _ (λ j. (slice-known2 .given) j .fits)
+          (part-entries .ensures .1) _ _ _ (rw (node-at .ensures, node-at2 .ensures) at (move-up .ensures)) (rw (node-at .ensures) at (get .ensures))
+          (rw (node-at .ensures) at (row-head .ensures)) _ (part-entries .ensures .0) _ (rw (node-at .ensures) at (write-leaf .ensures)),
+      (
+        omega (
+          arith,
+          less-few _ _ _ _ _ _ _ (start .args .x) (mark .result) (start .pre) (omega (arith, mark .ok)) (mark .ensures) _ (part-entries .ensures .0),
+          split-numbers _ _ _ _ _ _ _ (start .args .x) (mark .result) (start .pre) (omega (arith, mark .ok)) (mark .ensures) .few,
+        ),
+        omega (
+          arith,
+          split-numbers _ _ _ _ _ _ _ (start .args .x) (mark .result) (start .pre) (omega (arith, mark .ok)) (mark .ensures) .three,
+          node-at .ensures,
+          part-entries .kept .0,
+          move-up .kept .0,
+          row-head .kept .0,
+          write-leaf .kept .0,
+        ),
+      ),
+    )
 
 -- src/bifurcate.rt:274:1
 same-length : tie.Need-same-length
@@ -104,7 +228,21 @@ same-length c = search needs
 
 -- src/bifurcate.rt:274:1
 returns : tie.Need-returns
-returns c = split-done _ _ _ _ _ _ _ (c .before .before .before .before .before .before .before .before .before .before .before .before .before .before .before .before .before .before .before .before .before .before .before .before .before .before .before .before .args .x) (c .before .before .before .before .before .before .before .before .before .before .before .before .before .before .before .before .before .before .before .before .before .before .before .before .before .mark .result) (c .before .before .before .before .before .before .before .before .before .before .before .before .before .before .before .before .before .before .before .before .before .before .before .before .before .before .before .before .pre) (omega (arith, c .before .before .before .before .before .before .before .before .before .before .before .before .before .before .before .before .before .before .before .before .before .before .before .before .before .mark .ok)) (c .before .before .before .before .before .before .before .before .before .before .before .before .before .before .before .before .before .before .before .before .before .before .before .before .before .mark .ensures) _ (λ j. (c .before .before .before .before .before .before .before .before .before .before .before .before .before .before .before .before .before .before .before .before .before .slice-known2 .given) j .fits) (c .before .before .before .before .before .before .before .before .before .before .before .before .before .before .before .before .before .before .before .before .before .before .before .part-entries .ensures .1) _ _ _ (rw (c .before .before .before .before .before .before .before .before .before .before .before .before .before .before .before .before .before .before .before .node-at .ensures, c .before .before .before .before .before .before .before .before .before .before .before .before .before .before .before .before .before .node-at2 .ensures) at (c .before .before .before .before .before .before .before .before .before .before .before .before .before .before .before .before .move-up .ensures)) (rw (c .before .before .before .before .before .before .before .before .before .before .before .before .before .before .before .before .before .before .before .node-at .ensures) at (c .before .before .before .before .before .before .before .before .before .before .before .before .get .ensures)) (rw (c .before .before .before .before .before .before .before .before .before .before .before .before .before .before .before .before .before .before .before .node-at .ensures) at (c .before .before .before .before .before .before .before .before .before .before .row-head .ensures)) _ (c .before .before .before .before .before .before .before .before .before .before .before .before .before .before .before .before .before .before .before .before .before .before .before .part-entries .ensures .0) _ (rw (c .before .before .before .before .before .before .before .before .before .before .before .before .before .before .before .before .before .before .before .node-at .ensures) at (c .before .before .before .before .before .before .write-leaf .ensures)) _ (rw (c .before .before .before .before .before .before .before .before .before .before .before .before .before .before .before .before .before .before .before .node-at .ensures) at (c .before .before .write-leaf2 .ensures))
+returns c =
+    let start = c .before .before .before .before .before .before .before .before .before .before .before .before .before .before .before .before .before .before .before .before .before .before .before .before .before .before .before .before in
+    let mark = c .before .before .before .before .before .before .before .before .before .before .before .before .before .before .before .before .before .before .before .before .before .before .before .before .before .mark in
+    let part-entries = c .before .before .before .before .before .before .before .before .before .before .before .before .before .before .before .before .before .before .before .before .before .before .before .part-entries in
+    let slice-known2 = c .before .before .before .before .before .before .before .before .before .before .before .before .before .before .before .before .before .before .before .before .before .slice-known2 in
+    let node-at = c .before .before .before .before .before .before .before .before .before .before .before .before .before .before .before .before .before .before .before .node-at in
+    let node-at2 = c .before .before .before .before .before .before .before .before .before .before .before .before .before .before .before .before .before .node-at2 in
+    let move-up = c .before .before .before .before .before .before .before .before .before .before .before .before .before .before .before .before .move-up in
+    let get = c .before .before .before .before .before .before .before .before .before .before .before .before .get in
+    let row-head = c .before .before .before .before .before .before .before .before .before .before .row-head in
+    let write-leaf = c .before .before .before .before .before .before .write-leaf in
+    split-done _ _ _ _ _ _ _ (start .args .x) (mark .result) (start .pre) (omega (arith, mark .ok)) (mark .ensures) _ (λ j. (slice-known2 .given) j .fits)
+    (part-entries .ensures .1) _ _ _ (rw (node-at .ensures, node-at2 .ensures) at (move-up .ensures)) (rw (node-at .ensures) at (get .ensures))
+    (rw (node-at .ensures) at (row-head .ensures)) _ (part-entries .ensures .0) _ (rw (node-at .ensures) at (write-leaf .ensures)) _
+    (rw (node-at .ensures) at (c .before .before .write-leaf2 .ensures))
 
 pub split-leaf-spec : {M : Type 1} → statement M
 split-leaf-spec =

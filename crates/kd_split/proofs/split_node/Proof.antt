@@ -45,11 +45,29 @@ same-length-2 c = search needs
 
 -- src/lib.rt:92:9
 returns-2 : tie.Need-returns-2
-returns-2 c = node-short _ _ _ _ _ (sym (rw (c .before .before .before .before .before .before .node-at .ensures) at (c .before .before .before .before .get .ensures)) ∙ c .before .before .before .if1 .left) _ (omega (arith, (rw (c .before .before .before .before .before .before .node-at .ensures) at (c .before .get2 .ensures))))
+returns-2 c =
+    let node-at = c .before .before .before .before .before .before .node-at in
+    let get = c .before .before .before .before .get in
+    let if1 = c .before .before .before .if1 in
+    node-short _ _ _ _ _ (sym (rw (node-at .ensures) at (get .ensures)) ∙ if1 .left) _ (omega (arith, (rw (node-at .ensures) at (c .before .get2 .ensures))))
 
 -- src/lib.rt:94:11
 choose-requires : tie.Need-choose-requires
-choose-requires c κs = (node-numbers _ _ _ _ _ (c .before .before .before .before .before .before .before .before .before .pre .0) .ready, (c .before .before .before .before .before .before .before .before .before .pre .1, (leaf-here _ _ _ _ _ (sym (rw (c .before .before .before .before .before .before .before .node-at .ensures) at (c .before .before .before .before .before .get .ensures)) ∙ c .before .before .before .before .if1 .left) _ (rw (c .before .before .before .before .before .before .before .node-at .ensures) at (c .before .before .get2 .ensures)) (c .before .before .before .before .before .before .before .before .before .pre .0) .few, omega arith)))
+choose-requires c κs =
+    let start = c .before .before .before .before .before .before .before .before .before in
+    let node-at = c .before .before .before .before .before .before .before .node-at in
+    let get = c .before .before .before .before .before .get in
+    let if1 = c .before .before .before .before .if1 in (
+      node-numbers _ _ _ _ _ (start .pre .0) .ready,
+      (
+        start .pre .1,
+        (
+          leaf-here _ _ _ _ _ (sym (rw (node-at .ensures) at (get .ensures)) ∙ if1 .left) _ (rw (node-at .ensures) at (c .before .before .get2 .ensures))
+              (start .pre .0) .few,
+          omega arith,
+        ),
+      ),
+    )
 
 -- src/lib.rt:95:23
 enum-known-a : tie.Need-enum-known-a
@@ -57,11 +75,22 @@ enum-known-a c = search needs
 
 -- src/lib.rt:96:13
 split-leaf-requires : tie.Need-split-leaf-requires
-split-leaf-requires c κs = splittable _ _ _ _ _ (sym (rw (c .before .before .before .before .before .before .before .before .before .before .before .before .node-at .ensures) at (c .before .before .before .before .before .before .before .before .before .before .get .ensures)) ∙ c .before .before .before .before .before .before .before .before .before .if1 .left) _ (rw (c .before .before .before .before .before .before .before .before .before .before .before .before .node-at .ensures) at (c .before .before .before .before .before .before .before .get2 .ensures)) (omega arith) _ _ (c .before .before .before .before .choose .ensures) (c .before .before .a .given .0 .0) (c .before .before .a .given .1) (c .before .before .before .before .before .before .before .before .before .before .before .before .before .before .pre .0)
+split-leaf-requires c κs =
+    let start = c .before .before .before .before .before .before .before .before .before .before .before .before .before .before in
+    let node-at = c .before .before .before .before .before .before .before .before .before .before .before .before .node-at in
+    let get = c .before .before .before .before .before .before .before .before .before .before .get in
+    let if1 = c .before .before .before .before .before .before .before .before .before .if1 in
+    let get2 = c .before .before .before .before .before .before .before .get2 in
+    let choose = c .before .before .before .before .choose in
+    let a = c .before .before .a in
+    splittable _ _ _ _ _ (sym (rw (node-at .ensures) at (get .ensures)) ∙ if1 .left) _ (rw (node-at .ensures) at (get2 .ensures)) (omega arith) _ _ (choose .ensures)
+    (a .given .0 .0) (a .given .1) (start .pre .0)
 
 -- src/lib.rt:97:13
 add-result : tie.Need-add-result
-add-result c = omega (arith, node-numbers _ _ _ _ _ (c .before .before .before .before .before .before .before .before .before .before .before .before .before .before .before .before .before .pre .0) .rows-to)
+add-result c =
+    let start = c .before .before .before .before .before .before .before .before .before .before .before .before .before .before .before .before .before in
+    omega (arith, node-numbers _ _ _ _ _ (start .pre .0) .rows-to)
 
 -- src/lib.rt:99:28
 enum-told : tie.Need-enum-told
@@ -73,7 +102,15 @@ same-length-3 c = search needs
 
 -- src/lib.rt:81:1
 returns-3 : tie.Need-returns-3
-returns-3 c = node-split _ _ _ _ _ (sym (rw (c .before .before .before .before .before .before .before .before .before .before .before .before .before .before .before .node-at .ensures) at (c .before .before .before .before .before .before .before .before .before .before .before .before .before .get .ensures)) ∙ c .before .before .before .before .before .before .before .before .before .before .before .before .if1 .left) _ (rw (c .before .before .before .before .before .before .before .before .before .before .before .before .before .before .before .node-at .ensures) at (c .before .before .before .before .before .before .before .before .before .before .get2 .ensures)) (omega arith) _ _ (c .before .before .before .before .before .before .before .choose .ensures) (c .before .before .before .before .before .a .given .0 .0) (c .before .before .before .before .before .a .given .1) _ (c .before .before .split-leaf .ensures)
+returns-3 c =
+    let node-at = c .before .before .before .before .before .before .before .before .before .before .before .before .before .before .before .node-at in
+    let get = c .before .before .before .before .before .before .before .before .before .before .before .before .before .get in
+    let if1 = c .before .before .before .before .before .before .before .before .before .before .before .before .if1 in
+    let get2 = c .before .before .before .before .before .before .before .before .before .before .get2 in
+    let choose = c .before .before .before .before .before .before .before .choose in
+    let a = c .before .before .before .before .before .a in
+    node-split _ _ _ _ _ (sym (rw (node-at .ensures) at (get .ensures)) ∙ if1 .left) _ (rw (node-at .ensures) at (get2 .ensures)) (omega arith) _ _ (choose .ensures)
+    (a .given .0 .0) (a .given .1) _ (c .before .before .split-leaf .ensures)
 
 -- src/lib.rt:81:1
 same-length-4 : tie.Need-same-length-4
@@ -81,7 +118,13 @@ same-length-4 c = search needs
 
 -- src/lib.rt:81:1
 returns-4 : tie.Need-returns-4
-returns-4 c = node-flat _ _ _ _ _ (sym (rw (c .before .before .before .before .before .before .before .before .before .before .node-at .ensures) at (c .before .before .before .before .before .before .before .before .get .ensures)) ∙ c .before .before .before .before .before .before .before .if1 .left) _ (rw (c .before .before .before .before .before .before .before .before .before .before .node-at .ensures) at (c .before .before .before .before .before .get2 .ensures)) (omega arith) _ _ (c .before .before .choose .ensures) (c .enum-told .given .1)
+returns-4 c =
+    let node-at = c .before .before .before .before .before .before .before .before .before .before .node-at in
+    let get = c .before .before .before .before .before .before .before .before .get in
+    let if1 = c .before .before .before .before .before .before .before .if1 in
+    let get2 = c .before .before .before .before .before .get2 in
+    node-flat _ _ _ _ _ (sym (rw (node-at .ensures) at (get .ensures)) ∙ if1 .left) _ (rw (node-at .ensures) at (get2 .ensures)) (omega arith) _ _
+    (c .before .before .choose .ensures) (c .enum-told .given .1)
 
 pub split-node-spec : {M : Type 1} → statement M
 split-node-spec =

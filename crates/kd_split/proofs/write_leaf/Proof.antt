@@ -59,7 +59,9 @@ part-map-start c = search needs
 
 -- src/bifurcate.rt:175:29
 part-map-end : tie.Need-part-map-end
-part-map-end c = omega (arith, place-room (c .before .before .before .before .before .before .args .image .now) (c .before .before .before .before .before .before .args .s) (c .before .before .before .before .before .before .pre .0) 0 (omega arith))
+part-map-end c =
+    let start = c .before .before .before .before .before .before in
+    omega (arith, place-room (start .args .image .now) (start .args .s) (start .pre .0) 0 (omega arith))
 
 -- src/bifurcate.rt:175:43
 cast-map : tie.Need-cast-map
@@ -71,15 +73,30 @@ array-share-prefix-acc c = search needs
 
 -- src/bifurcate.rt:175:53
 slice-aggregate-map : tie.Need-slice-aggregate-map
-slice-aggregate-map c = sym (length-take-le (4 * (c .before .before .before .before .gcd-of .result)) (c .before .before .before .before .gcd-of .last .1 .1 .1 .1 .0) (omega (arith, c .before .before .before .before .gcd-of .ensures .0, c .before .before .before .before .gcd-of .kept .1 .1 .1 .1 .0)))
+slice-aggregate-map c =
+    let gcd-of = c .before .before .before .before .gcd-of in
+    sym (length-take-le (4 * (gcd-of .result)) (gcd-of .last .1 .1 .1 .1 .0) (omega (arith, gcd-of .ensures .0, gcd-of .kept .1 .1 .1 .1 .0)))
 
 -- src/bifurcate.rt:175:9
 map-requires : tie.Need-map-requires
-map-requires c κs = (rw (range-words (c .before .before .before .before .before .before .before .before .args .image .now) (24 + (c .before .before .before .before .before .before .before .before .args .s .variables)) (c .before .before .before .before .before .before .before .before .args .s .variables)) (c .before .before .before .before .before .before .before .before .pre .0 .map), starts-whole (rw ((front-words (c .before .before .before .before .gcd-of .last .1 .1 .1 .1 .0) (c .before .before .before .before .gcd-of .result)), c .before .before .before .before .gcd-of .ensures .1) (gcd-canonical (c .before .before .before .before .before .before .before .before .args .s .variables) _ (image-powers (words (c .before .before .before .before .before .before .before .before .args .image .now)) (c .before .before .before .before .before .before .before .before .args .s) (c .before .before .before .before .before .before .before .before .pre .0 .range .vars-to)) _)))
+map-requires c κs =
+    let start = c .before .before .before .before .before .before .before .before in
+    let gcd-of = c .before .before .before .before .gcd-of in (
+      rw (range-words (start .args .image .now) (24 + (start .args .s .variables)) (start .args .s .variables)) (start .pre .0 .map),
+      starts-whole (rw ((front-words (gcd-of .last .1 .1 .1 .1 .0) (gcd-of .result)), gcd-of .ensures .1)
+          (gcd-canonical (start .args .s .variables) _ (image-powers (words (start .args .image .now)) (start .args .s) (start .pre .0 .range .vars-to)) _)),
+    )
 
 -- src/bifurcate.rt:176:31
 cast-row-head : tie.Need-cast-row-head
-cast-row-head c = omega (arith, (gcd-numbers (words (c .before .before .before .before .before .before .before .before .before .before .args .image .now)) (c .before .before .before .before .before .before .before .before .before .before .args .s) (c .before .before .before .before .before .before .before .before .before .before .pre .0) (c .before .before .before .before .before .before .before .before .before .before .args .lo) (c .before .before .before .before .before .before .before .before .before .before .args .c) (c .before .before .before .before .before .before .before .before .before .before .pre .1 .0) (c .before .before .before .before .before .before .gcd-of .last .1 .1 .1 .1 .0) (c .before .before .before .before .before .before .gcd-of .result) (c .before .before .before .before .before .before .gcd-of .ensures .0) (c .before .before .before .before .before .before .gcd-of .kept .1 .1 .1 .1 .0) (c .before .before .before .before .before .before .gcd-of .ensures .1)) .count)
+cast-row-head c =
+    let start = c .before .before .before .before .before .before .before .before .before .before in
+    let gcd-of = c .before .before .before .before .before .before .gcd-of in
+    omega (
+      arith,
+      (gcd-numbers (words (start .args .image .now)) (start .args .s) (start .pre .0) (start .args .lo) (start .args .c) (start .pre .1 .0)
+          (gcd-of .last .1 .1 .1 .1 .0) (gcd-of .result) (gcd-of .ensures .0) (gcd-of .kept .1 .1 .1 .1 .0) (gcd-of .ensures .1)) .count,
+    )
 
 -- src/bifurcate.rt:176:5
 row-head-requires : tie.Need-row-head-requires
@@ -95,11 +112,24 @@ array-share-prefix-acc-2 c = search needs
 
 -- src/bifurcate.rt:177:39
 slice-aggregate-paste : tie.Need-slice-aggregate-paste
-slice-aggregate-paste c = sym (length-take-le (4 * (c .before .before .before .before .before .before .before .before .before .before .before .gcd-of .result)) (c .before .before .before .before .before .before .before .before .before .before .before .gcd-of .last .1 .1 .1 .1 .0) (omega (arith, c .before .before .before .before .before .before .before .before .before .before .before .gcd-of .ensures .0, c .before .before .before .before .before .before .before .before .before .before .before .gcd-of .kept .1 .1 .1 .1 .0)))
+slice-aggregate-paste c =
+    let gcd-of = c .before .before .before .before .before .before .before .before .before .before .before .gcd-of in
+    sym (length-take-le (4 * (gcd-of .result)) (gcd-of .last .1 .1 .1 .1 .0) (omega (arith, gcd-of .ensures .0, gcd-of .kept .1 .1 .1 .1 .0)))
 
 -- src/bifurcate.rt:177:5
 paste-requires : tie.Need-paste-requires
-paste-requires c κs = omega (arith, length-take-le (4 * (c .before .before .before .before .before .before .before .before .before .before .before .gcd-of .result)) (c .before .before .before .before .before .before .before .before .before .before .before .gcd-of .last .1 .1 .1 .1 .0) (omega (arith, c .before .before .before .before .before .before .before .before .before .before .before .gcd-of .ensures .0, c .before .before .before .before .before .before .before .before .before .before .before .gcd-of .kept .1 .1 .1 .1 .0)), (gcd-numbers (words (c .before .before .before .before .before .before .before .before .before .before .before .before .before .before .before .args .image .now)) (c .before .before .before .before .before .before .before .before .before .before .before .before .before .before .before .args .s) (c .before .before .before .before .before .before .before .before .before .before .before .before .before .before .before .pre .0) (c .before .before .before .before .before .before .before .before .before .before .before .before .before .before .before .args .lo) (c .before .before .before .before .before .before .before .before .before .before .before .before .before .before .before .args .c) (c .before .before .before .before .before .before .before .before .before .before .before .before .before .before .before .pre .1 .0) (c .before .before .before .before .before .before .before .before .before .before .before .gcd-of .last .1 .1 .1 .1 .0) (c .before .before .before .before .before .before .before .before .before .before .before .gcd-of .result) (c .before .before .before .before .before .before .before .before .before .before .before .gcd-of .ensures .0) (c .before .before .before .before .before .before .before .before .before .before .before .gcd-of .kept .1 .1 .1 .1 .0) (c .before .before .before .before .before .before .before .before .before .before .before .gcd-of .ensures .1)) .short, c .before .before .before .before .before .before .before .before .before .before .before .before .before .before .before .pre .1 .1, c .before .before .before .before .row-head .kept .0)
+paste-requires c κs =
+    let start = c .before .before .before .before .before .before .before .before .before .before .before .before .before .before .before in
+    let gcd-of = c .before .before .before .before .before .before .before .before .before .before .before .gcd-of in
+    let row-head = c .before .before .before .before .row-head in
+    omega (
+      arith,
+      length-take-le (4 * (gcd-of .result)) (gcd-of .last .1 .1 .1 .1 .0) (omega (arith, gcd-of .ensures .0, gcd-of .kept .1 .1 .1 .1 .0)),
+      (gcd-numbers (words (start .args .image .now)) (start .args .s) (start .pre .0) (start .args .lo) (start .args .c) (start .pre .1 .0)
+          (gcd-of .last .1 .1 .1 .1 .0) (gcd-of .result) (gcd-of .ensures .0) (gcd-of .kept .1 .1 .1 .1 .0) (gcd-of .ensures .1)) .short,
+      start .pre .1 .1,
+      row-head .kept .0,
+    )
 
 -- src/bifurcate.rt:178:31
 add-clear : tie.Need-add-clear
@@ -115,11 +145,27 @@ add-clear-3 c = search needs
 
 -- src/bifurcate.rt:178:43
 sub-clear : tie.Need-sub-clear
-sub-clear c = (gcd-numbers (words (c .before .before .before .before .before .before .before .before .before .before .before .before .before .before .before .before .before .before .before .args .image .now)) (c .before .before .before .before .before .before .before .before .before .before .before .before .before .before .before .before .before .before .before .args .s) (c .before .before .before .before .before .before .before .before .before .before .before .before .before .before .before .before .before .before .before .pre .0) (c .before .before .before .before .before .before .before .before .before .before .before .before .before .before .before .before .before .before .before .args .lo) (c .before .before .before .before .before .before .before .before .before .before .before .before .before .before .before .before .before .before .before .args .c) (c .before .before .before .before .before .before .before .before .before .before .before .before .before .before .before .before .before .before .before .pre .1 .0) (c .before .before .before .before .before .before .before .before .before .before .before .before .before .before .before .gcd-of .last .1 .1 .1 .1 .0) (c .before .before .before .before .before .before .before .before .before .before .before .before .before .before .before .gcd-of .result) (c .before .before .before .before .before .before .before .before .before .before .before .before .before .before .before .gcd-of .ensures .0) (c .before .before .before .before .before .before .before .before .before .before .before .before .before .before .before .gcd-of .kept .1 .1 .1 .1 .0) (c .before .before .before .before .before .before .before .before .before .before .before .before .before .before .before .gcd-of .ensures .1)) .short
+sub-clear c =
+    let start = c .before .before .before .before .before .before .before .before .before .before .before .before .before .before .before .before .before .before .before in
+    let gcd-of = c .before .before .before .before .before .before .before .before .before .before .before .before .before .before .before .gcd-of in
+    (gcd-numbers (words (start .args .image .now)) (start .args .s) (start .pre .0) (start .args .lo) (start .args .c) (start .pre .1 .0) (gcd-of .last .1 .1 .1 .1 .0)
+    (gcd-of .result) (gcd-of .ensures .0) (gcd-of .kept .1 .1 .1 .1 .0) (gcd-of .ensures .1)) .short
 
 -- src/bifurcate.rt:178:5
 clear-requires : tie.Need-clear-requires
-clear-requires c κs = omega (arith, (gcd-numbers (words (c .before .before .before .before .before .before .before .before .before .before .before .before .before .before .before .before .before .before .before .args .image .now)) (c .before .before .before .before .before .before .before .before .before .before .before .before .before .before .before .before .before .before .before .args .s) (c .before .before .before .before .before .before .before .before .before .before .before .before .before .before .before .before .before .before .before .pre .0) (c .before .before .before .before .before .before .before .before .before .before .before .before .before .before .before .before .before .before .before .args .lo) (c .before .before .before .before .before .before .before .before .before .before .before .before .before .before .before .before .before .before .before .args .c) (c .before .before .before .before .before .before .before .before .before .before .before .before .before .before .before .before .before .before .before .pre .1 .0) (c .before .before .before .before .before .before .before .before .before .before .before .before .before .before .before .gcd-of .last .1 .1 .1 .1 .0) (c .before .before .before .before .before .before .before .before .before .before .before .before .before .before .before .gcd-of .result) (c .before .before .before .before .before .before .before .before .before .before .before .before .before .before .before .gcd-of .ensures .0) (c .before .before .before .before .before .before .before .before .before .before .before .before .before .before .before .gcd-of .kept .1 .1 .1 .1 .0) (c .before .before .before .before .before .before .before .before .before .before .before .before .before .before .before .gcd-of .ensures .1)) .short, c .before .before .before .before .before .before .before .before .before .before .before .before .before .before .before .before .before .before .before .pre .1 .1, c .before .before .before .before .before .before .before .before .row-head .kept .0, c .before .before .before .paste .kept .0)
+clear-requires c κs =
+    let start = c .before .before .before .before .before .before .before .before .before .before .before .before .before .before .before .before .before .before .before in
+    let gcd-of = c .before .before .before .before .before .before .before .before .before .before .before .before .before .before .before .gcd-of in
+    let row-head = c .before .before .before .before .before .before .before .before .row-head in
+    let paste = c .before .before .before .paste in
+    omega (
+      arith,
+      (gcd-numbers (words (start .args .image .now)) (start .args .s) (start .pre .0) (start .args .lo) (start .args .c) (start .pre .1 .0)
+          (gcd-of .last .1 .1 .1 .1 .0) (gcd-of .result) (gcd-of .ensures .0) (gcd-of .kept .1 .1 .1 .1 .0) (gcd-of .ensures .1)) .short,
+      start .pre .1 .1,
+      row-head .kept .0,
+      paste .kept .0,
+    )
 
 -- src/bifurcate.rt:164:1
 same-length : tie.Need-same-length
@@ -127,7 +173,20 @@ same-length c = search needs
 
 -- src/bifurcate.rt:164:1
 returns : tie.Need-returns
-returns c = leaf-written (words (c .before .before .before .before .before .before .before .before .before .before .before .before .before .before .before .before .before .before .before .before .before .before .args .image .now)) (c .before .before .before .before .before .before .before .before .before .before .before .before .before .before .before .before .before .before .before .before .before .before .args .s) (c .before .before .before .before .before .before .before .before .before .before .before .before .before .before .before .before .before .before .before .before .before .before .pre .0) (c .before .before .before .before .before .before .before .before .before .before .before .before .before .before .before .before .before .before .before .before .before .before .args .lo) (c .before .before .before .before .before .before .before .before .before .before .before .before .before .before .before .before .before .before .before .before .before .before .args .c) (c .before .before .before .before .before .before .before .before .before .before .before .before .before .before .before .before .before .before .before .before .before .before .pre .1 .0) _ _ _ _ _ _ _ _ (c .before .before .before .before .before .before .before .before .before .before .before .before .before .before .before .before .before .before .before .before .before .before .pre .1 .1) ((gcd-numbers (words (c .before .before .before .before .before .before .before .before .before .before .before .before .before .before .before .before .before .before .before .before .before .before .args .image .now)) (c .before .before .before .before .before .before .before .before .before .before .before .before .before .before .before .before .before .before .before .before .before .before .args .s) (c .before .before .before .before .before .before .before .before .before .before .before .before .before .before .before .before .before .before .before .before .before .before .pre .0) (c .before .before .before .before .before .before .before .before .before .before .before .before .before .before .before .before .before .before .before .before .before .before .args .lo) (c .before .before .before .before .before .before .before .before .before .before .before .before .before .before .before .before .before .before .before .before .before .before .args .c) (c .before .before .before .before .before .before .before .before .before .before .before .before .before .before .before .before .before .before .before .before .before .before .pre .1 .0) (c .before .before .before .before .before .before .before .before .before .before .before .before .before .before .before .before .before .before .gcd-of .last .1 .1 .1 .1 .0) (c .before .before .before .before .before .before .before .before .before .before .before .before .before .before .before .before .before .before .gcd-of .result) (c .before .before .before .before .before .before .before .before .before .before .before .before .before .before .before .before .before .before .gcd-of .ensures .0) (c .before .before .before .before .before .before .before .before .before .before .before .before .before .before .before .before .before .before .gcd-of .kept .1 .1 .1 .1 .0) (c .before .before .before .before .before .before .before .before .before .before .before .before .before .before .before .before .before .before .gcd-of .ensures .1)) .is ∙ ap (length {A = ℕ}) (sym (c .before .before .before .before .before .before .before .before .before .before .before .before .before .before .before .before .before .before .gcd-of .ensures .1) ∙ sym (front-words (c .before .before .before .before .before .before .before .before .before .before .before .before .before .before .before .before .before .before .gcd-of .last .1 .1 .1 .1 .0) (c .before .before .before .before .before .before .before .before .before .before .before .before .before .before .before .before .before .before .gcd-of .result)))) ((gcd-numbers (words (c .before .before .before .before .before .before .before .before .before .before .before .before .before .before .before .before .before .before .before .before .before .before .args .image .now)) (c .before .before .before .before .before .before .before .before .before .before .before .before .before .before .before .before .before .before .before .before .before .before .args .s) (c .before .before .before .before .before .before .before .before .before .before .before .before .before .before .before .before .before .before .before .before .before .before .pre .0) (c .before .before .before .before .before .before .before .before .before .before .before .before .before .before .before .before .before .before .before .before .before .before .args .lo) (c .before .before .before .before .before .before .before .before .before .before .before .before .before .before .before .before .before .before .before .before .before .before .args .c) (c .before .before .before .before .before .before .before .before .before .before .before .before .before .before .before .before .before .before .before .before .before .before .pre .1 .0) (c .before .before .before .before .before .before .before .before .before .before .before .before .before .before .before .before .before .before .gcd-of .last .1 .1 .1 .1 .0) (c .before .before .before .before .before .before .before .before .before .before .before .before .before .before .before .before .before .before .gcd-of .result) (c .before .before .before .before .before .before .before .before .before .before .before .before .before .before .before .before .before .before .gcd-of .ensures .0) (c .before .before .before .before .before .before .before .before .before .before .before .before .before .before .before .before .before .before .gcd-of .kept .1 .1 .1 .1 .0) (c .before .before .before .before .before .before .before .before .before .before .before .before .before .before .before .before .before .before .gcd-of .ensures .1)) .short) ((front-words (c .before .before .before .before .before .before .before .before .before .before .before .before .before .before .before .before .before .before .gcd-of .last .1 .1 .1 .1 .0) (c .before .before .before .before .before .before .before .before .before .before .before .before .before .before .before .before .before .before .gcd-of .result)) ∙ c .before .before .before .before .before .before .before .before .before .before .before .before .before .before .before .before .before .before .gcd-of .ensures .1) (c .before .before .before .before .before .before .before .before .before .before .before .before .before .map .ensures ∙ rw (range-words (c .before .before .before .before .before .before .before .before .before .before .before .before .before .before .before .before .before .before .before .before .before .before .args .image .now) (24 + (c .before .before .before .before .before .before .before .before .before .before .before .before .before .before .before .before .before .before .before .before .before .before .args .s .variables)) (c .before .before .before .before .before .before .before .before .before .before .before .before .before .before .before .before .before .before .before .before .before .before .args .s .variables)) refl) (c .before .before .before .before .before .before .before .before .before .before .before .row-head .ensures) (c .before .before .before .before .before .before .paste .ensures) (c .before .before .clear .ensures)
+returns c =
+    let start = c .before .before .before .before .before .before .before .before .before .before .before .before .before .before .before .before .before .before .before .before .before .before in
+    let gcd-of = c .before .before .before .before .before .before .before .before .before .before .before .before .before .before .before .before .before .before .gcd-of in
+    let map = c .before .before .before .before .before .before .before .before .before .before .before .before .before .map in
+    let row-head = c .before .before .before .before .before .before .before .before .before .before .before .row-head in
+    let paste = c .before .before .before .before .before .before .paste in
+    let W = words (start .args .image .now) in
+    let p = gcd-numbers W (start .args .s) (start .pre .0) (start .args .lo) (start .args .c) (start .pre .1 .0) (gcd-of .last .1 .1 .1 .1 .0) (gcd-of .result)
+    (gcd-of .ensures .0) (gcd-of .kept .1 .1 .1 .1 .0) (gcd-of .ensures .1) in
+    let q = front-words (gcd-of .last .1 .1 .1 .1 .0) (gcd-of .result) in
+    leaf-written W (start .args .s) (start .pre .0) (start .args .lo) (start .args .c) (start .pre .1 .0) _ _ _ _ _ _ _ _ (start .pre .1 .1)
+    (p .is ∙ ap (length {A = ℕ}) (sym (gcd-of .ensures .1) ∙ sym q)) (p .short) (q ∙ gcd-of .ensures .1)
+    (map .ensures ∙ rw (range-words (start .args .image .now) (24 + (start .args .s .variables)) (start .args .s .variables)) refl) (row-head .ensures)
+    (paste .ensures) (c .before .before .clear .ensures)
 
 pub write-leaf-spec : {M : Type 1} → statement M
 write-leaf-spec =

@@ -77,7 +77,10 @@ branch-search-add-search : (t : ℕ) → branch-search-lts.Need-add-search (
   goes-on-reads.Asked,
   goes-on-reads.Learnt,
 ) (branch-search-at t) branch-search.Post
-branch-search-add-search t c = omega (arith, numbers _ _ _ _ _ _ _ _ _ _ _ (c .before .before .path-at .ensures) (c .before .before .before .before .before .before .before .pre .1 .0) .row, numbers _ _ _ _ _ _ _ _ _ _ _ (c .before .before .path-at .ensures) (c .before .before .before .before .before .before .before .pre .1 .0) .few)
+branch-search-add-search t c =
+    let start = c .before .before .before .before .before .before .before in
+    let path-at = c .before .before .path-at in
+    omega (arith, numbers _ _ _ _ _ _ _ _ _ _ _ (path-at .ensures) (start .pre .1 .0) .row, numbers _ _ _ _ _ _ _ _ _ _ _ (path-at .ensures) (start .pre .1 .0) .few)
 
 -- src/lib.rt:138:13
 branch-search-search-requires : (t : ℕ) → branch-search-lts.Need-search-requires (
@@ -92,7 +95,12 @@ branch-search-search-requires : (t : ℕ) → branch-search-lts.Need-search-requ
   goes-on-reads.Asked,
   goes-on-reads.Learnt,
 ) (branch-search-at t) branch-search.Post
-branch-search-search-requires t c κs = (omega (arith, less-falls _ _ _ _ _ _ _ _ _ _ _ (c .before .before .path-at .ensures) (c .before .before .before .before .before .before .before .pre .1 .0), c .before .before .before .before .before .before .before .pre .0), (less-ready _ _ _ _ _ _ _ _ _ _ _ (c .before .before .path-at .ensures) (c .before .before .before .before .before .before .before .pre .1 .0), (c .before .before .before .before .before .before .before .pre .1 .1, next-small _ _ _ _ _ _ _ _ _ _ _ (c .before .before .path-at .ensures) (c .before .before .before .before .before .before .before .pre .1 .0))))
+branch-search-search-requires t c κs =
+    let start = c .before .before .before .before .before .before .before in
+    let path-at = c .before .before .path-at in (
+      omega (arith, less-falls _ _ _ _ _ _ _ _ _ _ _ (path-at .ensures) (start .pre .1 .0), start .pre .0),
+      (less-ready _ _ _ _ _ _ _ _ _ _ _ (path-at .ensures) (start .pre .1 .0), (start .pre .1 .1, next-small _ _ _ _ _ _ _ _ _ _ _ (path-at .ensures) (start .pre .1 .0))),
+    )
 
 -- src/lib.rt:139:35
 branch-search-rows-requires : (t : ℕ) → branch-search-lts.Need-rows-requires (
@@ -137,7 +145,11 @@ branch-search-sub-grow : (t : ℕ) → branch-search-lts.Need-sub-grow (
   goes-on-reads.Asked,
   goes-on-reads.Learnt,
 ) (branch-search-at t) branch-search.Post
-branch-search-sub-grow t c = rw (c .before .rows .ensures, c .rows2 .ensures) (growing _ _ _ _ _ _ _ _ _ _ _ (c .before .before .before .before .before .before .before .before .path-at .ensures) _ _ _ _ (c .before .before .before .before .before .search .ensures) (c .before .before .before .before .before .before .before .before .before .before .before .before .before .pre .1 .0) .more)
+branch-search-sub-grow t c =
+    let start = c .before .before .before .before .before .before .before .before .before .before .before .before .before in
+    let path-at = c .before .before .before .before .before .before .before .before .path-at in
+    let search = c .before .before .before .before .before .search in
+    rw (c .before .rows .ensures, c .rows2 .ensures) (growing _ _ _ _ _ _ _ _ _ _ _ (path-at .ensures) _ _ _ _ (search .ensures) (start .pre .1 .0) .more)
 
 -- src/lib.rt:139:13
 branch-search-grow-requires : (t : ℕ) → branch-search-lts.Need-grow-requires (
@@ -152,7 +164,27 @@ branch-search-grow-requires : (t : ℕ) → branch-search-lts.Need-grow-requires
   goes-on-reads.Asked,
   goes-on-reads.Learnt,
 ) (branch-search-at t) branch-search.Post
-branch-search-grow-requires t c κs = (c .before .before .before .before .before .before .before .before .before .before .before .before .before .pre .1 .0 .asks .laid, ((omega (arith, numbers _ _ _ _ _ _ _ _ _ _ _ (c .before .before .before .before .before .before .before .before .path-at .ensures) (c .before .before .before .before .before .before .before .before .before .before .before .before .before .pre .1 .0) .row, numbers _ _ _ _ _ _ _ _ _ _ _ (c .before .before .before .before .before .before .before .before .path-at .ensures) (c .before .before .before .before .before .before .before .before .before .before .before .before .before .pre .1 .0) .few), omega (arith, numbers _ _ _ _ _ _ _ _ _ _ _ (c .before .before .before .before .before .before .before .before .path-at .ensures) (c .before .before .before .before .before .before .before .before .before .before .before .before .before .pre .1 .0) .room, growing _ _ _ _ _ _ _ _ _ _ _ (c .before .before .before .before .before .before .before .before .path-at .ensures) _ _ _ _ (c .before .before .before .before .before .search .ensures) (c .before .before .before .before .before .before .before .before .before .before .before .before .before .pre .1 .0) .long)), rw (c .before .rows .ensures, c .rows2 .ensures) (growing _ _ _ _ _ _ _ _ _ _ _ (c .before .before .before .before .before .before .before .before .path-at .ensures) _ _ _ _ (c .before .before .before .before .before .search .ensures) (c .before .before .before .before .before .before .before .before .before .before .before .before .before .pre .1 .0) .fits)))
+branch-search-grow-requires t c κs =
+    let start = c .before .before .before .before .before .before .before .before .before .before .before .before .before in
+    let path-at = c .before .before .before .before .before .before .before .before .path-at in
+    let search = c .before .before .before .before .before .search in (
+      start .pre .1 .0 .asks .laid,
+      (
+        (
+          omega (
+            arith,
+            numbers _ _ _ _ _ _ _ _ _ _ _ (path-at .ensures) (start .pre .1 .0) .row,
+            numbers _ _ _ _ _ _ _ _ _ _ _ (path-at .ensures) (start .pre .1 .0) .few,
+          ),
+          omega (
+            arith,
+            numbers _ _ _ _ _ _ _ _ _ _ _ (path-at .ensures) (start .pre .1 .0) .room,
+            growing _ _ _ _ _ _ _ _ _ _ _ (path-at .ensures) _ _ _ _ (search .ensures) (start .pre .1 .0) .long,
+          ),
+        ),
+        rw (c .before .rows .ensures, c .rows2 .ensures) (growing _ _ _ _ _ _ _ _ _ _ _ (path-at .ensures) _ _ _ _ (search .ensures) (start .pre .1 .0) .fits),
+      ),
+    )
 
 -- src/lib.rt:140:13
 branch-search-goes-on-requires : (t : ℕ) → branch-search-lts.Need-goes-on-requires (
@@ -197,7 +229,16 @@ branch-search-returns : (t : ℕ) → branch-search-lts.Need-returns (
   goes-on-reads.Asked,
   goes-on-reads.Learnt,
 ) (branch-search-at t) branch-search.Post
-branch-search-returns t c = ret-stopped _ _ _ _ _ _ _ _ _ _ _ (c .before .before .before .before .before .before .before .before .before .before .before .before .before .path-at .ensures) _ _ _ _ _ _ (halfway _ _ _ _ _ _ _ _ _ _ _ (c .before .before .before .before .before .before .before .before .before .before .before .before .before .path-at .ensures) _ _ _ _ (c .before .before .before .before .before .before .before .before .before .before .search .ensures) (c .before .before .before .before .before .before .before .before .before .before .before .before .if1 .taken) _ _ _ (rw (c .before .before .before .before .before .before .rows .ensures, c .before .before .before .before .before .rows2 .ensures) at (c .before .before .before .before .grow .ensures))) (sym (c .before .goes-on .ensures) ∙ taken _ (c .if2 .taken))
+branch-search-returns t c =
+    let path-at = c .before .before .before .before .before .before .before .before .before .before .before .before .before .path-at in
+    let if1 = c .before .before .before .before .before .before .before .before .before .before .before .before .if1 in
+    let search = c .before .before .before .before .before .before .before .before .before .before .search in
+    let rows = c .before .before .before .before .before .before .rows in
+    let rows2 = c .before .before .before .before .before .rows2 in
+    let grow = c .before .before .before .before .grow in
+    ret-stopped _ _ _ _ _ _ _ _ _ _ _ (path-at .ensures) _ _ _ _ _ _
+    (halfway _ _ _ _ _ _ _ _ _ _ _ (path-at .ensures) _ _ _ _ (search .ensures) (if1 .taken) _ _ _ (rw (rows .ensures, rows2 .ensures) at (grow .ensures)))
+    (sym (c .before .goes-on .ensures) ∙ taken _ (c .if2 .taken))
 
 -- src/lib.rt:144:13
 branch-search-same-length-2 : (t : ℕ) → branch-search-lts.Need-same-length-2 (
@@ -212,7 +253,10 @@ branch-search-same-length-2 : (t : ℕ) → branch-search-lts.Need-same-length-2
   goes-on-reads.Asked,
   goes-on-reads.Learnt,
 ) (branch-search-at t) branch-search.Post
-branch-search-same-length-2 t c = c .before .before .before .before .before .before .grow .kept .0 ∙ c .before .before .before .before .before .before .before .before .before .before .before .before .search .kept .0
+branch-search-same-length-2 t c =
+    let search = c .before .before .before .before .before .before .before .before .before .before .before .before .search in
+    let grow = c .before .before .before .before .before .before .grow in
+    grow .kept .0 ∙ search .kept .0
 
 -- src/lib.rt:144:13
 branch-search-returns-2 : (t : ℕ) → branch-search-lts.Need-returns-2 (
@@ -227,7 +271,16 @@ branch-search-returns-2 : (t : ℕ) → branch-search-lts.Need-returns-2 (
   goes-on-reads.Asked,
   goes-on-reads.Learnt,
 ) (branch-search-at t) branch-search.Post
-branch-search-returns-2 t c = ret-cut _ _ _ _ _ _ _ _ _ _ _ (c .before .before .before .before .before .before .before .before .before .before .before .before .before .before .before .path-at .ensures) _ _ _ _ _ _ (halfway _ _ _ _ _ _ _ _ _ _ _ (c .before .before .before .before .before .before .before .before .before .before .before .before .before .before .before .path-at .ensures) _ _ _ _ (c .before .before .before .before .before .before .before .before .before .before .before .before .search .ensures) (c .before .before .before .before .before .before .before .before .before .before .before .before .before .before .if1 .taken) _ _ _ (rw (c .before .before .before .before .before .before .before .before .rows .ensures, c .before .before .before .before .before .before .before .rows2 .ensures) at (c .before .before .before .before .before .before .grow .ensures))) (sym (c .before .before .before .goes-on .ensures) ∙ passed _ (c .before .before .if2 .left)) (taken _ (c .if3 .taken))
+branch-search-returns-2 t c =
+    let path-at = c .before .before .before .before .before .before .before .before .before .before .before .before .before .before .before .path-at in
+    let if1 = c .before .before .before .before .before .before .before .before .before .before .before .before .before .before .if1 in
+    let search = c .before .before .before .before .before .before .before .before .before .before .before .before .search in
+    let rows = c .before .before .before .before .before .before .before .before .rows in
+    let rows2 = c .before .before .before .before .before .before .before .rows2 in
+    let grow = c .before .before .before .before .before .before .grow in
+    let goes-on = c .before .before .before .goes-on in
+    ret-cut _ _ _ _ _ _ _ _ _ _ _ (path-at .ensures) _ _ _ _ _ _ (halfway _ _ _ _ _ _ _ _ _ _ _ (path-at .ensures) _ _ _ _ (search .ensures) (if1 .taken) _ _ _
+    (rw (rows .ensures, rows2 .ensures) at (grow .ensures))) (sym (goes-on .ensures) ∙ passed _ (c .before .before .if2 .left)) (taken _ (c .if3 .taken))
 
 -- src/lib.rt:146:51
 branch-search-add-search-2 : (t : ℕ) → branch-search-lts.Need-add-search-2 (
@@ -242,7 +295,19 @@ branch-search-add-search-2 : (t : ℕ) → branch-search-lts.Need-add-search-2 (
   goes-on-reads.Asked,
   goes-on-reads.Learnt,
 ) (branch-search-at t) branch-search.Post
-branch-search-add-search-2 t c = omega (arith, other-place _ _ _ _ _ _ _ _ _ _ _ (c .before .before .before .before .before .before .before .before .before .before .before .before .before .before .before .before .before .path-at .ensures) _ _ _ _ _ _ (halfway _ _ _ _ _ _ _ _ _ _ _ (c .before .before .before .before .before .before .before .before .before .before .before .before .before .before .before .before .before .path-at .ensures) _ _ _ _ (c .before .before .before .before .before .before .before .before .before .before .before .before .before .before .search .ensures) (c .before .before .before .before .before .before .before .before .before .before .before .before .before .before .before .before .if1 .taken) _ _ _ (rw (c .before .before .before .before .before .before .before .before .before .before .rows .ensures, c .before .before .before .before .before .before .before .before .before .rows2 .ensures) at (c .before .before .before .before .before .before .before .before .grow .ensures))) (c .before .before .before .before .before .before .before .before .before .before .before .before .before .before .before .before .before .before .before .before .before .before .pre .1 .0))
+branch-search-add-search-2 t c =
+    let start = c .before .before .before .before .before .before .before .before .before .before .before .before .before .before .before .before .before .before .before .before .before .before in
+    let path-at = c .before .before .before .before .before .before .before .before .before .before .before .before .before .before .before .before .before .path-at in
+    let if1 = c .before .before .before .before .before .before .before .before .before .before .before .before .before .before .before .before .if1 in
+    let search = c .before .before .before .before .before .before .before .before .before .before .before .before .before .before .search in
+    let rows = c .before .before .before .before .before .before .before .before .before .before .rows in
+    let rows2 = c .before .before .before .before .before .before .before .before .before .rows2 in
+    let grow = c .before .before .before .before .before .before .before .before .grow in
+    omega (
+      arith,
+      other-place _ _ _ _ _ _ _ _ _ _ _ (path-at .ensures) _ _ _ _ _ _
+          (halfway _ _ _ _ _ _ _ _ _ _ _ (path-at .ensures) _ _ _ _ (search .ensures) (if1 .taken) _ _ _ (rw (rows .ensures, rows2 .ensures) at (grow .ensures))) (start .pre .1 .0),
+    )
 
 -- src/lib.rt:146:9
 branch-search-search-requires-2 : (t : ℕ) → branch-search-lts.Need-search-requires-2 (
@@ -257,7 +322,23 @@ branch-search-search-requires-2 : (t : ℕ) → branch-search-lts.Need-search-re
   goes-on-reads.Asked,
   goes-on-reads.Learnt,
 ) (branch-search-at t) branch-search.Post
-branch-search-search-requires-2 t c κs = (omega (arith, other-falls _ _ _ _ _ _ _ _ _ _ _ (c .before .before .before .before .before .before .before .before .before .before .before .before .before .before .before .before .before .path-at .ensures) _ _ _ _ _ _ (halfway _ _ _ _ _ _ _ _ _ _ _ (c .before .before .before .before .before .before .before .before .before .before .before .before .before .before .before .before .before .path-at .ensures) _ _ _ _ (c .before .before .before .before .before .before .before .before .before .before .before .before .before .before .search .ensures) (c .before .before .before .before .before .before .before .before .before .before .before .before .before .before .before .before .if1 .taken) _ _ _ (rw (c .before .before .before .before .before .before .before .before .before .before .rows .ensures, c .before .before .before .before .before .before .before .before .before .rows2 .ensures) at (c .before .before .before .before .before .before .before .before .grow .ensures))) (c .before .before .before .before .before .before .before .before .before .before .before .before .before .before .before .before .before .before .before .before .before .before .pre .1 .0), c .before .before .before .before .before .before .before .before .before .before .before .before .before .before .before .before .before .before .before .before .before .before .pre .0), (other-ready _ _ _ _ _ _ _ _ _ _ _ (c .before .before .before .before .before .before .before .before .before .before .before .before .before .before .before .before .before .path-at .ensures) _ _ _ _ _ _ (halfway _ _ _ _ _ _ _ _ _ _ _ (c .before .before .before .before .before .before .before .before .before .before .before .before .before .before .before .before .before .path-at .ensures) _ _ _ _ (c .before .before .before .before .before .before .before .before .before .before .before .before .before .before .search .ensures) (c .before .before .before .before .before .before .before .before .before .before .before .before .before .before .before .before .if1 .taken) _ _ _ (rw (c .before .before .before .before .before .before .before .before .before .before .rows .ensures, c .before .before .before .before .before .before .before .before .before .rows2 .ensures) at (c .before .before .before .before .before .before .before .before .grow .ensures))) (c .before .before .before .before .before .before .before .before .before .before .before .before .before .before .before .before .before .before .before .before .before .before .pre .1 .0), ((sym (c .before .before .before .before .before .goes-on .ensures) ∙ passed _ (c .before .before .before .before .if2 .left)), next-small _ _ _ _ _ _ _ _ _ _ _ (c .before .before .before .before .before .before .before .before .before .before .before .before .before .before .before .before .before .path-at .ensures) (c .before .before .before .before .before .before .before .before .before .before .before .before .before .before .before .before .before .before .before .before .before .before .pre .1 .0))))
+branch-search-search-requires-2 t c κs =
+    let start = c .before .before .before .before .before .before .before .before .before .before .before .before .before .before .before .before .before .before .before .before .before .before in
+    let path-at = c .before .before .before .before .before .before .before .before .before .before .before .before .before .before .before .before .before .path-at in
+    let if1 = c .before .before .before .before .before .before .before .before .before .before .before .before .before .before .before .before .if1 in
+    let search = c .before .before .before .before .before .before .before .before .before .before .before .before .before .before .search in
+    let rows = c .before .before .before .before .before .before .before .before .before .before .rows in
+    let rows2 = c .before .before .before .before .before .before .before .before .before .rows2 in
+    let grow = c .before .before .before .before .before .before .before .before .grow in
+    let goes-on = c .before .before .before .before .before .goes-on in
+    let if2 = c .before .before .before .before .if2 in
+    let p = halfway _ _ _ _ _ _ _ _ _ _ _ (path-at .ensures) _ _ _ _ (search .ensures) (if1 .taken) _ _ _ (rw (rows .ensures, rows2 .ensures) at (grow .ensures)) in (
+      omega (arith, other-falls _ _ _ _ _ _ _ _ _ _ _ (path-at .ensures) _ _ _ _ _ _ p (start .pre .1 .0), start .pre .0),
+      (
+        other-ready _ _ _ _ _ _ _ _ _ _ _ (path-at .ensures) _ _ _ _ _ _ p (start .pre .1 .0),
+        ((sym (goes-on .ensures) ∙ passed _ (if2 .left)), next-small _ _ _ _ _ _ _ _ _ _ _ (path-at .ensures) (start .pre .1 .0)),
+      ),
+    )
 
 -- src/lib.rt:146:9
 branch-search-same-length-3 : (t : ℕ) → branch-search-lts.Need-same-length-3 (
@@ -272,7 +353,10 @@ branch-search-same-length-3 : (t : ℕ) → branch-search-lts.Need-same-length-3
   goes-on-reads.Asked,
   goes-on-reads.Learnt,
 ) (branch-search-at t) branch-search.Post
-branch-search-same-length-3 t c = c .before .before .search2 .kept .0 ∙ (c .before .before .before .before .before .before .before .before .before .before .before .grow .kept .0 ∙ c .before .before .before .before .before .before .before .before .before .before .before .before .before .before .before .before .before .search .kept .0)
+branch-search-same-length-3 t c =
+    let search = c .before .before .before .before .before .before .before .before .before .before .before .before .before .before .before .before .before .search in
+    let grow = c .before .before .before .before .before .before .before .before .before .before .before .grow in
+    c .before .before .search2 .kept .0 ∙ (grow .kept .0 ∙ search .kept .0)
 
 -- src/lib.rt:146:9
 branch-search-returns-3 : (t : ℕ) → branch-search-lts.Need-returns-3 (
@@ -287,7 +371,19 @@ branch-search-returns-3 : (t : ℕ) → branch-search-lts.Need-returns-3 (
   goes-on-reads.Asked,
   goes-on-reads.Learnt,
 ) (branch-search-at t) branch-search.Post
-branch-search-returns-3 t c = ret-other _ _ _ _ _ _ _ _ _ _ _ (c .before .before .before .before .before .before .before .before .before .before .before .before .before .before .before .before .before .before .before .before .path-at .ensures) _ _ _ _ _ _ (halfway _ _ _ _ _ _ _ _ _ _ _ (c .before .before .before .before .before .before .before .before .before .before .before .before .before .before .before .before .before .before .before .before .path-at .ensures) _ _ _ _ (c .before .before .before .before .before .before .before .before .before .before .before .before .before .before .before .before .before .search .ensures) (c .before .before .before .before .before .before .before .before .before .before .before .before .before .before .before .before .before .before .before .if1 .taken) _ _ _ (rw (c .before .before .before .before .before .before .before .before .before .before .before .before .before .rows .ensures, c .before .before .before .before .before .before .before .before .before .before .before .before .rows2 .ensures) at (c .before .before .before .before .before .before .before .before .before .before .before .grow .ensures))) (sym (c .before .before .before .before .before .before .before .before .goes-on .ensures) ∙ passed _ (c .before .before .before .before .before .before .before .if2 .left)) (passed _ (c .before .before .before .before .before .if3 .left)) _ _ _ _ (c .before .before .search2 .ensures)
+branch-search-returns-3 t c =
+    let path-at = c .before .before .before .before .before .before .before .before .before .before .before .before .before .before .before .before .before .before .before .before .path-at in
+    let if1 = c .before .before .before .before .before .before .before .before .before .before .before .before .before .before .before .before .before .before .before .if1 in
+    let search = c .before .before .before .before .before .before .before .before .before .before .before .before .before .before .before .before .before .search in
+    let rows = c .before .before .before .before .before .before .before .before .before .before .before .before .before .rows in
+    let rows2 = c .before .before .before .before .before .before .before .before .before .before .before .before .rows2 in
+    let grow = c .before .before .before .before .before .before .before .before .before .before .before .grow in
+    let goes-on = c .before .before .before .before .before .before .before .before .goes-on in
+    let if2 = c .before .before .before .before .before .before .before .if2 in
+    let if3 = c .before .before .before .before .before .if3 in
+    ret-other _ _ _ _ _ _ _ _ _ _ _ (path-at .ensures) _ _ _ _ _ _
+    (halfway _ _ _ _ _ _ _ _ _ _ _ (path-at .ensures) _ _ _ _ (search .ensures) (if1 .taken) _ _ _ (rw (rows .ensures, rows2 .ensures) at (grow .ensures)))
+    (sym (goes-on .ensures) ∙ passed _ (if2 .left)) (passed _ (if3 .left)) _ _ _ _ (c .before .before .search2 .ensures)
 
 -- src/lib.rt:149:13
 branch-search-grow-requires-2 : (t : ℕ) → branch-search-lts.Need-grow-requires-2 (
@@ -302,7 +398,22 @@ branch-search-grow-requires-2 : (t : ℕ) → branch-search-lts.Need-grow-requir
   goes-on-reads.Asked,
   goes-on-reads.Learnt,
 ) (branch-search-at t) branch-search.Post
-branch-search-grow-requires-2 t c κs = (c .before .before .before .before .before .before .before .before .pre .1 .0 .asks .laid, ((omega (arith, numbers _ _ _ _ _ _ _ _ _ _ _ (c .before .before .before .path-at .ensures) (c .before .before .before .before .before .before .before .before .pre .1 .0) .row, numbers _ _ _ _ _ _ _ _ _ _ _ (c .before .before .before .path-at .ensures) (c .before .before .before .before .before .before .before .before .pre .1 .0) .few), numbers _ _ _ _ _ _ _ _ _ _ _ (c .before .before .before .path-at .ensures) (c .before .before .before .before .before .before .before .before .pre .1 .0) .room), skip-fits _ _ _ _ _ _ _ _ _ _ _ (c .before .before .before .path-at .ensures) (c .before .before .before .before .before .before .before .before .pre .1 .0)))
+branch-search-grow-requires-2 t c κs =
+    let start = c .before .before .before .before .before .before .before .before in
+    let path-at = c .before .before .before .path-at in (
+      start .pre .1 .0 .asks .laid,
+      (
+        (
+          omega (
+            arith,
+            numbers _ _ _ _ _ _ _ _ _ _ _ (path-at .ensures) (start .pre .1 .0) .row,
+            numbers _ _ _ _ _ _ _ _ _ _ _ (path-at .ensures) (start .pre .1 .0) .few,
+          ),
+          numbers _ _ _ _ _ _ _ _ _ _ _ (path-at .ensures) (start .pre .1 .0) .room,
+        ),
+        skip-fits _ _ _ _ _ _ _ _ _ _ _ (path-at .ensures) (start .pre .1 .0),
+      ),
+    )
 
 -- src/lib.rt:150:51
 branch-search-add-search-3 : (t : ℕ) → branch-search-lts.Need-add-search-3 (
@@ -317,7 +428,16 @@ branch-search-add-search-3 : (t : ℕ) → branch-search-lts.Need-add-search-3 (
   goes-on-reads.Asked,
   goes-on-reads.Learnt,
 ) (branch-search-at t) branch-search.Post
-branch-search-add-search-3 t c = omega (arith, other-place _ _ _ _ _ _ _ _ _ _ _ (c .before .before .before .before .before .before .before .before .path-at .ensures) _ _ _ _ _ _ (skipped _ _ _ _ _ _ _ _ _ _ _ (c .before .before .before .before .before .before .before .before .path-at .ensures) (c .before .before .before .before .before .before .before .if1 .left) (c .before .before .before .before .before .before .before .before .before .before .before .before .before .pre .1 .0 .small) _ _ _ (c .before .before .before .before .grow2 .ensures)) (c .before .before .before .before .before .before .before .before .before .before .before .before .before .pre .1 .0))
+branch-search-add-search-3 t c =
+    let start = c .before .before .before .before .before .before .before .before .before .before .before .before .before in
+    let path-at = c .before .before .before .before .before .before .before .before .path-at in
+    let if1 = c .before .before .before .before .before .before .before .if1 in
+    let grow2 = c .before .before .before .before .grow2 in
+    omega (
+      arith,
+      other-place _ _ _ _ _ _ _ _ _ _ _ (path-at .ensures) _ _ _ _ _ _
+          (skipped _ _ _ _ _ _ _ _ _ _ _ (path-at .ensures) (if1 .left) (start .pre .1 .0 .small) _ _ _ (grow2 .ensures)) (start .pre .1 .0),
+    )
 
 -- src/lib.rt:150:9
 branch-search-search-requires-3 : (t : ℕ) → branch-search-lts.Need-search-requires-3 (
@@ -332,7 +452,18 @@ branch-search-search-requires-3 : (t : ℕ) → branch-search-lts.Need-search-re
   goes-on-reads.Asked,
   goes-on-reads.Learnt,
 ) (branch-search-at t) branch-search.Post
-branch-search-search-requires-3 t c κs = (omega (arith, other-falls _ _ _ _ _ _ _ _ _ _ _ (c .before .before .before .before .before .before .before .before .path-at .ensures) _ _ _ _ _ _ (skipped _ _ _ _ _ _ _ _ _ _ _ (c .before .before .before .before .before .before .before .before .path-at .ensures) (c .before .before .before .before .before .before .before .if1 .left) (c .before .before .before .before .before .before .before .before .before .before .before .before .before .pre .1 .0 .small) _ _ _ (c .before .before .before .before .grow2 .ensures)) (c .before .before .before .before .before .before .before .before .before .before .before .before .before .pre .1 .0), c .before .before .before .before .before .before .before .before .before .before .before .before .before .pre .0), (other-ready _ _ _ _ _ _ _ _ _ _ _ (c .before .before .before .before .before .before .before .before .path-at .ensures) _ _ _ _ _ _ (skipped _ _ _ _ _ _ _ _ _ _ _ (c .before .before .before .before .before .before .before .before .path-at .ensures) (c .before .before .before .before .before .before .before .if1 .left) (c .before .before .before .before .before .before .before .before .before .before .before .before .before .pre .1 .0 .small) _ _ _ (c .before .before .before .before .grow2 .ensures)) (c .before .before .before .before .before .before .before .before .before .before .before .before .before .pre .1 .0), (c .before .before .before .before .before .before .before .before .before .before .before .before .before .pre .1 .1, next-small _ _ _ _ _ _ _ _ _ _ _ (c .before .before .before .before .before .before .before .before .path-at .ensures) (c .before .before .before .before .before .before .before .before .before .before .before .before .before .pre .1 .0))))
+branch-search-search-requires-3 t c κs =
+    let start = c .before .before .before .before .before .before .before .before .before .before .before .before .before in
+    let path-at = c .before .before .before .before .before .before .before .before .path-at in
+    let if1 = c .before .before .before .before .before .before .before .if1 in
+    let grow2 = c .before .before .before .before .grow2 in
+    let p = skipped _ _ _ _ _ _ _ _ _ _ _ (path-at .ensures) (if1 .left) (start .pre .1 .0 .small) _ _ _ (grow2 .ensures) in (
+      omega (arith, other-falls _ _ _ _ _ _ _ _ _ _ _ (path-at .ensures) _ _ _ _ _ _ p (start .pre .1 .0), start .pre .0),
+      (
+        other-ready _ _ _ _ _ _ _ _ _ _ _ (path-at .ensures) _ _ _ _ _ _ p (start .pre .1 .0),
+        (start .pre .1 .1, next-small _ _ _ _ _ _ _ _ _ _ _ (path-at .ensures) (start .pre .1 .0)),
+      ),
+    )
 
 -- src/lib.rt:150:9
 branch-search-same-length-4 : (t : ℕ) → branch-search-lts.Need-same-length-4 (
@@ -362,7 +493,14 @@ branch-search-returns-4 : (t : ℕ) → branch-search-lts.Need-returns-4 (
   goes-on-reads.Asked,
   goes-on-reads.Learnt,
 ) (branch-search-at t) branch-search.Post
-branch-search-returns-4 t c = ret-other _ _ _ _ _ _ _ _ _ _ _ (c .before .before .before .before .before .before .before .before .before .before .before .path-at .ensures) _ _ _ _ _ _ (skipped _ _ _ _ _ _ _ _ _ _ _ (c .before .before .before .before .before .before .before .before .before .before .before .path-at .ensures) (c .before .before .before .before .before .before .before .before .before .before .if1 .left) (c .before .before .before .before .before .before .before .before .before .before .before .before .before .before .before .before .pre .1 .0 .small) _ _ _ (c .before .before .before .before .before .before .before .grow2 .ensures)) refl (c .before .before .before .before .before .before .before .before .before .if4 .taken) _ _ _ _ (c .before .before .search3 .ensures)
+branch-search-returns-4 t c =
+    let start = c .before .before .before .before .before .before .before .before .before .before .before .before .before .before .before .before in
+    let path-at = c .before .before .before .before .before .before .before .before .before .before .before .path-at in
+    let if1 = c .before .before .before .before .before .before .before .before .before .before .if1 in
+    let if4 = c .before .before .before .before .before .before .before .before .before .if4 in
+    let grow2 = c .before .before .before .before .before .before .before .grow2 in
+    ret-other _ _ _ _ _ _ _ _ _ _ _ (path-at .ensures) _ _ _ _ _ _
+    (skipped _ _ _ _ _ _ _ _ _ _ _ (path-at .ensures) (if1 .left) (start .pre .1 .0 .small) _ _ _ (grow2 .ensures)) refl (if4 .taken) _ _ _ _ (c .before .before .search3 .ensures)
 
 -- src/lib.rt:131:1
 branch-search-same-length-5 : (t : ℕ) → branch-search-lts.Need-same-length-5 (
@@ -392,7 +530,9 @@ branch-search-returns-5 : (t : ℕ) → branch-search-lts.Need-returns-5 (
   goes-on-reads.Asked,
   goes-on-reads.Learnt,
 ) (branch-search-at t) branch-search.Post
-branch-search-returns-5 t c = rw (c .before .before .before .before .before .before .before .pre .1 .1) (ret-neither _ _ _ _ _ _ _ _ _ _ _ (c .before .before .path-at .ensures) (c .before .if1 .left) (c .if4 .left) (c .before .before .before .before .before .before .before .pre .1 .0 .small))
+branch-search-returns-5 t c =
+    let start = c .before .before .before .before .before .before .before in
+    rw (start .pre .1 .1) (ret-neither _ _ _ _ _ _ _ _ _ _ _ (c .before .before .path-at .ensures) (c .before .if1 .left) (c .if4 .left) (start .pre .1 .0 .small))
 
 -- src/lib.rt:123:45
 search-rows-requires : (t : ℕ) → search-lts.Need-rows-requires (
@@ -422,7 +562,9 @@ search-open-node-requires : (t : ℕ) → search-lts.Need-open-node-requires (
   branch-search-below t,
   branch-search.Post,
 ) (search-at t) search′.Post
-search-open-node-requires t c κs = (c .before .before .before .before .before .pre .1 .0 .asks .laid, (rw (c .rows .ensures) (standing _ _ _ _ _ _ _ _ (c .before .before .before .before .before .pre .1 .0)), c .before .before .before .before .before .pre .1 .1 .1))
+search-open-node-requires t c κs =
+    let start = c .before .before .before .before .before in
+    (start .pre .1 .0 .asks .laid, (rw (c .rows .ensures) (standing _ _ _ _ _ _ _ _ (start .pre .1 .0)), start .pre .1 .1 .1))
 
 -- src/lib.rt:125:9
 search-scan-requires : (t : ℕ) → search-lts.Need-scan-requires (
@@ -437,7 +579,11 @@ search-scan-requires : (t : ℕ) → search-lts.Need-scan-requires (
   branch-search-below t,
   branch-search.Post,
 ) (search-at t) search′.Post
-search-scan-requires t c κs = (scan-ready _ _ _ _ _ _ _ _ _ _ _ (rw (c .before .before .before .before .before .rows .ensures) at (c .before .before .before .before .open-node .ensures)) (c .before .if1 .taken) (c .before .before .before .before .before .before .before .before .before .before .pre .1 .0), c .before .before .before .before .before .before .before .before .before .before .pre .1 .1 .0)
+search-scan-requires t c κs =
+    let start = c .before .before .before .before .before .before .before .before .before .before in
+    let rows = c .before .before .before .before .before .rows in
+    let open-node = c .before .before .before .before .open-node in
+    (scan-ready _ _ _ _ _ _ _ _ _ _ _ (rw (rows .ensures) at (open-node .ensures)) (c .before .if1 .taken) (start .pre .1 .0), start .pre .1 .1 .0)
 
 -- src/lib.rt:125:9
 search-same-length : (t : ℕ) → search-lts.Need-same-length (
@@ -467,7 +613,10 @@ search-returns : (t : ℕ) → search-lts.Need-returns (
   branch-search-below t,
   branch-search.Post,
 ) (search-at t) search′.Post
-search-returns t c = rw (c .scan .ensures .1) (scan-done _ _ _ _ _ _ _ _ _ _ _ (rw (c .before .before .before .before .before .before .rows .ensures) at (c .before .before .before .before .before .open-node .ensures)) (c .before .before .if1 .taken) _ _ (c .scan .ensures .0))
+search-returns t c =
+    let rows = c .before .before .before .before .before .before .rows in
+    let open-node = c .before .before .before .before .before .open-node in
+    rw (c .scan .ensures .1) (scan-done _ _ _ _ _ _ _ _ _ _ _ (rw (rows .ensures) at (open-node .ensures)) (c .before .before .if1 .taken) _ _ (c .scan .ensures .0))
 
 -- src/lib.rt:127:39
 search-with-rows-requires : (t : ℕ) → search-lts.Need-with-rows-requires (
@@ -482,7 +631,11 @@ search-with-rows-requires : (t : ℕ) → search-lts.Need-with-rows-requires (
   branch-search-below t,
   branch-search.Post,
 ) (search-at t) search′.Post
-search-with-rows-requires t c κs = few-rows _ _ _ _ _ _ _ _ (branch-ready _ _ _ _ _ _ _ _ _ _ _ (rw (c .before .before .before .before .before .rows .ensures) at (c .before .before .before .before .open-node .ensures)) (c .before .if1 .left) (c .before .before .before .before .before .before .before .before .before .before .pre .1 .0))
+search-with-rows-requires t c κs =
+    let start = c .before .before .before .before .before .before .before .before .before .before in
+    let rows = c .before .before .before .before .before .rows in
+    let open-node = c .before .before .before .before .open-node in
+    few-rows _ _ _ _ _ _ _ _ (branch-ready _ _ _ _ _ _ _ _ _ _ _ (rw (rows .ensures) at (open-node .ensures)) (c .before .if1 .left) (start .pre .1 .0))
 
 -- src/lib.rt:127:5
 search-branch-search-requires : (t : ℕ) → search-lts.Need-branch-search-requires (
@@ -497,7 +650,18 @@ search-branch-search-requires : (t : ℕ) → search-lts.Need-branch-search-requ
   branch-search-below t,
   branch-search.Post,
 ) (search-at t) search′.Post
-search-branch-search-requires t c κs = (omega (arith, branch-falls _ _ _ _ _ _ _ _ _ _ _ (rw (c .before .before .before .before .before .before .rows .ensures) at (c .before .before .before .before .before .open-node .ensures)) (c .before .before .if1 .left) (c .before .before .before .before .before .before .before .before .before .before .before .pre .1 .0), c .before .before .before .before .before .before .before .before .before .before .before .pre .0), (rw (c .with-rows .ensures .0, c .with-rows .ensures .1 .0) (branch-ready _ _ _ _ _ _ _ _ _ _ _ (rw (c .before .before .before .before .before .before .rows .ensures) at (c .before .before .before .before .before .open-node .ensures)) (c .before .before .if1 .left) (c .before .before .before .before .before .before .before .before .before .before .before .pre .1 .0)), c .with-rows .ensures .1 .1 ∙ c .before .before .before .before .before .before .before .before .before .before .before .pre .1 .1 .0))
+search-branch-search-requires t c κs =
+    let start = c .before .before .before .before .before .before .before .before .before .before .before in
+    let rows = c .before .before .before .before .before .before .rows in
+    let open-node = c .before .before .before .before .before .open-node in
+    let if1 = c .before .before .if1 in (
+      omega (arith, branch-falls _ _ _ _ _ _ _ _ _ _ _ (rw (rows .ensures) at (open-node .ensures)) (if1 .left) (start .pre .1 .0), start .pre .0),
+      (
+        rw (c .with-rows .ensures .0, c .with-rows .ensures .1 .0) (branch-ready _ _ _ _ _ _ _ _ _ _ _ (rw (rows .ensures) at (open-node .ensures)) (if1 .left)
+            (start .pre .1 .0)),
+        c .with-rows .ensures .1 .1 ∙ start .pre .1 .1 .0,
+      ),
+    )
 
 -- src/lib.rt:118:1
 search-same-length-2 : (t : ℕ) → search-lts.Need-same-length-2 (
@@ -527,7 +691,13 @@ search-returns-2 : (t : ℕ) → search-lts.Need-returns-2 (
   branch-search-below t,
   branch-search.Post,
 ) (search-at t) search′.Post
-search-returns-2 t c = branch-done _ _ _ _ _ _ _ _ _ _ _ (rw (c .before .before .before .before .before .before .before .before .before .rows .ensures) at (c .before .before .before .before .before .before .before .before .open-node .ensures)) (c .before .before .before .before .before .if1 .left) _ _ _ _ (rw (c .before .before .before .with-rows .ensures .0, c .before .before .before .with-rows .ensures .1 .0) at (c .before .before .branch-search .ensures))
+search-returns-2 t c =
+    let rows = c .before .before .before .before .before .before .before .before .before .rows in
+    let open-node = c .before .before .before .before .before .before .before .before .open-node in
+    let if1 = c .before .before .before .before .before .if1 in
+    let with-rows = c .before .before .before .with-rows in
+    branch-done _ _ _ _ _ _ _ _ _ _ _ (rw (rows .ensures) at (open-node .ensures)) (if1 .left) _ _ _ _
+    (rw (with-rows .ensures .0, with-rows .ensures .1 .0) at (c .before .before .branch-search .ensures))
 
 pub +branch-search+search-spec : {M : Type 1} → statement M
 +branch-search+search-spec = close μ-branch-search μ-search (λ t. branch-search-lts.spec (

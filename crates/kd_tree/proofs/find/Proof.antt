@@ -25,7 +25,9 @@ first-requires c κs = rw (c .num .ensures .0 ∙ nodes-is (words (c .before .be
 
 -- src/lib.rt:188:9
 search-root-requires : tie.Need-search-root-requires
-search-root-requires c κs = (rw (c .first .ensures .0 ∙ (c .before .num .ensures .0 ∙ nodes-is (words (c .before .before .before .before .before .before .args .q .now))), c .first .ensures .1 .0) (root-ready _ _ _ (c .before .before .before .before .before .before .pre)), c .first .ensures .1 .1)
+search-root-requires c κs =
+    let start = c .before .before .before .before .before .before in
+    (rw (c .first .ensures .0 ∙ (c .before .num .ensures .0 ∙ nodes-is (words (start .args .q .now))), c .first .ensures .1 .0) (root-ready _ _ _ (start .pre)), c .first .ensures .1 .1)
 
 -- src/lib.rt:189:38
 rows-requires : tie.Need-rows-requires
@@ -33,11 +35,26 @@ rows-requires c κs = search needs
 
 -- src/lib.rt:189:38
 cast-put : tie.Need-cast-put
-cast-put c = omega (arith, root-numbers _ _ _ _ _ _ _ (rw (c .before .before .before .before .before .first .ensures .0 ∙ (c .before .before .before .before .before .before .num .ensures .0 ∙ nodes-is (words (c .before .before .before .before .before .before .before .before .before .before .before .args .q .now))), c .before .before .before .before .before .first .ensures .1 .0) at (c .before .before .before .before .search-root .ensures)) (c .before .before .before .before .before .before .before .before .before .before .before .pre) .rows-to, c .rows .ensures)
+cast-put c =
+    let start = c .before .before .before .before .before .before .before .before .before .before .before in
+    let num = c .before .before .before .before .before .before .num in
+    let first = c .before .before .before .before .before .first in
+    let search-root = c .before .before .before .before .search-root in
+    omega (
+      arith,
+      root-numbers _ _ _ _ _ _ _ (rw (first .ensures .0 ∙ (num .ensures .0 ∙ nodes-is (words (start .args .q .now))), first .ensures .1 .0) at
+          (search-root .ensures)) (start .pre) .rows-to,
+      c .rows .ensures,
+    )
 
 -- src/lib.rt:189:5
 put-requires : tie.Need-put-requires
-put-requires c κs = omega (arith, root-numbers _ _ _ _ _ _ _ (rw (c .before .before .before .before .before .first .ensures .0 ∙ (c .before .before .before .before .before .before .num .ensures .0 ∙ nodes-is (words (c .before .before .before .before .before .before .before .before .before .before .before .args .q .now))), c .before .before .before .before .before .first .ensures .1 .0) at (c .before .before .before .before .search-root .ensures)) (c .before .before .before .before .before .before .before .before .before .before .before .pre) .room)
+put-requires c κs =
+    let start = c .before .before .before .before .before .before .before .before .before .before .before in
+    let num = c .before .before .before .before .before .before .num in
+    let first = c .before .before .before .before .before .first in
+    let search-root = c .before .before .before .before .search-root in
+    omega (arith, root-numbers _ _ _ _ _ _ _ (rw (first .ensures .0 ∙ (num .ensures .0 ∙ nodes-is (words (start .args .q .now))), first .ensures .1 .0) at (search-root .ensures)) (start .pre) .room)
 
 -- src/lib.rt:190:5
 best-requires : tie.Need-best-requires
@@ -49,7 +66,15 @@ same-length c = search needs
 
 -- src/lib.rt:184:1
 returns : tie.Need-returns
-returns c = root-answered _ _ _ _ _ _ _ (rw (c .before .before .before .before .before .before .before .before .before .first .ensures .0 ∙ (c .before .before .before .before .before .before .before .before .before .before .num .ensures .0 ∙ nodes-is (words (c .before .before .before .before .before .before .before .before .before .before .before .before .before .before .before .args .q .now))), c .before .before .before .before .before .before .before .before .before .first .ensures .1 .0) at (c .before .before .before .before .before .before .before .before .search-root .ensures)) _ (rw (c .before .before .before .before .rows .ensures) at (c .before .before .before .put .ensures)) (λ j. (c .before .slice-known3 .given) j .fits) _ (c .best .ensures)
+returns c =
+    let start = c .before .before .before .before .before .before .before .before .before .before .before .before .before .before .before in
+    let num = c .before .before .before .before .before .before .before .before .before .before .num in
+    let first = c .before .before .before .before .before .before .before .before .before .first in
+    let search-root = c .before .before .before .before .before .before .before .before .search-root in
+    let rows = c .before .before .before .before .rows in
+    let put = c .before .before .before .put in
+    root-answered _ _ _ _ _ _ _ (rw (first .ensures .0 ∙ (num .ensures .0 ∙ nodes-is (words (start .args .q .now))), first .ensures .1 .0) at (search-root .ensures)) _
+    (rw (rows .ensures) at (put .ensures)) (λ j. (c .before .slice-known3 .given) j .fits) _ (c .best .ensures)
 
 pub find-spec : {M : Type 1} → statement M
 find-spec =

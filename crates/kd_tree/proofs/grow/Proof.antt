@@ -57,7 +57,11 @@ add-put c = search needs
 
 -- src/lib.rt:41:31
 cast-put : tie.Need-cast-put
-cast-put c = omega (arith, (rw (c .before .before .before .before .before .before .node-at .ensures) at (c .before .before .before .before .get .ensures)), c .before .before .before .before .before .before .before .before .before .pre .1 .1)
+cast-put c =
+    let start = c .before .before .before .before .before .before .before .before .before in
+    let node-at = c .before .before .before .before .before .before .node-at in
+    let get = c .before .before .before .before .get in
+    omega (arith, (rw (node-at .ensures) at (get .ensures)), start .pre .1 .1)
 
 -- src/lib.rt:41:5
 put-requires : tie.Need-put-requires
@@ -77,7 +81,13 @@ same-length c = search needs
 
 -- src/lib.rt:32:1
 returns : tie.Need-returns
-returns c = grew _ _ _ _ _ _ _ _ _ (c .before .before .before .before .before .before .before .before .before .node-at .ensures) (c .before .before .before .before .before .num .ensures .0 ∙ c .before .before .before .before .before .before .before .before .before .before .before .before .pre .0 .node-width) (c .before .before .before .before .before .before .before .get .ensures) (c .before .before .before .before .get2 .ensures) (c .before .before .put .ensures)
+returns c =
+    let start = c .before .before .before .before .before .before .before .before .before .before .before .before in
+    let node-at = c .before .before .before .before .before .before .before .before .before .node-at in
+    let get = c .before .before .before .before .before .before .before .get in
+    let num = c .before .before .before .before .before .num in
+    let get2 = c .before .before .before .before .get2 in
+    grew _ _ _ _ _ _ _ _ _ (node-at .ensures) (num .ensures .0 ∙ start .pre .0 .node-width) (get .ensures) (get2 .ensures) (c .before .before .put .ensures)
 
 pub grow-spec : {M : Type 1} → statement M
 grow-spec =

@@ -34,11 +34,17 @@ enum-told-2 c = search needs
 
 -- src/lib.rt:49:1
 returns : tie.Need-returns
-returns c = sym (rw (c .before .before .before .before .get .ensures, c .before .before .before .get2 .ensures) at (not-within _ _ (sym (c .enum-told .given .1) ∙ c .before .before .divides .ensures)))
+returns c =
+    let get = c .before .before .before .before .get in
+    let get2 = c .before .before .before .get2 in
+    sym (rw (get .ensures, get2 .ensures) at (not-within _ _ (sym (c .enum-told .given .1) ∙ c .before .before .divides .ensures)))
 
 -- src/lib.rt:49:1
 returns-2 : tie.Need-returns-2
-returns-2 c = sym (rw (c .before .before .before .before .get .ensures, c .before .before .before .get2 .ensures) at (is-within _ _ (sym (c .enum-told2 .given .1) ∙ c .before .before .divides .ensures)))
+returns-2 c =
+    let get = c .before .before .before .before .get in
+    let get2 = c .before .before .before .get2 in
+    sym (rw (get .ensures, get2 .ensures) at (is-within _ _ (sym (c .enum-told2 .given .1) ∙ c .before .before .divides .ensures)))
 
 pub may-spec : {M : Type 1} → statement M
 may-spec =

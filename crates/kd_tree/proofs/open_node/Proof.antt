@@ -42,7 +42,11 @@ same-length-2 c = search needs
 
 -- src/lib.rt:101:9
 returns-2 : tie.Need-returns-2
-returns-2 c = node-short _ _ _ _ _ (sym (rw (c .before .before .before .before .before .before .node-at .ensures) at (c .before .before .before .before .get .ensures)) ∙ c .before .before .before .if1 .left) _ (omega (arith, (rw (c .before .before .before .before .before .before .node-at .ensures) at (c .before .get2 .ensures)), c .if2 .taken))
+returns-2 c =
+    let node-at = c .before .before .before .before .before .before .node-at in
+    let get = c .before .before .before .before .get in
+    let if1 = c .before .before .before .if1 in
+    node-short _ _ _ _ _ (sym (rw (node-at .ensures) at (get .ensures)) ∙ if1 .left) _ (omega (arith, (rw (node-at .ensures) at (c .before .get2 .ensures)), c .if2 .taken))
 
 -- src/lib.rt:103:33
 shape-requires : tie.Need-shape-requires
@@ -50,7 +54,9 @@ shape-requires c κs = omega (arith, query-long _ _ (c .before .before .before .
 
 -- src/lib.rt:103:5
 split-node-requires : tie.Need-split-node-requires
-split-node-requires c κs = (rw (c .shape .ensures) (c .before .before .before .before .before .before .before .before .before .before .before .pre .1 .0), c .before .before .before .before .before .before .before .before .before .before .before .pre .1 .1)
+split-node-requires c κs =
+    let start = c .before .before .before .before .before .before .before .before .before .before .before in
+    (rw (c .shape .ensures) (start .pre .1 .0), start .pre .1 .1)
 
 -- src/lib.rt:90:1
 same-length-3 : tie.Need-same-length-3

@@ -30,11 +30,18 @@ cast-tag c = search needs
 
 -- src/lib.rt:66:9
 may-requires : tie.Need-may-requires
-may-requires c κs = (omega (arith, branch-numbers _ _ _ _ _ _ _ _ (c .before .before .before .before .before .pre) .room, c .before .node-at .ensures), omega (arith, query-long _ _ (c .before .before .before .before .before .pre .asks .laid)))
+may-requires c κs =
+    let start = c .before .before .before .before .before in
+    (omega (arith, branch-numbers _ _ _ _ _ _ _ _ (start .pre) .room, c .before .node-at .ensures), omega (arith, query-long _ _ (start .pre .asks .laid)))
 
 -- src/lib.rt:67:9
 returns : tie.Need-returns
-returns c = path-stop _ _ _ _ _ _ _ _ (rw (c .before .before .before .node-at .ensures) at (c .before .before .get .ensures)) (words-small (c .before .before .before .before .before .before .before .args .image .now) (λ j. (c .before .before .before .before .before .before .shared-slice-known .given) j .fits)) _ (not-true _ (c .if1 .taken)) (rw (c .before .before .before .node-at .ensures) at (c .before .may .ensures))
+returns c =
+    let start = c .before .before .before .before .before .before .before in
+    let shared-slice-known = c .before .before .before .before .before .before .shared-slice-known in
+    let node-at = c .before .before .before .node-at in
+    path-stop _ _ _ _ _ _ _ _ (rw (node-at .ensures) at (c .before .before .get .ensures))
+    (words-small (start .args .image .now) (λ j. (shared-slice-known .given) j .fits)) _ (not-true _ (c .if1 .taken)) (rw (node-at .ensures) at (c .before .may .ensures))
 
 -- src/lib.rt:73:33
 add-get : tie.Need-add-get
@@ -54,7 +61,17 @@ cast-label c = search needs
 
 -- src/lib.rt:75:13
 label-requires : tie.Need-label-requires
-label-requires c κs = (c .before .before .before .before .before .before .before .before .before .before .pre .asks .laid, (branch-numbers _ _ _ _ _ _ _ _ (c .before .before .before .before .before .before .before .before .before .before .pre) .ready, (branch-numbers _ _ _ _ _ _ _ _ (c .before .before .before .before .before .before .before .before .before .before .pre) .entry (sym (rw (c .before .before .before .before .before .before .node-at .ensures) at (c .before .before .before .before .before .get .ensures)) ∙ (c .if2 .taken ∙ (c .before .num .ensures .0 ∙ kind-is _ _ (c .before .before .before .before .before .before .before .before .before .before .pre .asks .laid)))) .0, rw (c .before .before .get2 .ensures, c .before .before .before .before .before .before .node-at .ensures) (branch-numbers _ _ _ _ _ _ _ _ (c .before .before .before .before .before .before .before .before .before .before .pre) .entry (sym (rw (c .before .before .before .before .before .before .node-at .ensures) at (c .before .before .before .before .before .get .ensures)) ∙ (c .if2 .taken ∙ (c .before .num .ensures .0 ∙ kind-is _ _ (c .before .before .before .before .before .before .before .before .before .before .pre .asks .laid)))) .1))))
+label-requires c κs =
+    let start = c .before .before .before .before .before .before .before .before .before .before in
+    let node-at = c .before .before .before .before .before .before .node-at in
+    let get = c .before .before .before .before .before .get in
+    let p = sym (rw (node-at .ensures) at (get .ensures)) ∙ (c .if2 .taken ∙ (c .before .num .ensures .0 ∙ kind-is _ _ (start .pre .asks .laid))) in (
+      start .pre .asks .laid,
+      (
+        branch-numbers _ _ _ _ _ _ _ _ (start .pre) .ready,
+        (branch-numbers _ _ _ _ _ _ _ _ (start .pre) .entry p .0, rw (c .before .before .get2 .ensures, node-at .ensures) (branch-numbers _ _ _ _ _ _ _ _ (start .pre) .entry p .1)),
+      ),
+    )
 
 -- src/lib.rt:77:19
 get-requires-3 : tie.Need-get-requires-3
@@ -66,15 +83,42 @@ get-requires-4 c κs = omega (arith, query-long _ _ (c .before .before .before .
 
 -- src/lib.rt:76:9
 returns-2 : tie.Need-returns-2
-returns-2 c = rw (c .before .get3 .ensures, c .get4 .ensures) (path-label _ _ _ _ _ _ _ _ (rw (c .before .before .before .before .before .before .before .before .before .node-at .ensures) at (c .before .before .before .before .before .before .before .before .get .ensures)) (words-small (c .before .before .before .before .before .before .before .before .before .before .before .before .before .args .image .now) (λ j. (c .before .before .before .before .before .before .before .before .before .before .before .before .shared-slice-known .given) j .fits)) _ (not-false _ (c .before .before .before .before .before .before .if1 .left)) (rw (c .before .before .before .before .before .before .before .before .before .node-at .ensures) at (c .before .before .before .before .before .before .before .may .ensures)) (c .before .before .before .if2 .taken ∙ (c .before .before .before .before .num .ensures .0 ∙ kind-is _ _ (c .before .before .before .before .before .before .before .before .before .before .before .before .before .pre .asks .laid))) _ (c .before .before .label .ensures .0 ∙ rw (c .before .before .before .before .before .get2 .ensures, c .before .before .before .before .before .before .before .before .before .node-at .ensures) refl))
+returns-2 c =
+    let start = c .before .before .before .before .before .before .before .before .before .before .before .before .before in
+    let shared-slice-known = c .before .before .before .before .before .before .before .before .before .before .before .before .shared-slice-known in
+    let node-at = c .before .before .before .before .before .before .before .before .before .node-at in
+    let get = c .before .before .before .before .before .before .before .before .get in
+    let may = c .before .before .before .before .before .before .before .may in
+    let if1 = c .before .before .before .before .before .before .if1 in
+    let get2 = c .before .before .before .before .before .get2 in
+    let num = c .before .before .before .before .num in
+    let if2 = c .before .before .before .if2 in
+    rw (c .before .get3 .ensures, c .get4 .ensures) (path-label _ _ _ _ _ _ _ _ (rw (node-at .ensures) at (get .ensures))
+    (words-small (start .args .image .now) (λ j. (shared-slice-known .given) j .fits)) _ (not-false _ (if1 .left)) (rw (node-at .ensures) at (may .ensures))
+    (if2 .taken ∙ (num .ensures .0 ∙ kind-is _ _ (start .pre .asks .laid))) _ (c .before .before .label .ensures .0 ∙ rw (get2 .ensures, node-at .ensures) refl))
 
 -- src/lib.rt:84:23
 get-requires-5 : tie.Need-get-requires-5
-get-requires-5 c κs = omega (arith, query-long _ _ (c .before .before .before .before .before .before .before .before .before .before .pre .asks .laid), branch-numbers _ _ _ _ _ _ _ _ (c .before .before .before .before .before .before .before .before .before .before .pre) .small, (rw (c .before .before .before .before .before .before .node-at .ensures) at (c .before .before .before .before .before .get .ensures)))
+get-requires-5 c κs =
+    let start = c .before .before .before .before .before .before .before .before .before .before in
+    let node-at = c .before .before .before .before .before .before .node-at in
+    let get = c .before .before .before .before .before .get in
+    omega (arith, query-long _ _ (start .pre .asks .laid), branch-numbers _ _ _ _ _ _ _ _ (start .pre) .small, (rw (node-at .ensures) at (get .ensures)))
 
 -- src/lib.rt:60:1
 returns-3 : tie.Need-returns-3
-returns-3 c = path-limit _ _ _ _ _ _ _ _ (rw (c .before .before .before .before .before .before .before .node-at .ensures) at (c .before .before .before .before .before .before .get .ensures)) (words-small (c .before .before .before .before .before .before .before .before .before .before .before .args .image .now) (λ j. (c .before .before .before .before .before .before .before .before .before .before .shared-slice-known .given) j .fits)) _ (not-false _ (c .before .before .before .before .if1 .left)) (rw (c .before .before .before .before .before .before .before .node-at .ensures) at (c .before .before .before .before .before .may .ensures)) (λ z. (c .before .if2 .left) (z ∙ sym (c .before .before .num .ensures .0 ∙ kind-is _ _ (c .before .before .before .before .before .before .before .before .before .before .before .pre .asks .laid)))) _ (rw (c .before .before .before .get2 .ensures, c .before .before .before .before .before .before .before .node-at .ensures, c .get5 .ensures) refl)
+returns-3 c =
+    let start = c .before .before .before .before .before .before .before .before .before .before .before in
+    let shared-slice-known = c .before .before .before .before .before .before .before .before .before .before .shared-slice-known in
+    let node-at = c .before .before .before .before .before .before .before .node-at in
+    let get = c .before .before .before .before .before .before .get in
+    let may = c .before .before .before .before .before .may in
+    let if1 = c .before .before .before .before .if1 in
+    let get2 = c .before .before .before .get2 in
+    path-limit _ _ _ _ _ _ _ _ (rw (node-at .ensures) at (get .ensures)) (words-small (start .args .image .now) (λ j. (shared-slice-known .given) j .fits)) _
+    (not-false _ (if1 .left)) (rw (node-at .ensures) at (may .ensures))
+    (λ z. (c .before .if2 .left) (z ∙ sym (c .before .before .num .ensures .0 ∙ kind-is _ _ (start .pre .asks .laid)))) _
+    (rw (get2 .ensures, node-at .ensures, c .get5 .ensures) refl)
 
 pub path-at-spec : {M : Type 1} → statement M
 path-at-spec =

@@ -28,7 +28,9 @@ cast-c c = search needs
 
 -- src/lib.rt:113:5
 search-requires : tie.Need-search-requires
-search-requires c κs = (leaf-ready _ _ _ _ _ _ _ _ _ (rw (c .before .node-at .ensures) at (c .get .ensures)) (c .before .before .before .before .before .pre .0), c .before .before .before .before .before .pre .1)
+search-requires c κs =
+    let start = c .before .before .before .before .before in
+    (leaf-ready _ _ _ _ _ _ _ _ _ (rw (c .before .node-at .ensures) at (c .get .ensures)) (start .pre .0), start .pre .1)
 
 -- src/lib.rt:107:1
 returns : tie.Need-returns

@@ -28,7 +28,12 @@ split-node-requires c κs = (rw (c .before .shape .ensures, c .rows .ensures) (s
 
 -- src/lib.rt:178:9
 scan-requires : tie.Need-scan-requires
-scan-requires c κs = (scan-ready _ _ _ _ _ _ _ _ _ _ _ (rw (c .before .before .before .before .before .before .shape .ensures, c .before .before .before .before .before .rows .ensures) at (c .before .before .before .before .split-node .ensures)) (c .before .if1 .taken) (c .before .before .before .before .before .before .before .before .before .before .before .pre .0), c .before .before .before .before .before .before .before .before .before .before .before .pre .1)
+scan-requires c κs =
+    let start = c .before .before .before .before .before .before .before .before .before .before .before in
+    let shape = c .before .before .before .before .before .before .shape in
+    let rows = c .before .before .before .before .before .rows in
+    let split-node = c .before .before .before .before .split-node in
+    (scan-ready _ _ _ _ _ _ _ _ _ _ _ (rw (shape .ensures, rows .ensures) at (split-node .ensures)) (c .before .if1 .taken) (start .pre .0), start .pre .1)
 
 -- src/lib.rt:178:9
 same-length : tie.Need-same-length
@@ -36,15 +41,32 @@ same-length c = c .before .before .before .before .before .split-node .kept .0
 
 -- src/lib.rt:178:9
 returns : tie.Need-returns
-returns c = rw (c .scan .ensures .1) (scan-done _ _ _ _ _ _ _ _ _ _ _ (rw (c .before .before .before .before .before .before .before .shape .ensures, c .before .before .before .before .before .before .rows .ensures) at (c .before .before .before .before .before .split-node .ensures)) (c .before .before .if1 .taken) _ _ (c .scan .ensures .0))
+returns c =
+    let shape = c .before .before .before .before .before .before .before .shape in
+    let rows = c .before .before .before .before .before .before .rows in
+    let split-node = c .before .before .before .before .before .split-node in
+    rw (c .scan .ensures .1) (scan-done _ _ _ _ _ _ _ _ _ _ _ (rw (shape .ensures, rows .ensures) at (split-node .ensures)) (c .before .before .if1 .taken) _ _ (c .scan .ensures .0))
 
 -- src/lib.rt:180:34
 with-rows-requires : tie.Need-with-rows-requires
-with-rows-requires c κs = few-rows _ _ _ _ _ _ _ _ (branch-ready _ _ _ _ _ _ _ _ _ _ _ (rw (c .before .before .before .before .before .before .shape .ensures, c .before .before .before .before .before .rows .ensures) at (c .before .before .before .before .split-node .ensures)) (c .before .if1 .left) (c .before .before .before .before .before .before .before .before .before .before .before .pre .0))
+with-rows-requires c κs =
+    let start = c .before .before .before .before .before .before .before .before .before .before .before in
+    let shape = c .before .before .before .before .before .before .shape in
+    let rows = c .before .before .before .before .before .rows in
+    let split-node = c .before .before .before .before .split-node in
+    few-rows _ _ _ _ _ _ _ _ (branch-ready _ _ _ _ _ _ _ _ _ _ _ (rw (shape .ensures, rows .ensures) at (split-node .ensures)) (c .before .if1 .left) (start .pre .0))
 
 -- src/lib.rt:180:5
 search-requires : tie.Need-search-requires
-search-requires c κs = (rw (c .with-rows .ensures .0, c .with-rows .ensures .1 .0) (as-node _ _ _ _ _ _ _ _ (branch-ready _ _ _ _ _ _ _ _ _ _ _ (rw (c .before .before .before .before .before .before .before .shape .ensures, c .before .before .before .before .before .before .rows .ensures) at (c .before .before .before .before .before .split-node .ensures)) (c .before .before .if1 .left) (c .before .before .before .before .before .before .before .before .before .before .before .before .pre .0))), (c .with-rows .ensures .1 .1 ∙ c .before .before .before .before .before .before .before .before .before .before .before .before .pre .1, omega arith))
+search-requires c κs =
+    let start = c .before .before .before .before .before .before .before .before .before .before .before .before in
+    let shape = c .before .before .before .before .before .before .before .shape in
+    let rows = c .before .before .before .before .before .before .rows in
+    let split-node = c .before .before .before .before .before .split-node in (
+      rw (c .with-rows .ensures .0, c .with-rows .ensures .1 .0) (as-node _ _ _ _ _ _ _ _
+          (branch-ready _ _ _ _ _ _ _ _ _ _ _ (rw (shape .ensures, rows .ensures) at (split-node .ensures)) (c .before .before .if1 .left) (start .pre .0))),
+      (c .with-rows .ensures .1 .1 ∙ start .pre .1, omega arith),
+    )
 
 -- src/lib.rt:171:1
 same-length-2 : tie.Need-same-length-2
@@ -52,7 +74,14 @@ same-length-2 c = c .before .before .search .kept .0 ∙ c .before .before .befo
 
 -- src/lib.rt:171:1
 returns-2 : tie.Need-returns-2
-returns-2 c = branch-done _ _ _ _ _ _ _ _ _ _ _ (rw (c .before .before .before .before .before .before .before .before .before .before .shape .ensures, c .before .before .before .before .before .before .before .before .before .rows .ensures) at (c .before .before .before .before .before .before .before .before .split-node .ensures)) (c .before .before .before .before .before .if1 .left) _ _ _ _ (as-branch _ _ _ _ _ _ _ _ _ _ _ _ _ (rw (c .before .before .before .with-rows .ensures .0, c .before .before .before .with-rows .ensures .1 .0) at (c .before .before .search .ensures)))
+returns-2 c =
+    let shape = c .before .before .before .before .before .before .before .before .before .before .shape in
+    let rows = c .before .before .before .before .before .before .before .before .before .rows in
+    let split-node = c .before .before .before .before .before .before .before .before .split-node in
+    let if1 = c .before .before .before .before .before .if1 in
+    let with-rows = c .before .before .before .with-rows in
+    branch-done _ _ _ _ _ _ _ _ _ _ _ (rw (shape .ensures, rows .ensures) at (split-node .ensures)) (if1 .left) _ _ _ _
+    (as-branch _ _ _ _ _ _ _ _ _ _ _ _ _ (rw (with-rows .ensures .0, with-rows .ensures .1 .0) at (c .before .before .search .ensures)))
 
 pub search-root-spec : {M : Type 1} → statement M
 search-root-spec =

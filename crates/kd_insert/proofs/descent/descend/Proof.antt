@@ -15,50 +15,167 @@ use Rattle.kd_insert.proofs.descent.grow.Reads as grow-reads
 use Rattle.kd_insert.proofs.descent.next_step.Reads as next-step-reads
 
 abbrev Inv-loop : tie.InvT-loop
-Inv-loop image₀ s lm label k₀ lo₀ image k lo = (R : at.InRange s) (room : 4 * at.size s ≤ length image₀) (g : Growth (words image₀) s (words lm) label 0) → Going image₀ s R room (words lm) label g image k lo
+Inv-loop image₀ s lm label k₀ lo₀ image k lo = (R : at.InRange s) (room : 4 * at.size s ≤ length image₀) (g : Growth (words image₀) s (words lm) label 0)
+    → Going image₀ s R room (words lm) label g image k lo
 
 abbrev μ-loop : tie.MeasureT-loop
 μ-loop image₀ s lm label k₀ lo₀ image k lo = s .nodes - k
 
 -- src/descent.rt:150:5
 loop-holds : tie.Need-loop-holds Inv-loop μ-loop
-loop-holds c = λ R room g. going-start (c .before .before .args .image .now) (c .before .before .args .s) R room (words (c .before .before .args .lm .now)) (c .before .before .args .label) g (λ j. (c .before .slice-known .given) j .fits)
+loop-holds c =
+    let start = c .before .before in
+    λ R room g. going-start (start .args .image .now) (start .args .s) R room (words (start .args .lm .now)) (start .args .label) g (λ j. (c .before .slice-known .given) j .fits)
 
 -- src/descent.rt:151:13
 next-step-requires : tie.Need-next-step-requires Inv-loop μ-loop
-next-step-requires c κs = (c .before .before .before .before .pre .0, (ready (c .before .before .before .before .args .image .now) (c .before .before .before .before .args .s) (c .before .before .before .before .pre .0) (c .before .before .before .before .pre .1 .0) (words (c .before .before .before .before .args .lm .now)) (c .before .before .before .before .args .label) (c .before .before .before .before .pre .1 .1 .1 .1 .1) (c .before .loop .image) (c .before .loop .k) (c .before .loop .lo) (((c .before .loop .inv) (c .before .before .before .before .pre .0) (c .before .before .before .before .pre .1 .0)) (c .before .before .before .before .pre .1 .1 .1 .1 .1)) .room-is, (c .before .before .before .before .pre .1 .1 .1 .0, growth-here (c .before .before .before .before .args .image .now) (c .before .before .before .before .args .s) (c .before .before .before .before .pre .0) (c .before .before .before .before .pre .1 .0) (words (c .before .before .before .before .args .lm .now)) (c .before .before .before .before .args .label) (c .before .before .before .before .pre .1 .1 .1 .1 .1) (c .before .loop .image) (c .before .loop .k) (c .before .loop .lo) (((c .before .loop .inv) (c .before .before .before .before .pre .0) (c .before .before .before .before .pre .1 .0)) (c .before .before .before .before .pre .1 .1 .1 .1 .1)))))
+next-step-requires c κs =
+    let start = c .before .before .before .before in
+    let p = ((c .before .loop .inv) (start .pre .0) (start .pre .1 .0)) (start .pre .1 .1 .1 .1 .1) in (
+      start .pre .0,
+      (
+        ready (start .args .image .now) (start .args .s) (start .pre .0) (start .pre .1 .0) (words (start .args .lm .now)) (start .args .label)
+            (start .pre .1 .1 .1 .1 .1) (c .before .loop .image) (c .before .loop .k) (c .before .loop .lo) p .room-is,
+        (
+          start .pre .1 .1 .1 .0,
+          growth-here (start .args .image .now) (start .args .s) (start .pre .0) (start .pre .1 .0) (words (start .args .lm .now))
+              (start .args .label) (start .pre .1 .1 .1 .1 .1) (c .before .loop .image) (c .before .loop .k) (c .before .loop .lo) p,
+        ),
+      ),
+    )
 
 -- src/descent.rt:152:24
 node-at-requires : tie.Need-node-at-requires Inv-loop μ-loop
-node-at-requires c κs = (c .before .before .before .before .before .before .pre .0, omega (arith, ready (c .before .before .before .before .before .before .args .image .now) (c .before .before .before .before .before .before .args .s) (c .before .before .before .before .before .before .pre .0) (c .before .before .before .before .before .before .pre .1 .0) (words (c .before .before .before .before .before .before .args .lm .now)) (c .before .before .before .before .before .before .args .label) (c .before .before .before .before .before .before .pre .1 .1 .1 .1 .1) (c .before .before .before .loop .image) (c .before .before .before .loop .k) (c .before .before .before .loop .lo) (((c .before .before .before .loop .inv) (c .before .before .before .before .before .before .pre .0) (c .before .before .before .before .before .before .pre .1 .0)) (c .before .before .before .before .before .before .pre .1 .1 .1 .1 .1)) .row, c .before .before .before .before .before .before .pre .0 .nodes-to, c .before .before .before .before .before .before .pre .0 .cap-to))
+node-at-requires c κs =
+    let start = c .before .before .before .before .before .before in
+    let loop = c .before .before .before .loop in (
+      start .pre .0,
+      omega (
+        arith,
+        ready (start .args .image .now) (start .args .s) (start .pre .0) (start .pre .1 .0) (words (start .args .lm .now)) (start .args .label)
+            (start .pre .1 .1 .1 .1 .1) (loop .image) (loop .k) (loop .lo) (((loop .inv) (start .pre .0) (start .pre .1 .0)) (start .pre .1 .1 .1 .1 .1)) .row,
+        start .pre .0 .nodes-to,
+        start .pre .0 .cap-to,
+      ),
+    )
 
 -- src/descent.rt:152:9
 grow-requires : tie.Need-grow-requires Inv-loop μ-loop
-grow-requires c κs = rw (c .node-at .ensures) (c .before .before .before .before .before .before .before .pre .0, (ready (c .before .before .before .before .before .before .before .args .image .now) (c .before .before .before .before .before .before .before .args .s) (c .before .before .before .before .before .before .before .pre .0) (c .before .before .before .before .before .before .before .pre .1 .0) (words (c .before .before .before .before .before .before .before .args .lm .now)) (c .before .before .before .before .before .before .before .args .label) (c .before .before .before .before .before .before .before .pre .1 .1 .1 .1 .1) (c .before .before .before .before .loop .image) (c .before .before .before .before .loop .k) (c .before .before .before .before .loop .lo) ((c .before .before .before .before .loop .inv) (c .before .before .before .before .before .before .before .pre .0) (c .before .before .before .before .before .before .before .pre .1 .0) (c .before .before .before .before .before .before .before .pre .1 .1 .1 .1 .1)) .room-is, (rw (ready (c .before .before .before .before .before .before .before .args .image .now) (c .before .before .before .before .before .before .before .args .s) (c .before .before .before .before .before .before .before .pre .0) (c .before .before .before .before .before .before .before .pre .1 .0) (words (c .before .before .before .before .before .before .before .args .lm .now)) (c .before .before .before .before .before .before .before .args .label) (c .before .before .before .before .before .before .before .pre .1 .1 .1 .1 .1) (c .before .before .before .before .loop .image) (c .before .before .before .before .loop .k) (c .before .before .before .before .loop .lo) ((c .before .before .before .before .loop .inv) (c .before .before .before .before .before .before .before .pre .0) (c .before .before .before .before .before .before .before .pre .1 .0) (c .before .before .before .before .before .before .before .pre .1 .1 .1 .1 .1)) .maxima) (c .before .before .before .before .before .before .before .pre .1 .1 .0), (c .before .before .before .before .before .before .before .pre .1 .1 .1 .0, (c .before .before .before .before .before .before .before .pre .1 .1 .1 .1 .0, (ready (c .before .before .before .before .before .before .before .args .image .now) (c .before .before .before .before .before .before .before .args .s) (c .before .before .before .before .before .before .before .pre .0) (c .before .before .before .before .before .before .before .pre .1 .0) (words (c .before .before .before .before .before .before .before .args .lm .now)) (c .before .before .before .before .before .before .before .args .label) (c .before .before .before .before .before .before .before .pre .1 .1 .1 .1 .1) (c .before .before .before .before .loop .image) (c .before .before .before .before .loop .k) (c .before .before .before .before .loop .lo) ((c .before .before .before .before .loop .inv) (c .before .before .before .before .before .before .before .pre .0) (c .before .before .before .before .before .before .before .pre .1 .0) (c .before .before .before .before .before .before .before .pre .1 .1 .1 .1 .1)) .fits, (ready (c .before .before .before .before .before .before .before .args .image .now) (c .before .before .before .before .before .before .before .args .s) (c .before .before .before .before .before .before .before .pre .0) (c .before .before .before .before .before .before .before .pre .1 .0) (words (c .before .before .before .before .before .before .before .args .lm .now)) (c .before .before .before .before .before .before .before .args .label) (c .before .before .before .before .before .before .before .pre .1 .1 .1 .1 .1) (c .before .before .before .before .loop .image) (c .before .before .before .before .loop .k) (c .before .before .before .before .loop .lo) ((c .before .before .before .before .loop .inv) (c .before .before .before .before .before .before .before .pre .0) (c .before .before .before .before .before .before .before .pre .1 .0) (c .before .before .before .before .before .before .before .pre .1 .1 .1 .1 .1)) .slot, (ready (c .before .before .before .before .before .before .before .args .image .now) (c .before .before .before .before .before .before .before .args .s) (c .before .before .before .before .before .before .before .pre .0) (c .before .before .before .before .before .before .before .pre .1 .0) (words (c .before .before .before .before .before .before .before .args .lm .now)) (c .before .before .before .before .before .before .before .args .label) (c .before .before .before .before .before .before .before .pre .1 .1 .1 .1 .1) (c .before .before .before .before .loop .image) (c .before .before .before .before .loop .k) (c .before .before .before .before .loop .lo) ((c .before .before .before .before .loop .inv) (c .before .before .before .before .before .before .before .pre .0) (c .before .before .before .before .before .before .before .pre .1 .0) (c .before .before .before .before .before .before .before .pre .1 .1 .1 .1 .1)) .counted, ready (c .before .before .before .before .before .before .before .args .image .now) (c .before .before .before .before .before .before .before .args .s) (c .before .before .before .before .before .before .before .pre .0) (c .before .before .before .before .before .before .before .pre .1 .0) (words (c .before .before .before .before .before .before .before .args .lm .now)) (c .before .before .before .before .before .before .before .args .label) (c .before .before .before .before .before .before .before .pre .1 .1 .1 .1 .1) (c .before .before .before .before .loop .image) (c .before .before .before .before .loop .k) (c .before .before .before .before .loop .lo) ((c .before .before .before .before .loop .inv) (c .before .before .before .before .before .before .before .pre .0) (c .before .before .before .before .before .before .before .pre .1 .0) (c .before .before .before .before .before .before .before .pre .1 .1 .1 .1 .1)) .holds))))))))
+grow-requires c κs =
+    let start = c .before .before .before .before .before .before .before in
+    let loop = c .before .before .before .before .loop in
+    let p = (loop .inv) (start .pre .0) (start .pre .1 .0) (start .pre .1 .1 .1 .1 .1) in
+    rw (c .node-at .ensures) (
+      start .pre .0,
+      (
+        ready (start .args .image .now) (start .args .s) (start .pre .0) (start .pre .1 .0) (words (start .args .lm .now))
+            (start .args .label) (start .pre .1 .1 .1 .1 .1) (loop .image) (loop .k) (loop .lo) p .room-is,
+        (
+          rw (ready (start .args .image .now) (start .args .s) (start .pre .0) (start .pre .1 .0) (words (start .args .lm .now)) (start .args .label)
+              (start .pre .1 .1 .1 .1 .1) (loop .image) (loop .k) (loop .lo) p .maxima) (start .pre .1 .1 .0),
+          (
+            start .pre .1 .1 .1 .0,
+            (
+              start .pre .1 .1 .1 .1 .0,
+              (
+                ready (start .args .image .now) (start .args .s) (start .pre .0) (start .pre .1 .0)
+                    (words (start .args .lm .now)) (start .args .label) (start .pre .1 .1 .1 .1 .1) (loop .image) (loop .k) (loop .lo) p .fits,
+                (
+                  ready (start .args .image .now) (start .args .s) (start .pre .0) (start .pre .1 .0) (words (start .args .lm .now)) (start .args .label)
+                      (start .pre .1 .1 .1 .1 .1) (loop .image) (loop .k) (loop .lo) p .slot,
+                  (
+                    ready (start .args .image .now) (start .args .s) (start .pre .0) (start .pre .1 .0) (words (start .args .lm .now)) (start .args .label)
+                        (start .pre .1 .1 .1 .1 .1) (loop .image) (loop .k) (loop .lo) p .counted,
+                    ready (start .args .image .now) (start .args .s) (start .pre .0) (start .pre .1 .0) (words (start .args .lm .now)) (start .args .label)
+                        (start .pre .1 .1 .1 .1 .1) (loop .image) (loop .k) (loop .lo) p .holds,
+                  ),
+                ),
+              ),
+            ),
+          ),
+        ),
+      ),
+    )
 
 -- src/descent.rt:153:9
 add-lo : tie.Need-add-lo Inv-loop μ-loop
-add-lo c = let z = bounds (c .before .before .before .before .before .before .before .before .before .before .before .args .image .now) (c .before .before .before .before .before .before .before .before .before .before .before .args .s) (c .before .before .before .before .before .before .before .before .before .before .before .pre .0) (c .before .before .before .before .before .before .before .before .before .before .before .pre .1 .0) (words (c .before .before .before .before .before .before .before .before .before .before .before .args .lm .now)) (c .before .before .before .before .before .before .before .before .before .before .before .args .label) (c .before .before .before .before .before .before .before .before .before .before .before .pre .1 .1 .1 .1 .1) (c .before .before .before .before .before .before .before .before .loop .image) (c .before .before .before .before .before .before .before .before .loop .k) (c .before .before .before .before .before .before .before .before .loop .lo) ((c .before .before .before .before .before .before .before .before .loop .inv) (c .before .before .before .before .before .before .before .before .before .before .before .pre .0) (c .before .before .before .before .before .before .before .before .before .before .before .pre .1 .0) (c .before .before .before .before .before .before .before .before .before .before .before .pre .1 .1 .1 .1 .1)) (c .before .before .before .before .before .before .next-step .result) ((c .before .before .before .before .before .before .next-step .ensures) (growth-here (c .before .before .before .before .before .before .before .before .before .before .before .args .image .now) (c .before .before .before .before .before .before .before .before .before .before .before .args .s) (c .before .before .before .before .before .before .before .before .before .before .before .pre .0) (c .before .before .before .before .before .before .before .before .before .before .before .pre .1 .0) (words (c .before .before .before .before .before .before .before .before .before .before .before .args .lm .now)) (c .before .before .before .before .before .before .before .before .before .before .before .args .label) (c .before .before .before .before .before .before .before .before .before .before .before .pre .1 .1 .1 .1 .1) (c .before .before .before .before .before .before .before .before .loop .image) (c .before .before .before .before .before .before .before .before .loop .k) (c .before .before .before .before .before .before .before .before .loop .lo) ((c .before .before .before .before .before .before .before .before .loop .inv) (c .before .before .before .before .before .before .before .before .before .before .before .pre .0) (c .before .before .before .before .before .before .before .before .before .before .before .pre .1 .0) (c .before .before .before .before .before .before .before .before .before .before .before .pre .1 .1 .1 .1 .1)))) in omega (arith, c .before .before .before .before .before .before .before .before .before .before .before .pre .0 .cap-to)
+add-lo c =
+    let start = c .before .before .before .before .before .before .before .before .before .before .before in
+    let loop = c .before .before .before .before .before .before .before .before .loop in
+    let next-step = c .before .before .before .before .before .before .next-step in
+    let p = (loop .inv) (start .pre .0) (start .pre .1 .0) (start .pre .1 .1 .1 .1 .1) in
+    let z = bounds (start .args .image .now) (start .args .s) (start .pre .0) (start .pre .1 .0) (words (start .args .lm .now)) (start .args .label)
+    (start .pre .1 .1 .1 .1 .1) (loop .image) (loop .k) (loop .lo) p (next-step .result)
+    ((next-step .ensures) (growth-here (start .args .image .now) (start .args .s) (start .pre .0) (start .pre .1 .0) (words (start .args .lm .now))
+    (start .args .label) (start .pre .1 .1 .1 .1 .1) (loop .image) (loop .k) (loop .lo) p)) in
+    omega (arith, start .pre .0 .cap-to)
 
 -- src/descent.rt:155:13
 same-length : tie.Need-same-length Inv-loop μ-loop
-same-length c = c .before .before .before .before .grow .kept .0 ∙ kept-length (c .before .before .before .before .before .before .before .before .before .before .before .before .args .image .now) (c .before .before .before .before .before .before .before .before .before .before .before .before .args .s) (c .before .before .before .before .before .before .before .before .before .before .before .before .pre .0) (c .before .before .before .before .before .before .before .before .before .before .before .before .pre .1 .0) (words (c .before .before .before .before .before .before .before .before .before .before .before .before .args .lm .now)) (c .before .before .before .before .before .before .before .before .before .before .before .before .args .label) (c .before .before .before .before .before .before .before .before .before .before .before .before .pre .1 .1 .1 .1 .1) (c .before .before .before .before .before .before .before .before .before .loop .image) (c .before .before .before .before .before .before .before .before .before .loop .k) (c .before .before .before .before .before .before .before .before .before .loop .lo) ((c .before .before .before .before .before .before .before .before .before .loop .inv) (c .before .before .before .before .before .before .before .before .before .before .before .before .pre .0) (c .before .before .before .before .before .before .before .before .before .before .before .before .pre .1 .0) (c .before .before .before .before .before .before .before .before .before .before .before .before .pre .1 .1 .1 .1 .1))
+same-length c =
+    let start = c .before .before .before .before .before .before .before .before .before .before .before .before in
+    let loop = c .before .before .before .before .before .before .before .before .before .loop in
+    let grow = c .before .before .before .before .grow in
+    grow .kept .0 ∙ kept-length (start .args .image .now) (start .args .s) (start .pre .0) (start .pre .1 .0) (words (start .args .lm .now)) (start .args .label)
+    (start .pre .1 .1 .1 .1 .1) (loop .image) (loop .k) (loop .lo) ((loop .inv) (start .pre .0) (start .pre .1 .0) (start .pre .1 .1 .1 .1 .1))
 
 -- src/descent.rt:155:13
 returns : tie.Need-returns Inv-loop μ-loop
-returns c = λ g. going-end (c .before .before .before .before .before .before .before .before .before .before .before .before .args .image .now) (c .before .before .before .before .before .before .before .before .before .before .before .before .args .s) (c .before .before .before .before .before .before .before .before .before .before .before .before .pre .0) (c .before .before .before .before .before .before .before .before .before .before .before .before .pre .1 .0) (words (c .before .before .before .before .before .before .before .before .before .before .before .before .args .lm .now)) (c .before .before .before .before .before .before .before .before .before .before .before .before .args .label) g (c .before .before .before .before .before .before .before .before .before .loop .image) (c .before .before .before .before .before .before .before .before .before .loop .k) (c .before .before .before .before .before .before .before .before .before .loop .lo) ((c .before .before .before .before .before .before .before .before .before .loop .inv) (c .before .before .before .before .before .before .before .before .before .before .before .before .pre .0) (c .before .before .before .before .before .before .before .before .before .before .before .before .pre .1 .0) g) (c .before .before .before .before .before .before .before .before .before .before .before .before .pre .1 .1 .1 .0) (c .before .before .before .before .grow .last .0) (rw (c .before .before .before .before .before .node-at .ensures) at (c .before .before .before .before .grow .ensures)) (c .before .before .before .before .before .before .before .next-step .result) ((c .before .before .before .before .before .before .before .next-step .ensures) (growth-here (c .before .before .before .before .before .before .before .before .before .before .before .before .args .image .now) (c .before .before .before .before .before .before .before .before .before .before .before .before .args .s) (c .before .before .before .before .before .before .before .before .before .before .before .before .pre .0) (c .before .before .before .before .before .before .before .before .before .before .before .before .pre .1 .0) (words (c .before .before .before .before .before .before .before .before .before .before .before .before .args .lm .now)) (c .before .before .before .before .before .before .before .before .before .before .before .before .args .label) g (c .before .before .before .before .before .before .before .before .before .loop .image) (c .before .before .before .before .before .before .before .before .before .loop .k) (c .before .before .before .before .before .before .before .before .before .loop .lo) ((c .before .before .before .before .before .before .before .before .before .loop .inv) (c .before .before .before .before .before .before .before .before .before .before .before .before .pre .0) (c .before .before .before .before .before .before .before .before .before .before .before .before .pre .1 .0) g))) (c .if1 .taken)
+returns c =
+    let start = c .before .before .before .before .before .before .before .before .before .before .before .before in
+    let loop = c .before .before .before .before .before .before .before .before .before .loop in
+    let next-step = c .before .before .before .before .before .before .before .next-step in
+    let node-at = c .before .before .before .before .before .node-at in
+    let grow = c .before .before .before .before .grow in
+    λ g. going-end (start .args .image .now) (start .args .s) (start .pre .0) (start .pre .1 .0) (words (start .args .lm .now)) (start .args .label) g (loop .image)
+    (loop .k) (loop .lo) ((loop .inv) (start .pre .0) (start .pre .1 .0) g) (start .pre .1 .1 .1 .0) (grow .last .0) (rw (node-at .ensures) at (grow .ensures))
+    (next-step .result) ((next-step .ensures) (growth-here (start .args .image .now) (start .args .s) (start .pre .0) (start .pre .1 .0)
+    (words (start .args .lm .now)) (start .args .label) g (loop .image) (loop .k) (loop .lo) ((loop .inv) (start .pre .0) (start .pre .1 .0) g))) (c .if1 .taken)
 
 -- src/descent.rt:157:9
 add-k : tie.Need-add-k Inv-loop μ-loop
-add-k c = let z = bounds (c .before .before .before .before .before .before .before .before .before .before .before .before .before .args .image .now) (c .before .before .before .before .before .before .before .before .before .before .before .before .before .args .s) (c .before .before .before .before .before .before .before .before .before .before .before .before .before .pre .0) (c .before .before .before .before .before .before .before .before .before .before .before .before .before .pre .1 .0) (words (c .before .before .before .before .before .before .before .before .before .before .before .before .before .args .lm .now)) (c .before .before .before .before .before .before .before .before .before .before .before .before .before .args .label) (c .before .before .before .before .before .before .before .before .before .before .before .before .before .pre .1 .1 .1 .1 .1) (c .before .before .before .before .before .before .before .before .before .before .loop .image) (c .before .before .before .before .before .before .before .before .before .before .loop .k) (c .before .before .before .before .before .before .before .before .before .before .loop .lo) ((c .before .before .before .before .before .before .before .before .before .before .loop .inv) (c .before .before .before .before .before .before .before .before .before .before .before .before .before .pre .0) (c .before .before .before .before .before .before .before .before .before .before .before .before .before .pre .1 .0) (c .before .before .before .before .before .before .before .before .before .before .before .before .before .pre .1 .1 .1 .1 .1)) (c .before .before .before .before .before .before .before .before .next-step .result) ((c .before .before .before .before .before .before .before .before .next-step .ensures) (growth-here (c .before .before .before .before .before .before .before .before .before .before .before .before .before .args .image .now) (c .before .before .before .before .before .before .before .before .before .before .before .before .before .args .s) (c .before .before .before .before .before .before .before .before .before .before .before .before .before .pre .0) (c .before .before .before .before .before .before .before .before .before .before .before .before .before .pre .1 .0) (words (c .before .before .before .before .before .before .before .before .before .before .before .before .before .args .lm .now)) (c .before .before .before .before .before .before .before .before .before .before .before .before .before .args .label) (c .before .before .before .before .before .before .before .before .before .before .before .before .before .pre .1 .1 .1 .1 .1) (c .before .before .before .before .before .before .before .before .before .before .loop .image) (c .before .before .before .before .before .before .before .before .before .before .loop .k) (c .before .before .before .before .before .before .before .before .before .before .loop .lo) ((c .before .before .before .before .before .before .before .before .before .before .loop .inv) (c .before .before .before .before .before .before .before .before .before .before .before .before .before .pre .0) (c .before .before .before .before .before .before .before .before .before .before .before .before .before .pre .1 .0) (c .before .before .before .before .before .before .before .before .before .before .before .before .before .pre .1 .1 .1 .1 .1)))) in omega (arith, c .before .before .before .before .before .before .before .before .before .before .before .before .before .pre .0 .nodes-to, c .before .before .before .before .before .before .before .before .before .before .before .before .before .pre .0 .cap-to)
+add-k c =
+    let start = c .before .before .before .before .before .before .before .before .before .before .before .before .before in
+    let loop = c .before .before .before .before .before .before .before .before .before .before .loop in
+    let next-step = c .before .before .before .before .before .before .before .before .next-step in
+    let p = (loop .inv) (start .pre .0) (start .pre .1 .0) (start .pre .1 .1 .1 .1 .1) in
+    let z = bounds (start .args .image .now) (start .args .s) (start .pre .0) (start .pre .1 .0) (words (start .args .lm .now)) (start .args .label)
+    (start .pre .1 .1 .1 .1 .1) (loop .image) (loop .k) (loop .lo) p (next-step .result)
+    ((next-step .ensures) (growth-here (start .args .image .now) (start .args .s) (start .pre .0) (start .pre .1 .0) (words (start .args .lm .now))
+    (start .args .label) (start .pre .1 .1 .1 .1 .1) (loop .image) (loop .k) (loop .lo) p)) in
+    omega (arith, start .pre .0 .nodes-to, start .pre .0 .cap-to)
 
 -- src/descent.rt:150:5
 loop-less : tie.Need-loop-less Inv-loop μ-loop
-loop-less c = let z = bounds (c .before .before .before .before .before .before .before .before .before .before .before .before .before .args .image .now) (c .before .before .before .before .before .before .before .before .before .before .before .before .before .args .s) (c .before .before .before .before .before .before .before .before .before .before .before .before .before .pre .0) (c .before .before .before .before .before .before .before .before .before .before .before .before .before .pre .1 .0) (words (c .before .before .before .before .before .before .before .before .before .before .before .before .before .args .lm .now)) (c .before .before .before .before .before .before .before .before .before .before .before .before .before .args .label) (c .before .before .before .before .before .before .before .before .before .before .before .before .before .pre .1 .1 .1 .1 .1) (c .before .before .before .before .before .before .before .before .before .before .loop .image) (c .before .before .before .before .before .before .before .before .before .before .loop .k) (c .before .before .before .before .before .before .before .before .before .before .loop .lo) ((c .before .before .before .before .before .before .before .before .before .before .loop .inv) (c .before .before .before .before .before .before .before .before .before .before .before .before .before .pre .0) (c .before .before .before .before .before .before .before .before .before .before .before .before .before .pre .1 .0) (c .before .before .before .before .before .before .before .before .before .before .before .before .before .pre .1 .1 .1 .1 .1)) (c .before .before .before .before .before .before .before .before .next-step .result) ((c .before .before .before .before .before .before .before .before .next-step .ensures) (growth-here (c .before .before .before .before .before .before .before .before .before .before .before .before .before .args .image .now) (c .before .before .before .before .before .before .before .before .before .before .before .before .before .args .s) (c .before .before .before .before .before .before .before .before .before .before .before .before .before .pre .0) (c .before .before .before .before .before .before .before .before .before .before .before .before .before .pre .1 .0) (words (c .before .before .before .before .before .before .before .before .before .before .before .before .before .args .lm .now)) (c .before .before .before .before .before .before .before .before .before .before .before .before .before .args .label) (c .before .before .before .before .before .before .before .before .before .before .before .before .before .pre .1 .1 .1 .1 .1) (c .before .before .before .before .before .before .before .before .before .before .loop .image) (c .before .before .before .before .before .before .before .before .before .before .loop .k) (c .before .before .before .before .before .before .before .before .before .before .loop .lo) ((c .before .before .before .before .before .before .before .before .before .before .loop .inv) (c .before .before .before .before .before .before .before .before .before .before .before .before .before .pre .0) (c .before .before .before .before .before .before .before .before .before .before .before .before .before .pre .1 .0) (c .before .before .before .before .before .before .before .before .before .before .before .before .before .pre .1 .1 .1 .1 .1)))) in omega (arith, z .on (c .before .if1 .left), z .rows-to, ready (c .before .before .before .before .before .before .before .before .before .before .before .before .before .args .image .now) (c .before .before .before .before .before .before .before .before .before .before .before .before .before .args .s) (c .before .before .before .before .before .before .before .before .before .before .before .before .before .pre .0) (c .before .before .before .before .before .before .before .before .before .before .before .before .before .pre .1 .0) (words (c .before .before .before .before .before .before .before .before .before .before .before .before .before .args .lm .now)) (c .before .before .before .before .before .before .before .before .before .before .before .before .before .args .label) (c .before .before .before .before .before .before .before .before .before .before .before .before .before .pre .1 .1 .1 .1 .1) (c .before .before .before .before .before .before .before .before .before .before .loop .image) (c .before .before .before .before .before .before .before .before .before .before .loop .k) (c .before .before .before .before .before .before .before .before .before .before .loop .lo) ((c .before .before .before .before .before .before .before .before .before .before .loop .inv) (c .before .before .before .before .before .before .before .before .before .before .before .before .before .pre .0) (c .before .before .before .before .before .before .before .before .before .before .before .before .before .pre .1 .0) (c .before .before .before .before .before .before .before .before .before .before .before .before .before .pre .1 .1 .1 .1 .1)) .row)
+loop-less c =
+    let start = c .before .before .before .before .before .before .before .before .before .before .before .before .before in
+    let loop = c .before .before .before .before .before .before .before .before .before .before .loop in
+    let next-step = c .before .before .before .before .before .before .before .before .next-step in
+    let p = (loop .inv) (start .pre .0) (start .pre .1 .0) (start .pre .1 .1 .1 .1 .1) in
+    let z = bounds (start .args .image .now) (start .args .s) (start .pre .0) (start .pre .1 .0) (words (start .args .lm .now)) (start .args .label)
+    (start .pre .1 .1 .1 .1 .1) (loop .image) (loop .k) (loop .lo) p (next-step .result)
+    ((next-step .ensures) (growth-here (start .args .image .now) (start .args .s) (start .pre .0) (start .pre .1 .0) (words (start .args .lm .now))
+    (start .args .label) (start .pre .1 .1 .1 .1 .1) (loop .image) (loop .k) (loop .lo) p)) in
+    omega (
+      arith,
+      z .on (c .before .if1 .left),
+      z .rows-to,
+      ready (start .args .image .now) (start .args .s) (start .pre .0) (start .pre .1 .0)
+          (words (start .args .lm .now)) (start .args .label) (start .pre .1 .1 .1 .1 .1) (loop .image) (loop .k) (loop .lo) p .row,
+    )
 
 -- src/descent.rt:150:5
 loop-again : tie.Need-loop-again Inv-loop μ-loop
-loop-again c = λ R room g. going-on (c .before .before .before .before .before .before .before .before .before .before .before .before .before .args .image .now) (c .before .before .before .before .before .before .before .before .before .before .before .before .before .args .s) R room (words (c .before .before .before .before .before .before .before .before .before .before .before .before .before .args .lm .now)) (c .before .before .before .before .before .before .before .before .before .before .before .before .before .args .label) g (c .before .before .before .before .before .before .before .before .before .before .loop .image) (c .before .before .before .before .before .before .before .before .before .before .loop .k) (c .before .before .before .before .before .before .before .before .before .before .loop .lo) ((c .before .before .before .before .before .before .before .before .before .before .loop .inv) R room g) (c .before .before .before .before .before .before .before .before .before .before .before .before .before .pre .1 .1 .1 .0) (c .before .before .before .before .before .grow .last .0) (rw (c .before .before .before .before .before .before .node-at .ensures) at (c .before .before .before .before .before .grow .ensures)) (c .before .before .before .before .before .before .before .before .next-step .result) ((c .before .before .before .before .before .before .before .before .next-step .ensures) (growth-here (c .before .before .before .before .before .before .before .before .before .before .before .before .before .args .image .now) (c .before .before .before .before .before .before .before .before .before .before .before .before .before .args .s) R room (words (c .before .before .before .before .before .before .before .before .before .before .before .before .before .args .lm .now)) (c .before .before .before .before .before .before .before .before .before .before .before .before .before .args .label) g (c .before .before .before .before .before .before .before .before .before .before .loop .image) (c .before .before .before .before .before .before .before .before .before .before .loop .k) (c .before .before .before .before .before .before .before .before .before .before .loop .lo) ((c .before .before .before .before .before .before .before .before .before .before .loop .inv) R room g))) (c .before .if1 .left)
+loop-again c =
+    let start = c .before .before .before .before .before .before .before .before .before .before .before .before .before in
+    let loop = c .before .before .before .before .before .before .before .before .before .before .loop in
+    let next-step = c .before .before .before .before .before .before .before .before .next-step in
+    let node-at = c .before .before .before .before .before .before .node-at in
+    let grow = c .before .before .before .before .before .grow in
+    λ R room g. going-on (start .args .image .now) (start .args .s) R room (words (start .args .lm .now)) (start .args .label) g (loop .image) (loop .k) (loop .lo)
+    ((loop .inv) R room g) (start .pre .1 .1 .1 .0) (grow .last .0) (rw (node-at .ensures) at (grow .ensures)) (next-step .result)
+    ((next-step .ensures) (growth-here (start .args .image .now) (start .args .s) R room (words (start .args .lm .now)) (start .args .label) g (loop .image) (loop .k)
+    (loop .lo) ((loop .inv) R room g))) (c .before .if1 .left)
 
 pub descend-spec : {M : Type 1} → statement M
 descend-spec =

@@ -20,7 +20,20 @@ get-requires c κs = search needs
 
 -- src/descent.rt:91:5
 grow-gcd-requires : tie.Need-grow-gcd-requires
-grow-gcd-requires c κs = (c .before .before .before .before .before .pre .0, (c .before .before .before .before .before .pre .1 .0, (c .before .before .before .before .before .pre .1 .1 .0, (c .before .before .before .before .before .pre .1 .1 .1 .0, (c .before .before .before .before .before .pre .1 .1 .1 .1 .0, (c .before .before .before .before .before .pre .1 .1 .1 .1 .1 .0, (c .before .before .before .before .before .pre .1 .1 .1 .1 .1 .1 .0, c .before .before .before .before .before .pre .1 .1 .1 .1 .1 .1 .1 .1)))))))
+grow-gcd-requires c κs =
+    let start = c .before .before .before .before .before in (
+      start .pre .0,
+      (
+        start .pre .1 .0,
+        (
+          start .pre .1 .1 .0,
+          (
+            start .pre .1 .1 .1 .0,
+            (start .pre .1 .1 .1 .1 .0, (start .pre .1 .1 .1 .1 .1 .0, (start .pre .1 .1 .1 .1 .1 .1 .0, start .pre .1 .1 .1 .1 .1 .1 .1 .1))),
+          ),
+        ),
+      ),
+    )
 
 -- src/descent.rt:92:23
 add-put : tie.Need-add-put
@@ -40,7 +53,12 @@ same-length c = search needs
 
 -- src/descent.rt:78:1
 returns : tie.Need-returns
-returns c = row-written (c .before .before .before .before .before .before .before .before .before .before .before .before .args .image .now) (c .before .before .before .before .before .before .grow-gcd .last .0) _ (c .before .before .before .before .before .before .before .before .before .before .before .before .args .s) (c .before .before .before .before .before .before .before .before .before .before .before .before .args .at) (c .before .before .before .before .before .before .before .before .get .result) (words (c .before .before .before .before .before .before .before .before .before .before .before .before .args .lm .now)) (c .before .before .before .before .before .before .grow-gcd .kept .0) (omega (arith, c .before .before .before .before .before .before .before .before .before .before .before .before .pre .1 .0, c .before .before .before .before .before .before .before .before .before .before .before .before .pre .1 .1 .1 .1 .1 .0)) (c .before .before .before .before .before .before .before .before .get .ensures) (c .before .before .before .before .before .before .grow-gcd .ensures) (c .before .before .put .ensures)
+returns c =
+    let start = c .before .before .before .before .before .before .before .before .before .before .before .before in
+    let get = c .before .before .before .before .before .before .before .before .get in
+    let grow-gcd = c .before .before .before .before .before .before .grow-gcd in
+    row-written (start .args .image .now) (grow-gcd .last .0) _ (start .args .s) (start .args .at) (get .result) (words (start .args .lm .now)) (grow-gcd .kept .0)
+    (omega (arith, start .pre .1 .0, start .pre .1 .1 .1 .1 .1 .0)) (get .ensures) (grow-gcd .ensures) (c .before .before .put .ensures)
 
 pub grow-spec : {M : Type 1} → statement M
 grow-spec =

@@ -10,7 +10,9 @@ use Rattle.kd_insert.proofs.slots.write_gcd.Reads as write-gcd-reads
 
 -- src/descent.rt:71:9
 write-gcd-requires : tie.Need-write-gcd-requires
-write-gcd-requires c κs = (c .before .before .before .before .pre .0, (c .before .before .before .before .pre .1 .0, (c .before .before .before .before .pre .1 .1 .0, (c .before .before .before .before .pre .1 .1 .1 .0, (c .before .before .before .before .pre .1 .1 .1 .1 .0, c .before .before .before .before .pre .1 .1 .1 .1 .1 .0)))))
+write-gcd-requires c κs =
+    let start = c .before .before .before .before in
+    (start .pre .0, (start .pre .1 .0, (start .pre .1 .1 .0, (start .pre .1 .1 .1 .0, (start .pre .1 .1 .1 .1 .0, start .pre .1 .1 .1 .1 .1 .0)))))
 
 -- src/descent.rt:72:9
 same-length : tie.Need-same-length
@@ -18,11 +20,17 @@ same-length c = search needs
 
 -- src/descent.rt:72:9
 returns : tie.Need-returns
-returns c = rw (← first-gcd (words (c .before .before .before .before .before .before .before .args .image .now)) (c .before .before .before .before .before .before .before .args .s .variables) (c .before .before .before .before .before .before .before .args .at) (c .before .before .before .before .before .before .before .args .c) (words (c .before .before .before .before .before .before .before .args .lm .now)) (c .before .before .before .before .if1 .taken)) (c .before .before .write-gcd .ensures)
+returns c =
+    let start = c .before .before .before .before .before .before .before in
+    let if1 = c .before .before .before .before .if1 in
+    rw (← first-gcd (words (start .args .image .now)) (start .args .s .variables) (start .args .at) (start .args .c) (words (start .args .lm .now)) (if1 .taken))
+    (c .before .before .write-gcd .ensures)
 
 -- src/descent.rt:74:5
 meet-requires : tie.Need-meet-requires
-meet-requires c κs = (c .before .before .before .before .pre .0, (c .before .before .before .before .pre .1 .0, (c .before .before .before .before .pre .1 .1 .0, (c .before .before .before .before .pre .1 .1 .1 .0, (c .before .before .before .before .pre .1 .1 .1 .1 .1 .0, (c .before .before .before .before .pre .1 .1 .1 .1 .1 .1 .0, c .before .before .before .before .pre .1 .1 .1 .1 .1 .1 .1))))))
+meet-requires c κs =
+    let start = c .before .before .before .before in
+    (start .pre .0, (start .pre .1 .0, (start .pre .1 .1 .0, (start .pre .1 .1 .1 .0, (start .pre .1 .1 .1 .1 .1 .0, (start .pre .1 .1 .1 .1 .1 .1 .0, start .pre .1 .1 .1 .1 .1 .1 .1))))))
 
 -- src/descent.rt:59:1
 same-length-2 : tie.Need-same-length-2
@@ -30,7 +38,10 @@ same-length-2 c = search needs
 
 -- src/descent.rt:59:1
 returns-2 : tie.Need-returns-2
-returns-2 c = rw (← other-gcd (words (c .before .before .before .before .before .before .before .args .image .now)) (c .before .before .before .before .before .before .before .args .s .variables) (c .before .before .before .before .before .before .before .args .at) (c .before .before .before .before .before .before .before .args .c) (words (c .before .before .before .before .before .before .before .args .lm .now)) (c .before .before .before .before .if1 .left)) (c .before .before .meet .ensures)
+returns-2 c =
+    let start = c .before .before .before .before .before .before .before in
+    let if1 = c .before .before .before .before .if1 in
+    rw (← other-gcd (words (start .args .image .now)) (start .args .s .variables) (start .args .at) (start .args .c) (words (start .args .lm .now)) (if1 .left)) (c .before .before .meet .ensures)
 
 pub grow-gcd-spec : {M : Type 1} → statement M
 grow-gcd-spec =

@@ -13,11 +13,24 @@ use Rattle.monomial.proofs.power_of.Reads as power-of-reads
 
 -- src/descent.rt:98:24
 label-in-requires : tie.Need-label-in-requires
-label-in-requires c κs = (c .before .before .before .before .pre .0, (c .before .before .before .before .pre .1 .0, ((omega (arith, c .if1 .taken, c .before .before .before .before .pre .1 .1 .1 .0 .0, c .before .before .before .before .pre .0 .kind-to), ((c .before .before .before .before .pre .1 .1 .1 .1) (c .if1 .taken)) .0), ((c .before .before .before .before .pre .1 .1 .1 .1) (c .if1 .taken)) .1)))
+label-in-requires c κs =
+    let start = c .before .before .before .before in (
+      start .pre .0,
+      (
+        start .pre .1 .0,
+        (
+          (omega (arith, c .if1 .taken, start .pre .1 .1 .1 .0 .0, start .pre .0 .kind-to), ((start .pre .1 .1 .1 .1) (c .if1 .taken)) .0),
+          ((start .pre .1 .1 .1 .1) (c .if1 .taken)) .1,
+        ),
+      ),
+    )
 
 -- src/descent.rt:98:9
 returns : tie.Need-returns
-returns c = below-ratio (words (c .before .before .before .before .before .args .image .now)) (c .before .before .before .before .before .args .s) (words (c .before .before .before .before .before .args .lm .now)) (c .before .before .before .before .before .args .label) (c .before .before .before .before .before .args .tag) (c .before .before .before .before .before .args .key) (c .label-in .result) (c .before .if1 .taken) (c .label-in .ensures)
+returns c =
+    let start = c .before .before .before .before .before in
+    below-ratio (words (start .args .image .now)) (start .args .s) (words (start .args .lm .now)) (start .args .label) (start .args .tag) (start .args .key)
+    (c .label-in .result) (c .before .if1 .taken) (c .label-in .ensures)
 
 -- src/descent.rt:100:13
 sub-v : tie.Need-sub-v
@@ -33,11 +46,16 @@ cast-power-of c = search needs
 
 -- src/descent.rt:101:5
 power-of-requires : tie.Need-power-of-requires
-power-of-requires c κs = ((omega arith, (omega arith, omega (arith, c .before .before .before .before .before .pre .1 .1 .1 .0 .1, c .before .before .before .before .before .pre .0 .vars-to, c .before .before .before .before .before .pre .0 .kind-to))), starts-wide (starts-whole (c .before .before .before .before .before .pre .1 .1 .0)))
+power-of-requires c κs =
+    let start = c .before .before .before .before .before in
+    ((omega arith, (omega arith, omega (arith, start .pre .1 .1 .1 .0 .1, start .pre .0 .vars-to, start .pre .0 .kind-to))), starts-wide (starts-whole (start .pre .1 .1 .0)))
 
 -- src/descent.rt:89:1
 returns-2 : tie.Need-returns-2
-returns-2 c = below-power (words (c .before .before .before .before .before .before .args .image .now)) (c .before .before .before .before .before .before .args .s) (words (c .before .before .before .before .before .before .args .lm .now)) (c .before .before .before .before .before .before .args .label) (c .before .before .before .before .before .before .args .tag) (c .before .before .before .before .before .before .args .key) (c .power-of .result) (c .before .before .if1 .left) (rw (first-whole (c .before .before .before .before .before .before .pre .1 .1 .0)) at (c .power-of .ensures))
+returns-2 c =
+    let start = c .before .before .before .before .before .before in
+    below-power (words (start .args .image .now)) (start .args .s) (words (start .args .lm .now)) (start .args .label) (start .args .tag) (start .args .key)
+    (c .power-of .result) (c .before .before .if1 .left) (rw (first-whole (start .pre .1 .1 .0)) at (c .power-of .ensures))
 
 pub is-below-spec : {M : Type 1} → statement M
 is-below-spec =

@@ -34,23 +34,89 @@ slice-aggregate-gcd c = search needs
 
 -- src/descent.rt:35:9
 gcd-requires : tie.Need-gcd-requires
-gcd-requires c κs = rw (c .before .monomial-in .ensures .is) (starts-wide (starts-whole (in-canonical (words (c .before .before .before .before .before .args .image .now)) (c .before .before .before .before .before .args .s .variables) (shape.gcdAt (c .before .before .before .before .before .args .at)) (c .before .before .before .before .before .pre .1 .1 .1 .1 .1))), (starts-wide (starts-whole (c .before .before .before .before .before .pre .1 .1 .1 .0)), rw (first-whole (in-canonical (words (c .before .before .before .before .before .args .image .now)) (c .before .before .before .before .before .args .s .variables) (shape.gcdAt (c .before .before .before .before .before .args .at)) (c .before .before .before .before .before .pre .1 .1 .1 .1 .1)), first-whole (c .before .before .before .before .before .pre .1 .1 .1 .0)) (omega (arith, gcd-fits (monomialIn (words (c .before .before .before .before .before .args .image .now)) (c .before .before .before .before .before .args .s .variables) (shape.gcdAt (c .before .before .before .before .before .args .at))) (words (c .before .before .before .before .before .args .lm .now)) (canonical-more (omega arith) (c .before .before .before .before .before .pre .0 .vars-to) (in-canonical (words (c .before .before .before .before .before .args .image .now)) (c .before .before .before .before .before .args .s .variables) (shape.gcdAt (c .before .before .before .before .before .args .at)) (c .before .before .before .before .before .pre .1 .1 .1 .1 .1))) (canonical-more (omega arith) (c .before .before .before .before .before .pre .0 .vars-to) (c .before .before .before .before .before .pre .1 .1 .1 .0))))))
+gcd-requires c κs =
+    let start = c .before .before .before .before .before in
+    let W = words (start .args .image .now) in
+    let p = in-canonical W (start .args .s .variables) (shape.gcdAt (start .args .at)) (start .pre .1 .1 .1 .1 .1) in
+    rw (c .before .monomial-in .ensures .is) (
+      starts-wide (starts-whole p),
+      (
+        starts-wide (starts-whole (start .pre .1 .1 .1 .0)),
+        rw (first-whole p, first-whole (start .pre .1 .1 .1 .0))
+            (omega (
+              arith,
+              gcd-fits (monomialIn W (start .args .s .variables) (shape.gcdAt (start .args .at))) (words (start .args .lm .now))
+                  (canonical-more (omega arith) (start .pre .0 .vars-to) p) (canonical-more (omega arith) (start .pre .0 .vars-to) (start .pre .1 .1 .1 .0)),
+            )),
+      ),
+    )
 
 -- src/descent.rt:36:13
 mul-e : tie.Need-mul-e
-mul-e c = omega (arith, gcd-fits (monomialIn (words (c .before .before .before .before .before .before .before .args .image .now)) (c .before .before .before .before .before .before .before .args .s .variables) (shape.gcdAt (c .before .before .before .before .before .before .before .args .at))) (words (c .before .before .before .before .before .before .before .args .lm .now)) (canonical-more (omega arith) (c .before .before .before .before .before .before .before .pre .0 .vars-to) (in-canonical (words (c .before .before .before .before .before .before .before .args .image .now)) (c .before .before .before .before .before .before .before .args .s .variables) (shape.gcdAt (c .before .before .before .before .before .before .before .args .at)) (c .before .before .before .before .before .before .before .pre .1 .1 .1 .1 .1))) (canonical-more (omega arith) (c .before .before .before .before .before .before .before .pre .0 .vars-to) (c .before .before .before .before .before .before .before .pre .1 .1 .1 .0)), rw (c .before .before .before .monomial-in .ensures .is, first-whole (in-canonical (words (c .before .before .before .before .before .before .before .args .image .now)) (c .before .before .before .before .before .before .before .args .s .variables) (shape.gcdAt (c .before .before .before .before .before .before .before .args .at)) (c .before .before .before .before .before .before .before .pre .1 .1 .1 .1 .1)), first-whole (c .before .before .before .before .before .before .before .pre .1 .1 .1 .0)) at (c .before .gcd .ensures .0))
+mul-e c =
+    let start = c .before .before .before .before .before .before .before in
+    let monomial-in = c .before .before .before .monomial-in in
+    let W = words (start .args .image .now) in
+    let p = in-canonical W (start .args .s .variables) (shape.gcdAt (start .args .at)) (start .pre .1 .1 .1 .1 .1) in
+    omega (
+      arith,
+      gcd-fits (monomialIn W (start .args .s .variables) (shape.gcdAt (start .args .at))) (words (start .args .lm .now))
+          (canonical-more (omega arith) (start .pre .0 .vars-to) p) (canonical-more (omega arith) (start .pre .0 .vars-to) (start .pre .1 .1 .1 .0)),
+      rw (monomial-in .ensures .is, first-whole p, first-whole (start .pre .1 .1 .1 .0)) at (c .before .gcd .ensures .0),
+    )
 
 -- src/descent.rt:37:43
 array-share-prefix-made : tie.Need-array-share-prefix-made
-array-share-prefix-made c = (made-aside Op.Gcd (monomialIn (words (c .before .before .before .before .before .before .before .before .args .image .now)) (c .before .before .before .before .before .before .before .before .args .s .variables) (shape.gcdAt (c .before .before .before .before .before .before .before .before .args .at))) (words (c .before .before .before .before .before .before .before .before .args .lm .now)) _ (c .before .before .gcd .last .1 .1 .0) (c .before .before .gcd .result) (canonical-more (omega arith) (c .before .before .before .before .before .before .before .before .pre .0 .vars-to) (in-canonical (words (c .before .before .before .before .before .before .before .before .args .image .now)) (c .before .before .before .before .before .before .before .before .args .s .variables) (shape.gcdAt (c .before .before .before .before .before .before .before .before .args .at)) (c .before .before .before .before .before .before .before .before .pre .1 .1 .1 .1 .1))) (canonical-more (omega arith) (c .before .before .before .before .before .before .before .before .pre .0 .vars-to) (c .before .before .before .before .before .before .before .before .pre .1 .1 .1 .0)) refl (rw (c .before .before .before .before .monomial-in .ensures .is, first-whole (in-canonical (words (c .before .before .before .before .before .before .before .before .args .image .now)) (c .before .before .before .before .before .before .before .before .args .s .variables) (shape.gcdAt (c .before .before .before .before .before .before .before .before .args .at)) (c .before .before .before .before .before .before .before .before .pre .1 .1 .1 .1 .1)), first-whole (c .before .before .before .before .before .before .before .before .pre .1 .1 .1 .0)) at (c .before .before .gcd .ensures .0)) (rw (c .before .before .before .before .monomial-in .ensures .is, first-whole (in-canonical (words (c .before .before .before .before .before .before .before .before .args .image .now)) (c .before .before .before .before .before .before .before .before .args .s .variables) (shape.gcdAt (c .before .before .before .before .before .before .before .before .args .at)) (c .before .before .before .before .before .before .before .before .pre .1 .1 .1 .1 .1)), first-whole (c .before .before .before .before .before .before .before .before .pre .1 .1 .1 .0)) at (c .before .before .gcd .ensures .1))) .room
+array-share-prefix-made c =
+    let start = c .before .before .before .before .before .before .before .before in
+    let monomial-in = c .before .before .before .before .monomial-in in
+    let gcd = c .before .before .gcd in
+    let W = words (start .args .image .now) in
+    let p = in-canonical W (start .args .s .variables) (shape.gcdAt (start .args .at)) (start .pre .1 .1 .1 .1 .1) in
+    (made-aside Op.Gcd (monomialIn W (start .args .s .variables) (shape.gcdAt (start .args .at))) (words (start .args .lm .now)) _ (gcd .last .1 .1 .0) (gcd .result)
+    (canonical-more (omega arith) (start .pre .0 .vars-to) p) (canonical-more (omega arith) (start .pre .0 .vars-to) (start .pre .1 .1 .1 .0)) refl
+    (rw (monomial-in .ensures .is, first-whole p, first-whole (start .pre .1 .1 .1 .0)) at (gcd .ensures .0))
+    (rw (monomial-in .ensures .is, first-whole p, first-whole (start .pre .1 .1 .1 .0)) at (gcd .ensures .1))) .room
 
 -- src/descent.rt:37:43
 slice-aggregate-write-gcd : tie.Need-slice-aggregate-write-gcd
-slice-aggregate-write-gcd c = sym ((made-aside Op.Gcd (monomialIn (words (c .before .before .before .before .before .before .before .before .before .args .image .now)) (c .before .before .before .before .before .before .before .before .before .args .s .variables) (shape.gcdAt (c .before .before .before .before .before .before .before .before .before .args .at))) (words (c .before .before .before .before .before .before .before .before .before .args .lm .now)) _ (c .before .before .before .gcd .last .1 .1 .0) (c .before .before .before .gcd .result) (canonical-more (omega arith) (c .before .before .before .before .before .before .before .before .before .pre .0 .vars-to) (in-canonical (words (c .before .before .before .before .before .before .before .before .before .args .image .now)) (c .before .before .before .before .before .before .before .before .before .args .s .variables) (shape.gcdAt (c .before .before .before .before .before .before .before .before .before .args .at)) (c .before .before .before .before .before .before .before .before .before .pre .1 .1 .1 .1 .1))) (canonical-more (omega arith) (c .before .before .before .before .before .before .before .before .before .pre .0 .vars-to) (c .before .before .before .before .before .before .before .before .before .pre .1 .1 .1 .0)) refl (rw (c .before .before .before .before .before .monomial-in .ensures .is, first-whole (in-canonical (words (c .before .before .before .before .before .before .before .before .before .args .image .now)) (c .before .before .before .before .before .before .before .before .before .args .s .variables) (shape.gcdAt (c .before .before .before .before .before .before .before .before .before .args .at)) (c .before .before .before .before .before .before .before .before .before .pre .1 .1 .1 .1 .1)), first-whole (c .before .before .before .before .before .before .before .before .before .pre .1 .1 .1 .0)) at (c .before .before .before .gcd .ensures .0)) (rw (c .before .before .before .before .before .monomial-in .ensures .is, first-whole (in-canonical (words (c .before .before .before .before .before .before .before .before .before .args .image .now)) (c .before .before .before .before .before .before .before .before .before .args .s .variables) (shape.gcdAt (c .before .before .before .before .before .before .before .before .before .args .at)) (c .before .before .before .before .before .before .before .before .before .pre .1 .1 .1 .1 .1)), first-whole (c .before .before .before .before .before .before .before .before .before .pre .1 .1 .1 .0)) at (c .before .before .before .gcd .ensures .1))) .size)
+slice-aggregate-write-gcd c =
+    let start = c .before .before .before .before .before .before .before .before .before in
+    let monomial-in = c .before .before .before .before .before .monomial-in in
+    let gcd = c .before .before .before .gcd in
+    let W = words (start .args .image .now) in
+    let p = in-canonical W (start .args .s .variables) (shape.gcdAt (start .args .at)) (start .pre .1 .1 .1 .1 .1) in
+    sym ((made-aside Op.Gcd (monomialIn W (start .args .s .variables) (shape.gcdAt (start .args .at))) (words (start .args .lm .now)) _ (gcd .last .1 .1 .0) (gcd .result)
+    (canonical-more (omega arith) (start .pre .0 .vars-to) p) (canonical-more (omega arith) (start .pre .0 .vars-to) (start .pre .1 .1 .1 .0)) refl
+    (rw (monomial-in .ensures .is, first-whole p, first-whole (start .pre .1 .1 .1 .0)) at (gcd .ensures .0))
+    (rw (monomial-in .ensures .is, first-whole p, first-whole (start .pre .1 .1 .1 .0)) at (gcd .ensures .1))) .size)
 
 -- src/descent.rt:37:5
 write-gcd-requires : tie.Need-write-gcd-requires
-write-gcd-requires c κs = let d = (made-aside Op.Gcd (monomialIn (words (c .before .before .before .before .before .before .before .before .before .args .image .now)) (c .before .before .before .before .before .before .before .before .before .args .s .variables) (shape.gcdAt (c .before .before .before .before .before .before .before .before .before .args .at))) (words (c .before .before .before .before .before .before .before .before .before .args .lm .now)) _ (c .before .before .before .gcd .last .1 .1 .0) (c .before .before .before .gcd .result) (canonical-more (omega arith) (c .before .before .before .before .before .before .before .before .before .pre .0 .vars-to) (in-canonical (words (c .before .before .before .before .before .before .before .before .before .args .image .now)) (c .before .before .before .before .before .before .before .before .before .args .s .variables) (shape.gcdAt (c .before .before .before .before .before .before .before .before .before .args .at)) (c .before .before .before .before .before .before .before .before .before .pre .1 .1 .1 .1 .1))) (canonical-more (omega arith) (c .before .before .before .before .before .before .before .before .before .pre .0 .vars-to) (c .before .before .before .before .before .before .before .before .before .pre .1 .1 .1 .0)) refl (rw (c .before .before .before .before .before .monomial-in .ensures .is, first-whole (in-canonical (words (c .before .before .before .before .before .before .before .before .before .args .image .now)) (c .before .before .before .before .before .before .before .before .before .args .s .variables) (shape.gcdAt (c .before .before .before .before .before .before .before .before .before .args .at)) (c .before .before .before .before .before .before .before .before .before .pre .1 .1 .1 .1 .1)), first-whole (c .before .before .before .before .before .before .before .before .before .pre .1 .1 .1 .0)) at (c .before .before .before .gcd .ensures .0)) (rw (c .before .before .before .before .before .monomial-in .ensures .is, first-whole (in-canonical (words (c .before .before .before .before .before .before .before .before .before .args .image .now)) (c .before .before .before .before .before .before .before .before .before .args .s .variables) (shape.gcdAt (c .before .before .before .before .before .before .before .before .before .args .at)) (c .before .before .before .before .before .before .before .before .before .pre .1 .1 .1 .1 .1)), first-whole (c .before .before .before .before .before .before .before .before .before .pre .1 .1 .1 .0)) at (c .before .before .before .gcd .ensures .1))) in (c .before .before .before .before .before .before .before .before .before .pre .0, (c .before .before .before .before .before .before .before .before .before .pre .1 .0, (c .before .before .before .before .before .before .before .before .before .pre .1 .1 .0, (rw (d .are) (gcd-good (c .before .before .before .before .before .before .before .before .before .args .s .variables) (monomialIn (words (c .before .before .before .before .before .before .before .before .before .args .image .now)) (c .before .before .before .before .before .before .before .before .before .args .s .variables) (shape.gcdAt (c .before .before .before .before .before .before .before .before .before .args .at))) (words (c .before .before .before .before .before .before .before .before .before .args .lm .now)) (c .before .before .before .before .before .before .before .before .before .pre .0 .vars-to) (in-canonical (words (c .before .before .before .before .before .before .before .before .before .args .image .now)) (c .before .before .before .before .before .before .before .before .before .args .s .variables) (shape.gcdAt (c .before .before .before .before .before .before .before .before .before .args .at)) (c .before .before .before .before .before .before .before .before .before .pre .1 .1 .1 .1 .1)) (c .before .before .before .before .before .before .before .before .before .pre .1 .1 .1 .0)), (rw (d .size) (omega arith), c .before .before .before .before .before .before .before .before .before .pre .1 .1 .1 .1 .0)))))
+write-gcd-requires c κs =
+    let start = c .before .before .before .before .before .before .before .before .before in
+    let monomial-in = c .before .before .before .before .before .monomial-in in
+    let gcd = c .before .before .before .gcd in
+    let W = words (start .args .image .now) in
+    let p = in-canonical W (start .args .s .variables) (shape.gcdAt (start .args .at)) (start .pre .1 .1 .1 .1 .1) in
+    let q = monomialIn W (start .args .s .variables) (shape.gcdAt (start .args .at)) in
+    let d = (made-aside Op.Gcd q (words (start .args .lm .now)) _ (gcd .last .1 .1 .0) (gcd .result) (canonical-more (omega arith) (start .pre .0 .vars-to) p)
+    (canonical-more (omega arith) (start .pre .0 .vars-to) (start .pre .1 .1 .1 .0)) refl
+    (rw (monomial-in .ensures .is, first-whole p, first-whole (start .pre .1 .1 .1 .0)) at (gcd .ensures .0))
+    (rw (monomial-in .ensures .is, first-whole p, first-whole (start .pre .1 .1 .1 .0)) at (gcd .ensures .1))) in (
+      start .pre .0,
+      (
+        start .pre .1 .0,
+        (
+          start .pre .1 .1 .0,
+          (
+            rw (d .are)
+                (gcd-good (start .args .s .variables) q (words (start .args .lm .now)) (start .pre .0 .vars-to) p (start .pre .1 .1 .1 .0)),
+            (rw (d .size) (omega arith), start .pre .1 .1 .1 .1 .0),
+          ),
+        ),
+      ),
+    )
 
 -- src/descent.rt:25:1
 same-length : tie.Need-same-length
@@ -58,7 +124,16 @@ same-length c = search needs
 
 -- src/descent.rt:25:1
 returns : tie.Need-returns
-returns c = rw ((made-aside Op.Gcd (monomialIn (words (c .before .before .before .before .before .before .before .before .before .before .before .before .args .image .now)) (c .before .before .before .before .before .before .before .before .before .before .before .before .args .s .variables) (shape.gcdAt (c .before .before .before .before .before .before .before .before .before .before .before .before .args .at))) (words (c .before .before .before .before .before .before .before .before .before .before .before .before .args .lm .now)) _ (c .before .before .before .before .before .before .gcd .last .1 .1 .0) (c .before .before .before .before .before .before .gcd .result) (canonical-more (omega arith) (c .before .before .before .before .before .before .before .before .before .before .before .before .pre .0 .vars-to) (in-canonical (words (c .before .before .before .before .before .before .before .before .before .before .before .before .args .image .now)) (c .before .before .before .before .before .before .before .before .before .before .before .before .args .s .variables) (shape.gcdAt (c .before .before .before .before .before .before .before .before .before .before .before .before .args .at)) (c .before .before .before .before .before .before .before .before .before .before .before .before .pre .1 .1 .1 .1 .1))) (canonical-more (omega arith) (c .before .before .before .before .before .before .before .before .before .before .before .before .pre .0 .vars-to) (c .before .before .before .before .before .before .before .before .before .before .before .before .pre .1 .1 .1 .0)) refl (rw (c .before .before .before .before .before .before .before .before .monomial-in .ensures .is, first-whole (in-canonical (words (c .before .before .before .before .before .before .before .before .before .before .before .before .args .image .now)) (c .before .before .before .before .before .before .before .before .before .before .before .before .args .s .variables) (shape.gcdAt (c .before .before .before .before .before .before .before .before .before .before .before .before .args .at)) (c .before .before .before .before .before .before .before .before .before .before .before .before .pre .1 .1 .1 .1 .1)), first-whole (c .before .before .before .before .before .before .before .before .before .before .before .before .pre .1 .1 .1 .0)) at (c .before .before .before .before .before .before .gcd .ensures .0)) (rw (c .before .before .before .before .before .before .before .before .monomial-in .ensures .is, first-whole (in-canonical (words (c .before .before .before .before .before .before .before .before .before .before .before .before .args .image .now)) (c .before .before .before .before .before .before .before .before .before .before .before .before .args .s .variables) (shape.gcdAt (c .before .before .before .before .before .before .before .before .before .before .before .before .args .at)) (c .before .before .before .before .before .before .before .before .before .before .before .before .pre .1 .1 .1 .1 .1)), first-whole (c .before .before .before .before .before .before .before .before .before .before .before .before .pre .1 .1 .1 .0)) at (c .before .before .before .before .before .before .gcd .ensures .1))) .are) at (c .before .before .write-gcd .ensures)
+returns c =
+    let start = c .before .before .before .before .before .before .before .before .before .before .before .before in
+    let monomial-in = c .before .before .before .before .before .before .before .before .monomial-in in
+    let gcd = c .before .before .before .before .before .before .gcd in
+    let W = words (start .args .image .now) in
+    let p = in-canonical W (start .args .s .variables) (shape.gcdAt (start .args .at)) (start .pre .1 .1 .1 .1 .1) in
+    rw ((made-aside Op.Gcd (monomialIn W (start .args .s .variables) (shape.gcdAt (start .args .at))) (words (start .args .lm .now)) _ (gcd .last .1 .1 .0) (gcd .result)
+    (canonical-more (omega arith) (start .pre .0 .vars-to) p) (canonical-more (omega arith) (start .pre .0 .vars-to) (start .pre .1 .1 .1 .0)) refl
+    (rw (monomial-in .ensures .is, first-whole p, first-whole (start .pre .1 .1 .1 .0)) at (gcd .ensures .0))
+    (rw (monomial-in .ensures .is, first-whole p, first-whole (start .pre .1 .1 .1 .0)) at (gcd .ensures .1))) .are) at (c .before .before .write-gcd .ensures)
 
 pub make-gcd-spec : {M : Type 1} → statement M
 make-gcd-spec =

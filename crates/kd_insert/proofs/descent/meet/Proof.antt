@@ -34,12 +34,16 @@ same-length c = search needs
 returns : tie.Need-returns
 returns c = let s = (c .before .before .before .before .before .before) in
     gcd-stays (s .args .image .now) (s .args .s) (s .args .at) (words (s .args .lm .now)) (λ j. (c .before .before .before .before .before .slice-known .given) j .fits) (s .pre .0 .vars-to)
-    (omega (arith, s .pre .1 .0, s .pre .1 .1 .1 .1 .0)) (in-canonical (words (s .args .image .now)) (s .args .s .variables) (shape.gcdAt (s .args .at)) (s .pre .1 .1 .1 .1 .1 .0)) (s .pre .1 .1 .1 .0)
+    (omega (arith, s .pre .1 .0, s .pre .1 .1 .1 .1 .0)) (in-canonical (words (s .args .image .now)) (s .args .s .variables) (shape.gcdAt (s .args .at))
+    (s .pre .1 .1 .1 .1 .1 .0)) (s .pre .1 .1 .1 .0)
     (s .pre .1 .1 .1 .1 .1 .1) (sym (rw (c .before .before .monomial-from .ensures .is, first-whole (s .pre .1 .1 .1 .0)) at (c .before .divides .ensures)) ∙ c .if1 .taken)
 
 -- src/descent.rt:61:5
 make-gcd-requires : tie.Need-make-gcd-requires
-make-gcd-requires c κs = let s = (c .before .before .before .before .before .before .before) in (s .pre .0, (s .pre .1 .0, (s .pre .1 .1 .0, (s .pre .1 .1 .1 .0, (s .pre .1 .1 .1 .1 .0, s .pre .1 .1 .1 .1 .1 .0)))))
+make-gcd-requires c κs =
+    let at7 = c .before .before .before .before .before .before .before in
+    let s = at7 in
+    (s .pre .0, (s .pre .1 .0, (s .pre .1 .1 .0, (s .pre .1 .1 .1 .0, (s .pre .1 .1 .1 .1 .0, s .pre .1 .1 .1 .1 .1 .0)))))
 
 -- src/descent.rt:48:1
 same-length-2 : tie.Need-same-length-2

@@ -20,7 +20,10 @@ node-at-requires c κs = search needs
 
 -- src/descent.rt:122:15
 get-requires : tie.Need-get-requires
-get-requires c κs = let z = spot-here (c .before .before .before .args .image .now) (c .before .before .before .args .s) (c .before .before .before .pre .0) (c .before .before .before .pre .1 .0) (words (c .before .before .before .args .lm .now)) (c .before .before .before .args .label) (c .before .before .before .args .k) (c .before .before .before .pre .1 .1 .1) in omega (arith, c .node-at .ensures, c .before .before .before .pre .1 .0)
+get-requires c κs =
+    let start = c .before .before .before in
+    let z = spot-here (start .args .image .now) (start .args .s) (start .pre .0) (start .pre .1 .0) (words (start .args .lm .now)) (start .args .label) (start .args .k) (start .pre .1 .1 .1) in
+    omega (arith, c .node-at .ensures, start .pre .1 .0)
 
 -- src/descent.rt:122:15
 cast-tag : tie.Need-cast-tag
@@ -28,11 +31,17 @@ cast-tag c = search needs
 
 -- src/descent.rt:127:39
 add-get : tie.Need-add-get
-add-get c = let z = spot-here (c .before .before .before .before .before .args .image .now) (c .before .before .before .before .before .args .s) (c .before .before .before .before .before .pre .0) (c .before .before .before .before .before .pre .1 .0) (words (c .before .before .before .before .before .args .lm .now)) (c .before .before .before .before .before .args .label) (c .before .before .before .before .before .args .k) (c .before .before .before .before .before .pre .1 .1 .1) in omega (arith, c .before .before .node-at .ensures)
+add-get c =
+    let start = c .before .before .before .before .before in
+    let z = spot-here (start .args .image .now) (start .args .s) (start .pre .0) (start .pre .1 .0) (words (start .args .lm .now)) (start .args .label) (start .args .k) (start .pre .1 .1 .1) in
+    omega (arith, c .before .before .node-at .ensures)
 
 -- src/descent.rt:127:21
 get-requires-2 : tie.Need-get-requires-2
-get-requires-2 c κs = let z = spot-here (c .before .before .before .before .before .args .image .now) (c .before .before .before .before .before .args .s) (c .before .before .before .before .before .pre .0) (c .before .before .before .before .before .pre .1 .0) (words (c .before .before .before .before .before .args .lm .now)) (c .before .before .before .before .before .args .label) (c .before .before .before .before .before .args .k) (c .before .before .before .before .before .pre .1 .1 .1) in omega (arith, c .before .before .node-at .ensures, c .before .before .before .before .before .pre .1 .0)
+get-requires-2 c κs =
+    let start = c .before .before .before .before .before in
+    let z = spot-here (start .args .image .now) (start .args .s) (start .pre .0) (start .pre .1 .0) (words (start .args .lm .now)) (start .args .label) (start .args .k) (start .pre .1 .1 .1) in
+    omega (arith, c .before .before .node-at .ensures, start .pre .1 .0)
 
 -- src/descent.rt:127:21
 cast-t15 : tie.Need-cast-t15
@@ -40,31 +49,87 @@ cast-t15 c = search needs
 
 -- src/descent.rt:124:9
 returns : tie.Need-returns
-returns c = λ g. leaf-way (c .before .before .before .before .before .before .args .image .now) (c .before .before .before .before .before .before .args .s) (c .before .before .before .before .before .before .pre .0) (c .before .before .before .before .before .before .pre .1 .0) (words (c .before .before .before .before .before .before .args .lm .now)) (c .before .before .before .before .before .before .args .label) (c .before .before .before .before .before .before .args .k) g (c .before .before .get .result) (c .get2 .result) (c .before .before .get .ensures ∙ ap (λ (j : ℕ). getD (words (c .before .before .before .before .before .before .args .image .now)) j 0) (c .before .before .before .node-at .ensures)) (c .before .if1 .taken) (c .get2 .ensures ∙ ap (λ (j : ℕ). getD (words (c .before .before .before .before .before .before .args .image .now)) (j + 2) 0) (c .before .before .before .node-at .ensures))
+returns c =
+    let start = c .before .before .before .before .before .before in
+    let node-at = c .before .before .before .node-at in
+    let get = c .before .before .get in
+    let W = words (start .args .image .now) in
+    λ g. leaf-way (start .args .image .now) (start .args .s) (start .pre .0) (start .pre .1 .0) (words (start .args .lm .now)) (start .args .label) (start .args .k) g
+    (get .result) (c .get2 .result) (get .ensures ∙ ap (λ (j : ℕ). getD W j 0) (node-at .ensures)) (c .before .if1 .taken)
+    (c .get2 .ensures ∙ ap (λ (j : ℕ). getD W (j + 2) 0) (node-at .ensures))
 
 -- src/descent.rt:130:50
 add-get-2 : tie.Need-add-get-2
-add-get-2 c = let z = spot-here (c .before .before .before .before .before .args .image .now) (c .before .before .before .before .before .args .s) (c .before .before .before .before .before .pre .0) (c .before .before .before .before .before .pre .1 .0) (words (c .before .before .before .before .before .args .lm .now)) (c .before .before .before .before .before .args .label) (c .before .before .before .before .before .args .k) (c .before .before .before .before .before .pre .1 .1 .1) in omega (arith, c .before .before .node-at .ensures)
+add-get-2 c =
+    let start = c .before .before .before .before .before in
+    let z = spot-here (start .args .image .now) (start .args .s) (start .pre .0) (start .pre .1 .0) (words (start .args .lm .now)) (start .args .label) (start .args .k) (start .pre .1 .1 .1) in
+    omega (arith, c .before .before .node-at .ensures)
 
 -- src/descent.rt:130:32
 get-requires-3 : tie.Need-get-requires-3
-get-requires-3 c κs = let z = spot-here (c .before .before .before .before .before .args .image .now) (c .before .before .before .before .before .args .s) (c .before .before .before .before .before .pre .0) (c .before .before .before .before .before .pre .1 .0) (words (c .before .before .before .before .before .args .lm .now)) (c .before .before .before .before .before .args .label) (c .before .before .before .before .before .args .k) (c .before .before .before .before .before .pre .1 .1 .1) in omega (arith, c .before .before .node-at .ensures, c .before .before .before .before .before .pre .1 .0)
+get-requires-3 c κs =
+    let start = c .before .before .before .before .before in
+    let z = spot-here (start .args .image .now) (start .args .s) (start .pre .0) (start .pre .1 .0) (words (start .args .lm .now)) (start .args .label) (start .args .k) (start .pre .1 .1 .1) in
+    omega (arith, c .before .before .node-at .ensures, start .pre .1 .0)
 
 -- src/descent.rt:130:8
 is-below-requires : tie.Need-is-below-requires
-is-below-requires c κs = let B = at-branch (c .before .before .before .before .before .before .args .image .now) (c .before .before .before .before .before .before .args .s) (c .before .before .before .before .before .before .pre .0) (c .before .before .before .before .before .before .pre .1 .0) (words (c .before .before .before .before .before .before .args .lm .now)) (c .before .before .before .before .before .before .args .label) (c .before .before .before .before .before .before .args .k) (c .before .before .before .before .before .before .pre .1 .1 .1) (λ z. (c .before .if1 .left) ((c .before .before .get .ensures ∙ ap (λ (j : ℕ). getD (words (c .before .before .before .before .before .before .args .image .now)) j 0) (c .before .before .before .node-at .ensures)) ∙ z)) in (c .before .before .before .before .before .before .pre .0, (c .before .before .before .before .before .before .pre .1 .0, (c .before .before .before .before .before .before .pre .1 .1 .0, ((omega (arith, (c .before .before .get .ensures ∙ ap (λ (j : ℕ). getD (words (c .before .before .before .before .before .before .args .image .now)) j 0) (c .before .before .before .node-at .ensures)), B .tag-is), omega (arith, (c .before .before .get .ensures ∙ ap (λ (j : ℕ). getD (words (c .before .before .before .before .before .before .args .image .now)) j 0) (c .before .before .before .node-at .ensures)), B .tag-is, B .dim-ok)), ratio-key (c .before .before .before .before .before .before .args .image .now) (c .before .before .before .before .before .before .args .s) (c .before .before .before .before .before .before .pre .0) (c .before .before .before .before .before .before .pre .1 .0) (words (c .before .before .before .before .before .before .args .lm .now)) (c .before .before .before .before .before .before .args .label) (c .before .before .before .before .before .before .args .k) (c .before .before .before .before .before .before .pre .1 .1 .1) B (c .before .before .get .result) (c .get3 .result) (c .before .before .get .ensures ∙ ap (λ (j : ℕ). getD (words (c .before .before .before .before .before .before .args .image .now)) j 0) (c .before .before .before .node-at .ensures)) (c .get3 .ensures ∙ ap (λ (j : ℕ). getD (words (c .before .before .before .before .before .before .args .image .now)) (j + 1) 0) (c .before .before .before .node-at .ensures))))))
+is-below-requires c κs =
+    let start = c .before .before .before .before .before .before in
+    let node-at = c .before .before .before .node-at in
+    let get = c .before .before .get in
+    let W = words (start .args .image .now) in
+    let B = at-branch (start .args .image .now) (start .args .s) (start .pre .0) (start .pre .1 .0) (words (start .args .lm .now)) (start .args .label) (start .args .k)
+    (start .pre .1 .1 .1) (λ z. (c .before .if1 .left) ((get .ensures ∙ ap (λ (j : ℕ). getD W j 0) (node-at .ensures)) ∙ z)) in (
+      start .pre .0,
+      (
+        start .pre .1 .0,
+        (
+          start .pre .1 .1 .0,
+          (
+            (
+              omega (arith, (get .ensures ∙ ap (λ (j : ℕ). getD W j 0) (node-at .ensures)), B .tag-is),
+              omega (arith, (get .ensures ∙ ap (λ (j : ℕ). getD W j 0) (node-at .ensures)), B .tag-is, B .dim-ok),
+            ),
+            ratio-key (start .args .image .now) (start .args .s) (start .pre .0) (start .pre .1 .0) (words (start .args .lm .now)) (start .args .label) (start .args .k)
+                (start .pre .1 .1 .1) B (get .result) (c .get3 .result) (get .ensures ∙ ap (λ (j : ℕ). getD W j 0) (node-at .ensures))
+                (c .get3 .ensures ∙ ap (λ (j : ℕ). getD W (j + 1) 0) (node-at .ensures)),
+          ),
+        ),
+      ),
+    )
 
 -- src/descent.rt:131:9
 returns-2 : tie.Need-returns-2
-returns-2 c = λ g. let B = at-branch (c .before .before .before .before .before .before .before .before .args .image .now) (c .before .before .before .before .before .before .before .before .args .s) (c .before .before .before .before .before .before .before .before .pre .0) (c .before .before .before .before .before .before .before .before .pre .1 .0) (words (c .before .before .before .before .before .before .before .before .args .lm .now)) (c .before .before .before .before .before .before .before .before .args .label) (c .before .before .before .before .before .before .before .before .args .k) g (λ z. (c .before .before .before .if1 .left) ((c .before .before .before .before .get .ensures ∙ ap (λ (j : ℕ). getD (words (c .before .before .before .before .before .before .before .before .args .image .now)) j 0) (c .before .before .before .before .before .node-at .ensures)) ∙ z)) in less-way (c .before .before .before .before .before .before .before .before .args .image .now) (c .before .before .before .before .before .before .before .before .args .s) (c .before .before .before .before .before .before .before .before .pre .0) (c .before .before .before .before .before .before .before .before .pre .1 .0) (words (c .before .before .before .before .before .before .before .before .args .lm .now)) (c .before .before .before .before .before .before .before .before .args .label) (c .before .before .before .before .before .before .before .before .args .k) g B (sym (tested (c .before .before .before .before .before .before .before .before .args .image .now) (c .before .before .before .before .before .before .before .before .args .s) (c .before .before .before .before .before .before .before .before .pre .0) (c .before .before .before .before .before .before .before .before .pre .1 .0) (words (c .before .before .before .before .before .before .before .before .args .lm .now)) (c .before .before .before .before .before .before .before .before .args .label) (c .before .before .before .before .before .before .before .before .args .k) g B (c .before .before .before .before .get .result) (c .before .before .get3 .result) (c .before .before .before .before .get .ensures ∙ ap (λ (j : ℕ). getD (words (c .before .before .before .before .before .before .before .before .args .image .now)) j 0) (c .before .before .before .before .before .node-at .ensures)) (c .before .before .get3 .ensures ∙ ap (λ (j : ℕ). getD (words (c .before .before .before .before .before .before .before .before .args .image .now)) (j + 1) 0) (c .before .before .before .before .before .node-at .ensures))) ∙ (sym (c .before .is-below .ensures) ∙ c .if2 .taken))
+returns-2 c =
+    let start = c .before .before .before .before .before .before .before .before in
+    let node-at = c .before .before .before .before .before .node-at in
+    let get = c .before .before .before .before .get in
+    let if1 = c .before .before .before .if1 in
+    let get3 = c .before .before .get3 in
+    let W = words (start .args .image .now) in
+    λ g. let B = at-branch (start .args .image .now) (start .args .s) (start .pre .0) (start .pre .1 .0) (words (start .args .lm .now)) (start .args .label)
+    (start .args .k) g (λ z. (if1 .left) ((get .ensures ∙ ap (λ (j : ℕ). getD W j 0) (node-at .ensures)) ∙ z)) in less-way (start .args .image .now) (start .args .s)
+    (start .pre .0) (start .pre .1 .0) (words (start .args .lm .now)) (start .args .label) (start .args .k) g B
+    (sym (tested (start .args .image .now) (start .args .s) (start .pre .0) (start .pre .1 .0) (words (start .args .lm .now)) (start .args .label) (start .args .k) g
+    B (get .result) (get3 .result) (get .ensures ∙ ap (λ (j : ℕ). getD W j 0) (node-at .ensures))
+    (get3 .ensures ∙ ap (λ (j : ℕ). getD W (j + 1) 0) (node-at .ensures))) ∙ (sym (c .before .is-below .ensures) ∙ c .if2 .taken))
 
 -- src/descent.rt:137:34
 add-get-3 : tie.Need-add-get-3
-add-get-3 c = let z = spot-here (c .before .before .before .before .before .before .before .before .args .image .now) (c .before .before .before .before .before .before .before .before .args .s) (c .before .before .before .before .before .before .before .before .pre .0) (c .before .before .before .before .before .before .before .before .pre .1 .0) (words (c .before .before .before .before .before .before .before .before .args .lm .now)) (c .before .before .before .before .before .before .before .before .args .label) (c .before .before .before .before .before .before .before .before .args .k) (c .before .before .before .before .before .before .before .before .pre .1 .1 .1) in omega (arith, c .before .before .before .before .before .node-at .ensures)
+add-get-3 c =
+    let start = c .before .before .before .before .before .before .before .before in
+    let node-at = c .before .before .before .before .before .node-at in
+    let z = spot-here (start .args .image .now) (start .args .s) (start .pre .0) (start .pre .1 .0) (words (start .args .lm .now)) (start .args .label) (start .args .k) (start .pre .1 .1 .1) in
+    omega (arith, node-at .ensures)
 
 -- src/descent.rt:137:16
 get-requires-4 : tie.Need-get-requires-4
-get-requires-4 c κs = let z = spot-here (c .before .before .before .before .before .before .before .before .args .image .now) (c .before .before .before .before .before .before .before .before .args .s) (c .before .before .before .before .before .before .before .before .pre .0) (c .before .before .before .before .before .before .before .before .pre .1 .0) (words (c .before .before .before .before .before .before .before .before .args .lm .now)) (c .before .before .before .before .before .before .before .before .args .label) (c .before .before .before .before .before .before .before .before .args .k) (c .before .before .before .before .before .before .before .before .pre .1 .1 .1) in omega (arith, c .before .before .before .before .before .node-at .ensures, c .before .before .before .before .before .before .before .before .pre .1 .0)
+get-requires-4 c κs =
+    let start = c .before .before .before .before .before .before .before .before in
+    let node-at = c .before .before .before .before .before .node-at in
+    let z = spot-here (start .args .image .now) (start .args .s) (start .pre .0) (start .pre .1 .0) (words (start .args .lm .now)) (start .args .label) (start .args .k) (start .pre .1 .1 .1) in
+    omega (arith, node-at .ensures, start .pre .1 .0)
 
 -- src/descent.rt:137:16
 cast-skip : tie.Need-cast-skip
@@ -76,15 +141,30 @@ add-less c = search needs
 
 -- src/descent.rt:138:16
 add-less-2 : tie.Need-add-less-2
-add-less-2 c = let z = spot-here (c .before .before .before .before .before .before .before .before .before .before .args .image .now) (c .before .before .before .before .before .before .before .before .before .before .args .s) (c .before .before .before .before .before .before .before .before .before .before .pre .0) (c .before .before .before .before .before .before .before .before .before .before .pre .1 .0) (words (c .before .before .before .before .before .before .before .before .before .before .args .lm .now)) (c .before .before .before .before .before .before .before .before .before .before .args .label) (c .before .before .before .before .before .before .before .before .before .before .args .k) (c .before .before .before .before .before .before .before .before .before .before .pre .1 .1 .1) in omega (arith, c .before .before .before .before .before .before .before .node-at .ensures)
+add-less-2 c =
+    let start = c .before .before .before .before .before .before .before .before .before .before in
+    let node-at = c .before .before .before .before .before .before .before .node-at in
+    let z = spot-here (start .args .image .now) (start .args .s) (start .pre .0) (start .pre .1 .0) (words (start .args .lm .now)) (start .args .label) (start .args .k) (start .pre .1 .1 .1) in
+    omega (arith, node-at .ensures)
 
 -- src/descent.rt:139:36
 add-get-4 : tie.Need-add-get-4
-add-get-4 c = let z = spot-here (c .before .before .before .before .before .before .before .before .before .before .args .image .now) (c .before .before .before .before .before .before .before .before .before .before .args .s) (c .before .before .before .before .before .before .before .before .before .before .pre .0) (c .before .before .before .before .before .before .before .before .before .before .pre .1 .0) (words (c .before .before .before .before .before .before .before .before .before .before .args .lm .now)) (c .before .before .before .before .before .before .before .before .before .before .args .label) (c .before .before .before .before .before .before .before .before .before .before .args .k) (c .before .before .before .before .before .before .before .before .before .before .pre .1 .1 .1) in omega (arith, c .before .before .before .before .before .before .before .node-at .ensures)
+add-get-4 c =
+    let start = c .before .before .before .before .before .before .before .before .before .before in
+    let node-at = c .before .before .before .before .before .before .before .node-at in
+    let z = spot-here (start .args .image .now) (start .args .s) (start .pre .0) (start .pre .1 .0) (words (start .args .lm .now)) (start .args .label) (start .args .k) (start .pre .1 .1 .1) in
+    omega (arith, node-at .ensures)
 
 -- src/descent.rt:139:18
 get-requires-5 : tie.Need-get-requires-5
-get-requires-5 c κs = let B = at-branch (c .before .before .before .before .before .before .before .before .before .before .args .image .now) (c .before .before .before .before .before .before .before .before .before .before .args .s) (c .before .before .before .before .before .before .before .before .before .before .pre .0) (c .before .before .before .before .before .before .before .before .before .before .pre .1 .0) (words (c .before .before .before .before .before .before .before .before .before .before .args .lm .now)) (c .before .before .before .before .before .before .before .before .before .before .args .label) (c .before .before .before .before .before .before .before .before .before .before .args .k) (c .before .before .before .before .before .before .before .before .before .before .pre .1 .1 .1) (λ z. (c .before .before .before .before .before .if1 .left) ((c .before .before .before .before .before .before .get .ensures ∙ ap (λ (j : ℕ). getD (words (c .before .before .before .before .before .before .before .before .before .before .args .image .now)) j 0) (c .before .before .before .before .before .before .before .node-at .ensures)) ∙ z)) in omega (arith, spot (c .before .before .before .before .before .before .before .before .before .before .args .s) (c .before .before .before .before .before .before .before .before .before .before .pre .0) ((c .before .before .before .before .before .before .before .before .before .before .args .k) + 1) (omega (arith, B .two)) .fits, row-behind (c .before .before .before .before .before .before .before .before .before .before .args .s) (c .before .before .before .before .before .before .before .before .before .before .args .k), c .before .before .before .before .before .before .before .node-at .ensures, c .before .before .before .before .before .before .before .before .before .before .pre .1 .0)
+get-requires-5 c κs =
+    let start = c .before .before .before .before .before .before .before .before .before .before in
+    let node-at = c .before .before .before .before .before .before .before .node-at in
+    let get = c .before .before .before .before .before .before .get in
+    let if1 = c .before .before .before .before .before .if1 in
+    let B = at-branch (start .args .image .now) (start .args .s) (start .pre .0) (start .pre .1 .0) (words (start .args .lm .now)) (start .args .label) (start .args .k)
+    (start .pre .1 .1 .1) (λ z. (if1 .left) ((get .ensures ∙ ap (λ (j : ℕ). getD (words (start .args .image .now)) j 0) (node-at .ensures)) ∙ z)) in
+    omega (arith, spot (start .args .s) (start .pre .0) ((start .args .k) + 1) (omega (arith, B .two)) .fits, row-behind (start .args .s) (start .args .k), node-at .ensures, start .pre .1 .0)
 
 -- src/descent.rt:139:18
 cast-passed : tie.Need-cast-passed
@@ -96,7 +176,24 @@ add-t17 c = search needs
 
 -- src/descent.rt:114:1
 returns-3 : tie.Need-returns-3
-returns-3 c = λ g. let B = at-branch (c .before .before .before .before .before .before .before .before .before .before .before .args .image .now) (c .before .before .before .before .before .before .before .before .before .before .before .args .s) (c .before .before .before .before .before .before .before .before .before .before .before .pre .0) (c .before .before .before .before .before .before .before .before .before .before .before .pre .1 .0) (words (c .before .before .before .before .before .before .before .before .before .before .before .args .lm .now)) (c .before .before .before .before .before .before .before .before .before .before .before .args .label) (c .before .before .before .before .before .before .before .before .before .before .before .args .k) g (λ z. (c .before .before .before .before .before .before .if1 .left) ((c .before .before .before .before .before .before .before .get .ensures ∙ ap (λ (j : ℕ). getD (words (c .before .before .before .before .before .before .before .before .before .before .before .args .image .now)) j 0) (c .before .before .before .before .before .before .before .before .node-at .ensures)) ∙ z)) in other-way (c .before .before .before .before .before .before .before .before .before .before .before .args .image .now) (c .before .before .before .before .before .before .before .before .before .before .before .args .s) (c .before .before .before .before .before .before .before .before .before .before .before .pre .0) (c .before .before .before .before .before .before .before .before .before .before .before .pre .1 .0) (words (c .before .before .before .before .before .before .before .before .before .before .before .args .lm .now)) (c .before .before .before .before .before .before .before .before .before .before .before .args .label) (c .before .before .before .before .before .before .before .before .before .before .before .args .k) g B (c .before .before .get4 .result) (c .get5 .result) (sym (tested (c .before .before .before .before .before .before .before .before .before .before .before .args .image .now) (c .before .before .before .before .before .before .before .before .before .before .before .args .s) (c .before .before .before .before .before .before .before .before .before .before .before .pre .0) (c .before .before .before .before .before .before .before .before .before .before .before .pre .1 .0) (words (c .before .before .before .before .before .before .before .before .before .before .before .args .lm .now)) (c .before .before .before .before .before .before .before .before .before .before .before .args .label) (c .before .before .before .before .before .before .before .before .before .before .before .args .k) g B (c .before .before .before .before .before .before .before .get .result) (c .before .before .before .before .before .get3 .result) (c .before .before .before .before .before .before .before .get .ensures ∙ ap (λ (j : ℕ). getD (words (c .before .before .before .before .before .before .before .before .before .before .before .args .image .now)) j 0) (c .before .before .before .before .before .before .before .before .node-at .ensures)) (c .before .before .before .before .before .get3 .ensures ∙ ap (λ (j : ℕ). getD (words (c .before .before .before .before .before .before .before .before .before .before .before .args .image .now)) (j + 1) 0) (c .before .before .before .before .before .before .before .before .node-at .ensures))) ∙ (sym (c .before .before .before .before .is-below .ensures) ∙ c .before .before .before .if2 .left)) (c .before .before .get4 .ensures ∙ ap (λ (j : ℕ). getD (words (c .before .before .before .before .before .before .before .before .before .before .before .args .image .now)) (j + 3) 0) (c .before .before .before .before .before .before .before .before .node-at .ensures)) (c .get5 .ensures ∙ ap (λ (j : ℕ). getD (words (c .before .before .before .before .before .before .before .before .before .before .before .args .image .now)) (j + ((c .before .before .before .before .before .before .before .before .before .before .before .args .s .variables) + 6) + 2) 0) (c .before .before .before .before .before .before .before .before .node-at .ensures))
+returns-3 c =
+    let start = c .before .before .before .before .before .before .before .before .before .before .before in
+    let node-at = c .before .before .before .before .before .before .before .before .node-at in
+    let get = c .before .before .before .before .before .before .before .get in
+    let if1 = c .before .before .before .before .before .before .if1 in
+    let get3 = c .before .before .before .before .before .get3 in
+    let is-below = c .before .before .before .before .is-below in
+    let if2 = c .before .before .before .if2 in
+    let get4 = c .before .before .get4 in
+    let W = words (start .args .image .now) in
+    λ g. let B = at-branch (start .args .image .now) (start .args .s) (start .pre .0) (start .pre .1 .0) (words (start .args .lm .now)) (start .args .label)
+    (start .args .k) g (λ z. (if1 .left) ((get .ensures ∙ ap (λ (j : ℕ). getD W j 0) (node-at .ensures)) ∙ z)) in other-way (start .args .image .now) (start .args .s)
+    (start .pre .0) (start .pre .1 .0) (words (start .args .lm .now)) (start .args .label) (start .args .k) g B (get4 .result) (c .get5 .result)
+    (sym (tested (start .args .image .now) (start .args .s) (start .pre .0) (start .pre .1 .0) (words (start .args .lm .now)) (start .args .label) (start .args .k) g
+    B (get .result) (get3 .result) (get .ensures ∙ ap (λ (j : ℕ). getD W j 0) (node-at .ensures))
+    (get3 .ensures ∙ ap (λ (j : ℕ). getD W (j + 1) 0) (node-at .ensures))) ∙ (sym (is-below .ensures) ∙ if2 .left))
+    (get4 .ensures ∙ ap (λ (j : ℕ). getD W (j + 3) 0) (node-at .ensures))
+    (c .get5 .ensures ∙ ap (λ (j : ℕ). getD W (j + ((start .args .s .variables) + 6) + 2) 0) (node-at .ensures))
 
 pub next-step-spec : {M : Type 1} → statement M
 next-step-spec =

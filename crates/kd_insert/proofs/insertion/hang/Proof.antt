@@ -21,11 +21,26 @@ permutation-at-requires c κs = search needs
 
 -- src/insertion.rt:43:9
 descend-requires : tie.Need-descend-requires
-descend-requires c κs = (c .before .before .before .before .pre .0, (c .before .before .before .before .pre .1 .0, (c .before .before .before .before .pre .1 .1 .0, (c .before .before .before .before .pre .1 .1 .1 .0, (c .before .before .before .before .pre .1 .1 .1 .1 .0, (c .before .before .before .before .pre .1 .1 .1 .1 .1 .1) .growth)))))
+descend-requires c κs =
+    let start = c .before .before .before .before in
+    (start .pre .0, (start .pre .1 .0, (start .pre .1 .1 .0, (start .pre .1 .1 .1 .0, (start .pre .1 .1 .1 .1 .0, (start .pre .1 .1 .1 .1 .1 .1) .growth)))))
 
 -- src/insertion.rt:44:32
 add-insert : tie.Need-add-insert
-add-insert c = omega (arith, c .before .before .before .before .before .permutation-at .ensures, (c .before .before .before .descend .ensures) ((c .before .before .before .before .before .before .before .before .pre .1 .1 .1 .1 .1 .1) .growth) .0, place-inside (growing.keys ((c .before .before .before .before .before .before .before .before .pre .1 .1 .1 .1 .1 .1) .growth)) ((c .before .before .before .before .before .before .before .before .pre .1 .1 .1 .1 .1 .1) .growth .entry) ((c .before .before .before .before .before .before .before .before .pre .1 .1 .1 .1 .1 .1) .growth .tree), (c .before .before .before .before .before .before .before .before .pre .1 .1 .1 .1 .1 .1) .all, size-small (c .before .before .before .before .before .before .before .before .args .s) (c .before .before .before .before .before .before .before .before .pre .0), c .before .before .before .before .before .before .before .before .pre .1 .1 .1 .1 .1 .0)
+add-insert c =
+    let start = c .before .before .before .before .before .before .before .before in
+    let permutation-at = c .before .before .before .before .before .permutation-at in
+    let descend = c .before .before .before .descend in
+    omega (
+      arith,
+      permutation-at .ensures,
+      (descend .ensures) ((start .pre .1 .1 .1 .1 .1 .1) .growth) .0,
+      place-inside (growing.keys ((start .pre .1 .1 .1 .1 .1 .1) .growth)) ((start .pre .1 .1 .1 .1 .1 .1) .growth .entry)
+          ((start .pre .1 .1 .1 .1 .1 .1) .growth .tree),
+      (start .pre .1 .1 .1 .1 .1 .1) .all,
+      size-small (start .args .s) (start .pre .0),
+      start .pre .1 .1 .1 .1 .1 .0,
+    )
 
 -- src/insertion.rt:44:40
 add-insert-2 : tie.Need-add-insert-2
@@ -37,7 +52,19 @@ cast-insert c = search needs
 
 -- src/insertion.rt:44:5
 insert-requires : tie.Need-insert-requires
-insert-requires c κs = (omega (arith, (c .before .before .before .descend .ensures) ((c .before .before .before .before .before .before .before .before .pre .1 .1 .1 .1 .1 .1) .growth) .0, place-inside (growing.keys ((c .before .before .before .before .before .before .before .before .pre .1 .1 .1 .1 .1 .1) .growth)) ((c .before .before .before .before .before .before .before .before .pre .1 .1 .1 .1 .1 .1) .growth .entry) ((c .before .before .before .before .before .before .before .before .pre .1 .1 .1 .1 .1 .1) .growth .tree), (c .before .before .before .before .before .before .before .before .pre .1 .1 .1 .1 .1 .1) .all), omega (arith, c .before .before .before .before .before .permutation-at .ensures, c .before .before .before .descend .kept .0, c .before .before .before .before .before .before .before .before .pre .1 .0, c .before .before .before .before .before .before .before .before .pre .1 .1 .1 .1 .1 .0))
+insert-requires c κs =
+    let start = c .before .before .before .before .before .before .before .before in
+    let permutation-at = c .before .before .before .before .before .permutation-at in
+    let descend = c .before .before .before .descend in (
+      omega (
+        arith,
+        (descend .ensures) ((start .pre .1 .1 .1 .1 .1 .1) .growth) .0,
+        place-inside (growing.keys ((start .pre .1 .1 .1 .1 .1 .1) .growth)) ((start .pre .1 .1 .1 .1 .1 .1) .growth .entry)
+            ((start .pre .1 .1 .1 .1 .1 .1) .growth .tree),
+        (start .pre .1 .1 .1 .1 .1 .1) .all,
+      ),
+      omega (arith, permutation-at .ensures, descend .kept .0, start .pre .1 .0, start .pre .1 .1 .1 .1 .1 .0),
+    )
 
 -- src/insertion.rt:45:26
 cast-put : tie.Need-cast-put
@@ -57,7 +84,14 @@ same-length c = search needs
 
 -- src/insertion.rt:31:1
 returns : tie.Need-returns
-returns c = λ h. hung-is (c .before .before .before .before .before .before .before .before .before .before .before .before .before .before .before .args .image .now) (c .before .before .before .before .before .before .before .before .before .before .descend .last .0) (c .before .before .before .before .before .before .insert .last .0) _ (c .before .before .before .before .before .before .before .before .before .before .before .before .before .before .before .args .s) (words (c .before .before .before .before .before .before .before .before .before .before .before .before .before .before .before .args .lm .now)) (c .before .before .before .before .before .before .before .before .before .before .before .before .before .before .before .args .label) (c .before .before .before .before .before .before .before .before .before .before .before .before .permutation-at .result) (c .before .before .before .before .before .before .before .before .before .before .descend .result) (h .growth) (c .before .before .before .before .before .before .before .before .before .before .before .before .before .before .before .pre .0) (c .before .before .before .before .before .before .before .before .before .before .before .before .before .before .before .pre .1 .0) (h .all) (c .before .before .before .before .before .before .before .before .before .before .before .before .before .before .before .pre .1 .1 .1 .1 .1 .0) (c .before .before .before .before .before .before .before .before .before .before .before .before .permutation-at .ensures) ((c .before .before .before .before .before .before .before .before .before .before .descend .ensures) (h .growth) .0) ((c .before .before .before .before .before .before .before .before .before .before .descend .ensures) (h .growth) .1) (c .before .before .before .before .before .before .insert .ensures) (c .before .before .put .ensures) (c .before .before .before .before .before .before .insert .kept .0 ∙ c .before .before .before .before .before .before .before .before .before .before .descend .kept .0)
+returns c =
+    let start = c .before .before .before .before .before .before .before .before .before .before .before .before .before .before .before in
+    let permutation-at = c .before .before .before .before .before .before .before .before .before .before .before .before .permutation-at in
+    let descend = c .before .before .before .before .before .before .before .before .before .before .descend in
+    let insert = c .before .before .before .before .before .before .insert in
+    λ h. hung-is (start .args .image .now) (descend .last .0) (insert .last .0) _ (start .args .s) (words (start .args .lm .now)) (start .args .label)
+    (permutation-at .result) (descend .result) (h .growth) (start .pre .0) (start .pre .1 .0) (h .all) (start .pre .1 .1 .1 .1 .1 .0) (permutation-at .ensures)
+    ((descend .ensures) (h .growth) .0) ((descend .ensures) (h .growth) .1) (insert .ensures) (c .before .before .put .ensures) (insert .kept .0 ∙ descend .kept .0)
 
 pub hang-spec : {M : Type 1} → statement M
 hang-spec =

@@ -18,7 +18,11 @@ use Rattle.kd_insert.proofs.slots.write_masked.Reads as write-masked-re
 
 -- src/insertion.rt:57:5
 track-requires : tie.Need-track-requires
-track-requires c κs = (basics (c .before .before .before .args .image .now) (c .before .before .before .args .s) (c .before .before .before .pre .0) .range, (basics (c .before .before .before .args .image .now) (c .before .before .before .args .s) (c .before .before .before .pre .0) .room, (basics (c .before .before .before .args .image .now) (c .before .before .before .args .s) (c .before .before .before .pre .0) .present, c .before .before .before .pre .1 .1 .0)))
+track-requires c κs =
+    let start = c .before .before .before in (
+      basics (start .args .image .now) (start .args .s) (start .pre .0) .range,
+      (basics (start .args .image .now) (start .args .s) (start .pre .0) .room, (basics (start .args .image .now) (start .args .s) (start .pre .0) .present, start .pre .1 .1 .0)),
+    )
 
 -- src/insertion.rt:58:42
 entry-at-requires : tie.Need-entry-at-requires
@@ -26,11 +30,68 @@ entry-at-requires c κs = search needs
 
 -- src/insertion.rt:58:5
 write-masked-requires : tie.Need-write-masked-requires
-write-masked-requires c κs = let b = basics (c .before .before .before .before .before .before .before .before .args .image .now) (c .before .before .before .before .before .before .before .before .args .s) (c .before .before .before .before .before .before .before .before .pre .0) in let t = map-tracked (c .before .before .before .before .before .before .before .before .args .image .now) (c .before .before .before .before .track .last .0) (c .before .before .before .before .before .before .before .before .args .s) (words (c .before .before .before .before .before .before .before .before .args .lm .now)) (basics (c .before .before .before .before .before .before .before .before .args .image .now) (c .before .before .before .before .before .before .before .before .args .s) (c .before .before .before .before .before .before .before .before .pre .0)) (c .before .before .before .before .track .ensures) in (b .range, (omega (arith, t .0, b .room), (rw (t .1) (b .map), (c .before .before .before .before .before .before .before .before .pre .1 .1 .0, (c .before .before .before .before .before .before .before .before .pre .1 .1 .1, omega (arith, c .entry-at .ensures, entry-inside (c .before .before .before .before .before .before .before .before .args .s) (b .range) (c .before .before .before .before .before .before .before .before .args .s .entries) (c .before .before .before .before .before .before .before .before .pre .0 .few), width-least (c .before .before .before .before .before .before .before .before .args .s) (b .range)))))))
+write-masked-requires c κs =
+    let start = c .before .before .before .before .before .before .before .before in
+    let track = c .before .before .before .before .track in
+    let b = basics (start .args .image .now) (start .args .s) (start .pre .0) in
+    let t = map-tracked (start .args .image .now) (track .last .0) (start .args .s) (words (start .args .lm .now))
+    (basics (start .args .image .now) (start .args .s) (start .pre .0)) (track .ensures) in (
+      b .range,
+      (
+        omega (arith, t .0, b .room),
+        (
+          rw (t .1) (b .map),
+          (
+            start .pre .1 .1 .0,
+            (
+              start .pre .1 .1 .1,
+              omega (
+                arith,
+                c .entry-at .ensures,
+                entry-inside (start .args .s) (b .range) (start .args .s .entries) (start .pre .0 .few),
+                width-least (start .args .s) (b .range),
+              ),
+            ),
+          ),
+        ),
+      ),
+    )
 
 -- src/insertion.rt:59:5
 hang-requires : tie.Need-hang-requires
-hang-requires c κs = let b = basics (c .before .before .before .before .before .before .before .before .before .before .before .before .args .image .now) (c .before .before .before .before .before .before .before .before .before .before .before .before .args .s) (c .before .before .before .before .before .before .before .before .before .before .before .before .pre .0) in let t = map-tracked (c .before .before .before .before .before .before .before .before .before .before .before .before .args .image .now) (c .before .before .before .before .before .before .before .before .track .last .0) (c .before .before .before .before .before .before .before .before .before .before .before .before .args .s) (words (c .before .before .before .before .before .before .before .before .before .before .before .before .args .lm .now)) (basics (c .before .before .before .before .before .before .before .before .before .before .before .before .args .image .now) (c .before .before .before .before .before .before .before .before .before .before .before .before .args .s) (c .before .before .before .before .before .before .before .before .before .before .before .before .pre .0)) (c .before .before .before .before .before .before .before .before .track .ensures) in (b .range, (omega (arith, c .before .before .before .write-masked .kept .0, t .0, b .room), (rw (map-entered (c .before .before .before .before .before .before .before .before .track .last .0) (c .before .before .before .write-masked .last .0) (c .before .before .before .before .before .before .before .before .before .before .before .before .args .s) (c .before .before .before .before .entry-at .result) _ (omega (arith, t .0, b .room, c .before .before .before .before .entry-at .ensures, entry-inside (c .before .before .before .before .before .before .before .before .before .before .before .before .args .s) (b .range) (c .before .before .before .before .before .before .before .before .before .before .before .before .args .s .entries) (c .before .before .before .before .before .before .before .before .before .before .before .before .pre .0 .few))) (omega (arith, c .before .before .before .before .entry-at .ensures)) (c .before .before .before .write-masked .ensures) ∙ t .1) (b .map), (c .before .before .before .before .before .before .before .before .before .before .before .before .pre .1 .1 .0, (c .before .before .before .before .before .before .before .before .before .before .before .before .pre .1 .1 .1, (c .before .before .before .before .before .before .before .before .before .before .before .before .pre .0 .few, monomial-hangs (c .before .before .before .before .before .before .before .before .before .before .before .before .args .image .now) (c .before .before .before .before .before .before .before .before .track .last .0) (c .before .before .before .write-masked .last .0) (words (c .before .before .before .before .before .before .before .before .before .before .before .before .args .lm .now)) (c .before .before .before .before .before .before .before .before .before .before .before .before .args .s) (λ j. (c .before .before .before .before .before .before .before .before .before .before .before .slice-known .given) j .fits) (c .before .before .before .before .before .before .before .before .before .before .before .before .pre .0) (c .before .before .before .before .before .before .before .before .track .ensures, (rw (c .before .before .before .before .entry-at .ensures) at (c .before .before .before .write-masked .ensures), (c .before .before .before .before .before .before .before .before .before .before .before .before .pre .1 .1 .0, (c .before .before .before .before .before .before .before .before .before .before .before .before .pre .1 .0, c .before .before .before .before .before .before .before .before .before .before .before .before .pre .0 .few))))))))))
+hang-requires c κs =
+    let start = c .before .before .before .before .before .before .before .before .before .before .before .before in
+    let slice-known = c .before .before .before .before .before .before .before .before .before .before .before .slice-known in
+    let track = c .before .before .before .before .before .before .before .before .track in
+    let entry-at = c .before .before .before .before .entry-at in
+    let write-masked = c .before .before .before .write-masked in
+    let b = basics (start .args .image .now) (start .args .s) (start .pre .0) in
+    let t = map-tracked (start .args .image .now) (track .last .0) (start .args .s) (words (start .args .lm .now))
+    (basics (start .args .image .now) (start .args .s) (start .pre .0)) (track .ensures) in (
+      b .range,
+      (
+        omega (arith, write-masked .kept .0, t .0, b .room),
+        (
+          rw (map-entered (track .last .0) (write-masked .last .0) (start .args .s) (entry-at .result) _
+              (omega (arith, t .0, b .room, entry-at .ensures, entry-inside (start .args .s) (b .range) (start .args .s .entries) (start .pre .0 .few)))
+              (omega (arith, entry-at .ensures)) (write-masked .ensures) ∙ t .1) (b .map),
+          (
+            start .pre .1 .1 .0,
+            (
+              start .pre .1 .1 .1,
+              (
+                start .pre .0 .few,
+                monomial-hangs (start .args .image .now) (track .last .0) (write-masked .last .0) (words (start .args .lm .now)) (start .args .s)
+                    (λ j. (slice-known .given) j .fits) (start .pre .0) (
+                      track .ensures,
+                      (rw (entry-at .ensures) at (write-masked .ensures), (start .pre .1 .1 .0, (start .pre .1 .0, start .pre .0 .few))),
+                    ),
+              ),
+            ),
+          ),
+        ),
+      ),
+    )
 
 -- src/insertion.rt:49:1
 same-length : tie.Need-same-length
@@ -38,7 +99,18 @@ same-length c = search needs
 
 -- src/insertion.rt:49:1
 returns : tie.Need-returns
-returns c = monomial-inserted (c .before .before .before .before .before .before .before .before .before .before .before .before .before .before .before .args .image .now) (c .before .before .before .before .before .before .before .before .before .before .before .track .last .0) (c .before .before .before .before .before .before .write-masked .last .0) (c .before .before .hang .last .0) (words (c .before .before .before .before .before .before .before .before .before .before .before .before .before .before .before .args .lm .now)) (c .before .before .before .before .before .before .before .before .before .before .before .before .before .before .before .args .s) (λ j. (c .before .before .before .before .before .before .before .before .before .before .before .before .before .before .slice-known .given) j .fits) (c .before .before .before .before .before .before .before .before .before .before .before .before .before .before .before .pre .0) (c .before .before .before .before .before .before .before .before .before .before .before .track .ensures, (rw (c .before .before .before .before .before .before .before .entry-at .ensures) at (c .before .before .before .before .before .before .write-masked .ensures), (c .before .before .before .before .before .before .before .before .before .before .before .before .before .before .before .pre .1 .1 .0, (c .before .before .before .before .before .before .before .before .before .before .before .before .before .before .before .pre .1 .0, c .before .before .before .before .before .before .before .before .before .before .before .before .before .before .before .pre .0 .few)))) (c .before .before .hang .ensures)
+returns c =
+    let start = c .before .before .before .before .before .before .before .before .before .before .before .before .before .before .before in
+    let slice-known = c .before .before .before .before .before .before .before .before .before .before .before .before .before .before .slice-known in
+    let track = c .before .before .before .before .before .before .before .before .before .before .before .track in
+    let entry-at = c .before .before .before .before .before .before .before .entry-at in
+    let write-masked = c .before .before .before .before .before .before .write-masked in
+    let hang = c .before .before .hang in
+    monomial-inserted (start .args .image .now) (track .last .0) (write-masked .last .0) (hang .last .0) (words (start .args .lm .now)) (start .args .s)
+    (λ j. (slice-known .given) j .fits) (start .pre .0) (
+      track .ensures,
+      (rw (entry-at .ensures) at (write-masked .ensures), (start .pre .1 .1 .0, (start .pre .1 .0, start .pre .0 .few))),
+    ) (hang .ensures)
 
 pub insert-monomial-spec : {M : Type 1} → statement M
 insert-monomial-spec =

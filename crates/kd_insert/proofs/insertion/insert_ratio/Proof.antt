@@ -17,19 +17,56 @@ use Rattle.kd_insert.proofs.slots.write_ratio_row.Reads as write-ratio-
 
 -- src/insertion.rt:73:9
 label-entry-requires : tie.Need-label-entry-requires
-label-entry-requires c κs = let b = basics (c .before .before .before .before .args .image .now) (c .before .before .before .before .args .s) (c .before .before .before .before .pre .0) in (b .range, (b .room, ((c .before .before .before .before .pre .1 .0), (label-ready (c .before .before .before .before .args .image .now) (c .before .before .before .before .args .s) (c .before .before .before .before .pre .0) (c .before .before .before .before .pre .1 .0), ((c .before .before .before .before .pre .1 .1 .0), ((c .before .before .before .before .pre .1 .1 .1 .0 .0), (c .before .before .before .before .pre .1 .1 .1 .1 .0)))))))
+label-entry-requires c κs =
+    let start = c .before .before .before .before in
+    let b = basics (start .args .image .now) (start .args .s) (start .pre .0) in (
+      b .range,
+      (
+        b .room,
+        (
+          (start .pre .1 .0),
+          (
+            label-ready (start .args .image .now) (start .args .s) (start .pre .0) (start .pre .1 .0),
+            ((start .pre .1 .1 .0), ((start .pre .1 .1 .1 .0 .0), (start .pre .1 .1 .1 .1 .0))),
+          ),
+        ),
+      ),
+    )
 
 -- src/insertion.rt:74:9
 label-at-requires : tie.Need-label-at-requires
-label-at-requires c κs = let b = early (c .before .before .before .before .before .before .before .before .args .image .now) (λ j. (c .before .before .before .before .before .before .before .slice-known .given) j .fits) (c .before .before .before .before .before .before .before .before .args .s) (c .before .before .before .before .before .before .before .before .pre .0) (c .before .before .before .before .before .before .before .before .args .index) (words (c .before .before .before .before .before .before .before .before .args .sign .now)) (words (c .before .before .before .before .before .before .before .before .args .lm .now)) (c .before .before .before .label-entry .last .0) (c .before .before .before .label-entry .result) (c .before .before .before .before .before .before .before .before .pre .1 .0) (c .before .before .before .before .before .before .before .before .pre .1 .1 .0) (c .before .before .before .before .before .before .before .before .pre .1 .1 .1 .0 .0) (c .before .before .before .before .before .before .before .before .pre .1 .1 .1 .1 .0) (c .before .before .before .label-entry .ensures) in (b .basics .range, (b .basics .room, ((c .before .before .before .before .before .before .before .before .pre .1 .0), b .small)))
+label-at-requires c κs =
+    let start = c .before .before .before .before .before .before .before .before in
+    let slice-known = c .before .before .before .before .before .before .before .slice-known in
+    let label-entry = c .before .before .before .label-entry in
+    let b = early (start .args .image .now) (λ j. (slice-known .given) j .fits) (start .args .s) (start .pre .0) (start .args .index) (words (start .args .sign .now))
+    (words (start .args .lm .now)) (label-entry .last .0) (label-entry .result) (start .pre .1 .0) (start .pre .1 .1 .0) (start .pre .1 .1 .1 .0 .0)
+    (start .pre .1 .1 .1 .1 .0) (label-entry .ensures) in
+    (b .basics .range, (b .basics .room, ((start .pre .1 .0), b .small)))
 
 -- src/insertion.rt:75:5
 track-requires : tie.Need-track-requires
-track-requires c κs = let b = early (c .before .before .before .before .before .before .before .before .before .before .args .image .now) (λ j. (c .before .before .before .before .before .before .before .before .before .slice-known .given) j .fits) (c .before .before .before .before .before .before .before .before .before .before .args .s) (c .before .before .before .before .before .before .before .before .before .before .pre .0) (c .before .before .before .before .before .before .before .before .before .before .args .index) (words (c .before .before .before .before .before .before .before .before .before .before .args .sign .now)) (words (c .before .before .before .before .before .before .before .before .before .before .args .lm .now)) (c .before .before .before .before .before .label-entry .last .0) (c .before .before .before .before .before .label-entry .result) (c .before .before .before .before .before .before .before .before .before .before .pre .1 .0) (c .before .before .before .before .before .before .before .before .before .before .pre .1 .1 .0) (c .before .before .before .before .before .before .before .before .before .before .pre .1 .1 .1 .0 .0) (c .before .before .before .before .before .before .before .before .before .before .pre .1 .1 .1 .1 .0) (c .before .before .before .before .before .label-entry .ensures) .basics in (b .range, (b .room, (b .present, (c .before .before .before .before .before .before .before .before .before .before .pre .1 .1 .1 .0 .0))))
+track-requires c κs =
+    let start = c .before .before .before .before .before .before .before .before .before .before in
+    let slice-known = c .before .before .before .before .before .before .before .before .before .slice-known in
+    let label-entry = c .before .before .before .before .before .label-entry in
+    let b = early (start .args .image .now) (λ j. (slice-known .given) j .fits) (start .args .s) (start .pre .0) (start .args .index) (words (start .args .sign .now))
+    (words (start .args .lm .now)) (label-entry .last .0) (label-entry .result) (start .pre .1 .0) (start .pre .1 .1 .0) (start .pre .1 .1 .1 .0 .0)
+    (start .pre .1 .1 .1 .1 .0) (label-entry .ensures) .basics in
+    (b .range, (b .room, (b .present, (start .pre .1 .1 .1 .0 .0))))
 
 -- src/insertion.rt:76:5
 track-requires-2 : tie.Need-track-requires-2
-track-requires-2 c κs = let b = basics-tracked (c .before .before .before .before .before .before .before .before .before .label-entry .last .0) (c .before .before .before .track .last .0) (c .before .before .before .before .before .before .before .before .before .before .before .before .before .before .args .s) (words (c .before .before .before .before .before .before .before .before .before .before .before .before .before .before .args .sign .now)) (early (c .before .before .before .before .before .before .before .before .before .before .before .before .before .before .args .image .now) (λ j. (c .before .before .before .before .before .before .before .before .before .before .before .before .before .slice-known .given) j .fits) (c .before .before .before .before .before .before .before .before .before .before .before .before .before .before .args .s) (c .before .before .before .before .before .before .before .before .before .before .before .before .before .before .pre .0) (c .before .before .before .before .before .before .before .before .before .before .before .before .before .before .args .index) (words (c .before .before .before .before .before .before .before .before .before .before .before .before .before .before .args .sign .now)) (words (c .before .before .before .before .before .before .before .before .before .before .before .before .before .before .args .lm .now)) (c .before .before .before .before .before .before .before .before .before .label-entry .last .0) (c .before .before .before .before .before .before .before .before .before .label-entry .result) (c .before .before .before .before .before .before .before .before .before .before .before .before .before .before .pre .1 .0) (c .before .before .before .before .before .before .before .before .before .before .before .before .before .before .pre .1 .1 .0) (c .before .before .before .before .before .before .before .before .before .before .before .before .before .before .pre .1 .1 .1 .0 .0) (c .before .before .before .before .before .before .before .before .before .before .before .before .before .before .pre .1 .1 .1 .1 .0) (c .before .before .before .before .before .before .before .before .before .label-entry .ensures) .basics) (c .before .before .before .before .before .before .before .before .before .before .before .before .before .before .pre .1 .1 .1 .0 .0) (c .before .before .before .track .ensures) in (b .range, (b .room, (b .present, (c .before .before .before .before .before .before .before .before .before .before .before .before .before .before .pre .1 .1 .1 .1 .0))))
+track-requires-2 c κs =
+    let start = c .before .before .before .before .before .before .before .before .before .before .before .before .before .before in
+    let slice-known = c .before .before .before .before .before .before .before .before .before .before .before .before .before .slice-known in
+    let label-entry = c .before .before .before .before .before .before .before .before .before .label-entry in
+    let track = c .before .before .before .track in
+    let b = basics-tracked (label-entry .last .0) (track .last .0) (start .args .s) (words (start .args .sign .now))
+    (early (start .args .image .now) (λ j. (slice-known .given) j .fits) (start .args .s) (start .pre .0) (start .args .index) (words (start .args .sign .now))
+    (words (start .args .lm .now)) (label-entry .last .0) (label-entry .result) (start .pre .1 .0) (start .pre .1 .1 .0) (start .pre .1 .1 .1 .0 .0)
+    (start .pre .1 .1 .1 .1 .0) (label-entry .ensures) .basics) (start .pre .1 .1 .1 .0 .0) (track .ensures) in
+    (b .range, (b .room, (b .present, (start .pre .1 .1 .1 .1 .0))))
 
 -- src/insertion.rt:77:45
 entry-at-requires : tie.Need-entry-at-requires
@@ -37,15 +74,108 @@ entry-at-requires c κs = search needs
 
 -- src/insertion.rt:77:77
 cast-write-ratio-row : tie.Need-cast-write-ratio-row
-cast-write-ratio-row c = omega (arith, early (c .before .before .before .before .before .before .before .before .before .before .before .before .before .before .before .before .before .before .before .args .image .now) (λ j. (c .before .before .before .before .before .before .before .before .before .before .before .before .before .before .before .before .before .before .slice-known .given) j .fits) (c .before .before .before .before .before .before .before .before .before .before .before .before .before .before .before .before .before .before .before .args .s) (c .before .before .before .before .before .before .before .before .before .before .before .before .before .before .before .before .before .before .before .pre .0) (c .before .before .before .before .before .before .before .before .before .before .before .before .before .before .before .before .before .before .before .args .index) (words (c .before .before .before .before .before .before .before .before .before .before .before .before .before .before .before .before .before .before .before .args .sign .now)) (words (c .before .before .before .before .before .before .before .before .before .before .before .before .before .before .before .before .before .before .before .args .lm .now)) (c .before .before .before .before .before .before .before .before .before .before .before .before .before .before .label-entry .last .0) (c .before .before .before .before .before .before .before .before .before .before .before .before .before .before .label-entry .result) (c .before .before .before .before .before .before .before .before .before .before .before .before .before .before .before .before .before .before .before .pre .1 .0) (c .before .before .before .before .before .before .before .before .before .before .before .before .before .before .before .before .before .before .before .pre .1 .1 .0) (c .before .before .before .before .before .before .before .before .before .before .before .before .before .before .before .before .before .before .before .pre .1 .1 .1 .0 .0) (c .before .before .before .before .before .before .before .before .before .before .before .before .before .before .before .before .before .before .before .pre .1 .1 .1 .1 .0) (c .before .before .before .before .before .before .before .before .before .before .before .before .before .before .label-entry .ensures) .small, (c .before .before .before .before .before .before .before .before .before .before .before .before .before .before .before .before .before .before .before .pre .0) .head .range .cap-to)
+cast-write-ratio-row c =
+    let start = c .before .before .before .before .before .before .before .before .before .before .before .before .before .before .before .before .before .before .before in
+    let slice-known = c .before .before .before .before .before .before .before .before .before .before .before .before .before .before .before .before .before .before .slice-known in
+    let label-entry = c .before .before .before .before .before .before .before .before .before .before .before .before .before .before .label-entry in
+    omega (
+      arith,
+      early (start .args .image .now) (λ j. (slice-known .given) j .fits) (start .args .s) (start .pre .0) (start .args .index)
+          (words (start .args .sign .now)) (words (start .args .lm .now)) (label-entry .last .0) (label-entry .result) (start .pre .1 .0) (start .pre .1 .1 .0)
+          (start .pre .1 .1 .1 .0 .0) (start .pre .1 .1 .1 .1 .0) (label-entry .ensures) .small,
+      (start .pre .0) .head .range .cap-to,
+    )
 
 -- src/insertion.rt:77:5
 write-ratio-row-requires : tie.Need-write-ratio-row-requires
-write-ratio-row-requires c κs = let b = basics-tracked (c .before .before .before .before .before .before .before .before .track .last .0) (c .before .before .before .before .track2 .last .0) (c .before .before .before .before .before .before .before .before .before .before .before .before .before .before .before .before .before .before .before .args .s) (words (c .before .before .before .before .before .before .before .before .before .before .before .before .before .before .before .before .before .before .before .args .lm .now)) (basics-tracked (c .before .before .before .before .before .before .before .before .before .before .before .before .before .before .label-entry .last .0) (c .before .before .before .before .before .before .before .before .track .last .0) (c .before .before .before .before .before .before .before .before .before .before .before .before .before .before .before .before .before .before .before .args .s) (words (c .before .before .before .before .before .before .before .before .before .before .before .before .before .before .before .before .before .before .before .args .sign .now)) (early (c .before .before .before .before .before .before .before .before .before .before .before .before .before .before .before .before .before .before .before .args .image .now) (λ j. (c .before .before .before .before .before .before .before .before .before .before .before .before .before .before .before .before .before .before .slice-known .given) j .fits) (c .before .before .before .before .before .before .before .before .before .before .before .before .before .before .before .before .before .before .before .args .s) (c .before .before .before .before .before .before .before .before .before .before .before .before .before .before .before .before .before .before .before .pre .0) (c .before .before .before .before .before .before .before .before .before .before .before .before .before .before .before .before .before .before .before .args .index) (words (c .before .before .before .before .before .before .before .before .before .before .before .before .before .before .before .before .before .before .before .args .sign .now)) (words (c .before .before .before .before .before .before .before .before .before .before .before .before .before .before .before .before .before .before .before .args .lm .now)) (c .before .before .before .before .before .before .before .before .before .before .before .before .before .before .label-entry .last .0) (c .before .before .before .before .before .before .before .before .before .before .before .before .before .before .label-entry .result) (c .before .before .before .before .before .before .before .before .before .before .before .before .before .before .before .before .before .before .before .pre .1 .0) (c .before .before .before .before .before .before .before .before .before .before .before .before .before .before .before .before .before .before .before .pre .1 .1 .0) (c .before .before .before .before .before .before .before .before .before .before .before .before .before .before .before .before .before .before .before .pre .1 .1 .1 .0 .0) (c .before .before .before .before .before .before .before .before .before .before .before .before .before .before .before .before .before .before .before .pre .1 .1 .1 .1 .0) (c .before .before .before .before .before .before .before .before .before .before .before .before .before .before .label-entry .ensures) .basics) (c .before .before .before .before .before .before .before .before .before .before .before .before .before .before .before .before .before .before .before .pre .1 .1 .1 .0 .0) (c .before .before .before .before .before .before .before .before .track .ensures)) (c .before .before .before .before .before .before .before .before .before .before .before .before .before .before .before .before .before .before .before .pre .1 .1 .1 .1 .0) (c .before .before .before .before .track2 .ensures) in (b .range, (b .room, (b .map, (((c .before .before .before .before .before .before .before .before .before .before .before .before .before .before .before .before .before .before .before .pre .1 .1 .1 .0 .0), (c .before .before .before .before .before .before .before .before .before .before .before .before .before .before .before .before .before .before .before .pre .1 .1 .1 .0 .1)), (((c .before .before .before .before .before .before .before .before .before .before .before .before .before .before .before .before .before .before .before .pre .1 .1 .1 .1 .0), (c .before .before .before .before .before .before .before .before .before .before .before .before .before .before .before .before .before .before .before .pre .1 .1 .1 .1 .1)), ((c .before .before .before .before .before .before .before .before .before .before .before .before .before .before .before .before .before .before .before .pre .1 .1 .0), (omega (arith, c .entry-at .ensures), omega (arith, c .entry-at .ensures, entry-inside (c .before .before .before .before .before .before .before .before .before .before .before .before .before .before .before .before .before .before .before .args .s) (b .range) (c .before .before .before .before .before .before .before .before .before .before .before .before .before .before .before .before .before .before .before .args .s .entries) ((c .before .before .before .before .before .before .before .before .before .before .before .before .before .before .before .before .before .before .before .pre .0) .few), ratio-width (c .before .before .before .before .before .before .before .before .before .before .before .before .before .before .before .before .before .before .before .args .s) (b .range) (c .before .before .before .before .before .before .before .before .before .before .before .before .before .before .before .before .before .before .before .pre .1 .0)))))))))
+write-ratio-row-requires c κs =
+    let start = c .before .before .before .before .before .before .before .before .before .before .before .before .before .before .before .before .before .before .before in
+    let slice-known = c .before .before .before .before .before .before .before .before .before .before .before .before .before .before .before .before .before .before .slice-known in
+    let label-entry = c .before .before .before .before .before .before .before .before .before .before .before .before .before .before .label-entry in
+    let track = c .before .before .before .before .before .before .before .before .track in
+    let track2 = c .before .before .before .before .track2 in
+    let b = basics-tracked (track .last .0) (track2 .last .0) (start .args .s) (words (start .args .lm .now))
+    (basics-tracked (label-entry .last .0) (track .last .0) (start .args .s) (words (start .args .sign .now))
+    (early (start .args .image .now) (λ j. (slice-known .given) j .fits) (start .args .s) (start .pre .0) (start .args .index) (words (start .args .sign .now))
+    (words (start .args .lm .now)) (label-entry .last .0) (label-entry .result) (start .pre .1 .0) (start .pre .1 .1 .0) (start .pre .1 .1 .1 .0 .0)
+    (start .pre .1 .1 .1 .1 .0) (label-entry .ensures) .basics) (start .pre .1 .1 .1 .0 .0) (track .ensures)) (start .pre .1 .1 .1 .1 .0) (track2 .ensures) in (
+      b .range,
+      (
+        b .room,
+        (
+          b .map,
+          (
+            ((start .pre .1 .1 .1 .0 .0), (start .pre .1 .1 .1 .0 .1)),
+            (
+              ((start .pre .1 .1 .1 .1 .0), (start .pre .1 .1 .1 .1 .1)),
+              (
+                (start .pre .1 .1 .0),
+                (
+                  omega (arith, c .entry-at .ensures),
+                  omega (
+                    arith,
+                    c .entry-at .ensures,
+                    entry-inside (start .args .s) (b .range) (start .args .s .entries) ((start .pre .0) .few),
+                    ratio-width (start .args .s) (b .range) (start .pre .1 .0),
+                  ),
+                ),
+              ),
+            ),
+          ),
+        ),
+      ),
+    )
 
 -- src/insertion.rt:78:5
 hang-requires : tie.Need-hang-requires
-hang-requires c κs = let b = basics-tracked (c .before .before .before .before .before .before .before .before .before .before .before .before .track .last .0) (c .before .before .before .before .before .before .before .before .track2 .last .0) (c .before .before .before .before .before .before .before .before .before .before .before .before .before .before .before .before .before .before .before .before .before .before .before .args .s) (words (c .before .before .before .before .before .before .before .before .before .before .before .before .before .before .before .before .before .before .before .before .before .before .before .args .lm .now)) (basics-tracked (c .before .before .before .before .before .before .before .before .before .before .before .before .before .before .before .before .before .before .label-entry .last .0) (c .before .before .before .before .before .before .before .before .before .before .before .before .track .last .0) (c .before .before .before .before .before .before .before .before .before .before .before .before .before .before .before .before .before .before .before .before .before .before .before .args .s) (words (c .before .before .before .before .before .before .before .before .before .before .before .before .before .before .before .before .before .before .before .before .before .before .before .args .sign .now)) (early (c .before .before .before .before .before .before .before .before .before .before .before .before .before .before .before .before .before .before .before .before .before .before .before .args .image .now) (λ j. (c .before .before .before .before .before .before .before .before .before .before .before .before .before .before .before .before .before .before .before .before .before .before .slice-known .given) j .fits) (c .before .before .before .before .before .before .before .before .before .before .before .before .before .before .before .before .before .before .before .before .before .before .before .args .s) (c .before .before .before .before .before .before .before .before .before .before .before .before .before .before .before .before .before .before .before .before .before .before .before .pre .0) (c .before .before .before .before .before .before .before .before .before .before .before .before .before .before .before .before .before .before .before .before .before .before .before .args .index) (words (c .before .before .before .before .before .before .before .before .before .before .before .before .before .before .before .before .before .before .before .before .before .before .before .args .sign .now)) (words (c .before .before .before .before .before .before .before .before .before .before .before .before .before .before .before .before .before .before .before .before .before .before .before .args .lm .now)) (c .before .before .before .before .before .before .before .before .before .before .before .before .before .before .before .before .before .before .label-entry .last .0) (c .before .before .before .before .before .before .before .before .before .before .before .before .before .before .before .before .before .before .label-entry .result) (c .before .before .before .before .before .before .before .before .before .before .before .before .before .before .before .before .before .before .before .before .before .before .before .pre .1 .0) (c .before .before .before .before .before .before .before .before .before .before .before .before .before .before .before .before .before .before .before .before .before .before .before .pre .1 .1 .0) (c .before .before .before .before .before .before .before .before .before .before .before .before .before .before .before .before .before .before .before .before .before .before .before .pre .1 .1 .1 .0 .0) (c .before .before .before .before .before .before .before .before .before .before .before .before .before .before .before .before .before .before .before .before .before .before .before .pre .1 .1 .1 .1 .0) (c .before .before .before .before .before .before .before .before .before .before .before .before .before .before .before .before .before .before .label-entry .ensures) .basics) (c .before .before .before .before .before .before .before .before .before .before .before .before .before .before .before .before .before .before .before .before .before .before .before .pre .1 .1 .1 .0 .0) (c .before .before .before .before .before .before .before .before .before .before .before .before .track .ensures)) (c .before .before .before .before .before .before .before .before .before .before .before .before .before .before .before .before .before .before .before .before .before .before .before .pre .1 .1 .1 .1 .0) (c .before .before .before .before .before .before .before .before .track2 .ensures) in (b .range, (omega (arith, c .before .before .before .write-ratio-row .kept .0, b .room), (rw (map-entered (c .before .before .before .before .before .before .before .before .track2 .last .0) (c .before .before .before .write-ratio-row .last .0) (c .before .before .before .before .before .before .before .before .before .before .before .before .before .before .before .before .before .before .before .before .before .before .before .args .s) (c .before .before .before .before .entry-at .result) _ (omega (arith, b .room, c .before .before .before .before .entry-at .ensures, entry-inside (c .before .before .before .before .before .before .before .before .before .before .before .before .before .before .before .before .before .before .before .before .before .before .before .args .s) (b .range) (c .before .before .before .before .before .before .before .before .before .before .before .before .before .before .before .before .before .before .before .before .before .before .before .args .s .entries) ((c .before .before .before .before .before .before .before .before .before .before .before .before .before .before .before .before .before .before .before .before .before .before .before .pre .0) .few))) (omega (arith, c .before .before .before .before .entry-at .ensures)) (c .before .before .before .write-ratio-row .ensures)) (b .map), ((c .before .before .before .before .before .before .before .before .before .before .before .before .before .before .before .before .before .before .before .before .before .before .before .pre .1 .1 .1 .1 .0), ((c .before .before .before .before .before .before .before .before .before .before .before .before .before .before .before .before .before .before .before .before .before .before .before .pre .1 .1 .1 .1 .1), ((c .before .before .before .before .before .before .before .before .before .before .before .before .before .before .before .before .before .before .before .before .before .before .before .pre .0) .few, late (c .before .before .before .before .before .before .before .before .before .before .before .before .before .before .before .before .before .before .before .before .before .before .before .args .image .now) (λ j. (c .before .before .before .before .before .before .before .before .before .before .before .before .before .before .before .before .before .before .before .before .before .before .slice-known .given) j .fits) (c .before .before .before .before .before .before .before .before .before .before .before .before .before .before .before .before .before .before .before .before .before .before .before .args .s) (c .before .before .before .before .before .before .before .before .before .before .before .before .before .before .before .before .before .before .before .before .before .before .before .pre .0) (c .before .before .before .before .before .before .before .before .before .before .before .before .before .before .before .before .before .before .before .before .before .before .before .args .index) (words (c .before .before .before .before .before .before .before .before .before .before .before .before .before .before .before .before .before .before .before .before .before .before .before .args .sign .now)) (words (c .before .before .before .before .before .before .before .before .before .before .before .before .before .before .before .before .before .before .before .before .before .before .before .args .lm .now)) (c .before .before .before .before .before .before .before .before .before .before .before .before .before .before .before .before .before .before .label-entry .last .0) (c .before .before .before .before .before .before .before .before .before .before .before .before .before .before .before .before .before .before .label-entry .result) (c .before .before .before .before .before .before .before .before .before .before .before .before .before .before .label-at .result) (c .before .before .before .before .before .before .before .before .before .before .before .before .track .last .0) (c .before .before .before .before .before .before .before .before .track2 .last .0) (c .before .before .before .write-ratio-row .last .0) (record { one = (c .before .before .before .before .before .before .before .before .before .before .before .before .before .before .before .before .before .before .before .before .before .before .before .pre .1 .0); few = (c .before .before .before .before .before .before .before .before .before .before .before .before .before .before .before .before .before .before .before .before .before .before .before .pre .0) .few; index-small = (c .before .before .before .before .before .before .before .before .before .before .before .before .before .before .before .before .before .before .before .before .before .before .before .pre .1 .1 .0); sign-canonical = (c .before .before .before .before .before .before .before .before .before .before .before .before .before .before .before .before .before .before .before .before .before .before .before .pre .1 .1 .1 .0 .0); lm-canonical = (c .before .before .before .before .before .before .before .before .before .before .before .before .before .before .before .before .before .before .before .before .before .before .before .pre .1 .1 .1 .1 .0); labels-done = c .before .before .before .before .before .before .before .before .before .before .before .before .before .before .before .before .before .before .label-entry .ensures; label-read = c .before .before .before .before .before .before .before .before .before .before .before .before .before .before .label-at .ensures; sign-tracked = c .before .before .before .before .before .before .before .before .before .before .before .before .track .ensures; lm-tracked = c .before .before .before .before .before .before .before .before .track2 .ensures; row-written = rw (c .before .before .before .before .entry-at .ensures) at (c .before .before .before .write-ratio-row .ensures) })))))))
+hang-requires c κs =
+    let start = c .before .before .before .before .before .before .before .before .before .before .before .before .before .before .before .before .before .before .before .before .before .before .before in
+    let slice-known = c .before .before .before .before .before .before .before .before .before .before .before .before .before .before .before .before .before .before .before .before .before .before .slice-known in
+    let label-entry = c .before .before .before .before .before .before .before .before .before .before .before .before .before .before .before .before .before .before .label-entry in
+    let label-at = c .before .before .before .before .before .before .before .before .before .before .before .before .before .before .label-at in
+    let track = c .before .before .before .before .before .before .before .before .before .before .before .before .track in
+    let track2 = c .before .before .before .before .before .before .before .before .track2 in
+    let entry-at = c .before .before .before .before .entry-at in
+    let write-ratio-row = c .before .before .before .write-ratio-row in
+    let b = basics-tracked (track .last .0) (track2 .last .0) (start .args .s) (words (start .args .lm .now))
+    (basics-tracked (label-entry .last .0) (track .last .0) (start .args .s) (words (start .args .sign .now))
+    (early (start .args .image .now) (λ j. (slice-known .given) j .fits) (start .args .s) (start .pre .0) (start .args .index) (words (start .args .sign .now))
+    (words (start .args .lm .now)) (label-entry .last .0) (label-entry .result) (start .pre .1 .0) (start .pre .1 .1 .0) (start .pre .1 .1 .1 .0 .0)
+    (start .pre .1 .1 .1 .1 .0) (label-entry .ensures) .basics) (start .pre .1 .1 .1 .0 .0) (track .ensures)) (start .pre .1 .1 .1 .1 .0) (track2 .ensures) in (
+      b .range,
+      (
+        omega (arith, write-ratio-row .kept .0, b .room),
+        (
+          rw (map-entered (track2 .last .0) (write-ratio-row .last .0) (start .args .s) (entry-at .result) _
+              (omega (arith, b .room, entry-at .ensures, entry-inside (start .args .s) (b .range) (start .args .s .entries) ((start .pre .0) .few)))
+              (omega (arith, entry-at .ensures)) (write-ratio-row .ensures)) (b .map),
+          (
+            (start .pre .1 .1 .1 .1 .0),
+            (
+              (start .pre .1 .1 .1 .1 .1),
+              (
+                (start .pre .0) .few,
+                late (start .args .image .now) (λ j. (slice-known .given) j .fits) (start .args .s) (start .pre .0) (start .args .index) (words (start .args .sign .now))
+                    (words (start .args .lm .now)) (label-entry .last .0) (label-entry .result) (label-at .result) (track .last .0) (track2 .last .0) (write-ratio-row .last .0)
+                    (record {
+                      one = (start .pre .1 .0);
+                      few = (start .pre .0) .few;
+                      index-small = (start .pre .1 .1 .0);
+                      sign-canonical = (start .pre .1 .1 .1 .0 .0);
+                      lm-canonical =
+                          (start .pre .1 .1 .1 .1 .0);
+                      labels-done = label-entry .ensures;
+                      label-read = label-at .ensures;
+                      sign-tracked = track .ensures;
+                      lm-tracked = track2 .ensures;
+                      row-written = rw (entry-at .ensures) at (write-ratio-row .ensures);
+                    }),
+              ),
+            ),
+          ),
+        ),
+      ),
+    )
 
 -- src/insertion.rt:64:1
 same-length : tie.Need-same-length
@@ -53,7 +183,31 @@ same-length c = search needs
 
 -- src/insertion.rt:64:1
 returns : tie.Need-returns
-returns c = ratio-inserted (c .before .before .before .before .before .before .before .before .before .before .before .before .before .before .before .before .before .before .before .before .before .before .before .before .before .before .args .image .now) (λ j. (c .before .before .before .before .before .before .before .before .before .before .before .before .before .before .before .before .before .before .before .before .before .before .before .before .before .slice-known .given) j .fits) (c .before .before .before .before .before .before .before .before .before .before .before .before .before .before .before .before .before .before .before .before .before .before .before .before .before .before .args .s) (c .before .before .before .before .before .before .before .before .before .before .before .before .before .before .before .before .before .before .before .before .before .before .before .before .before .before .pre .0) (c .before .before .before .before .before .before .before .before .before .before .before .before .before .before .before .before .before .before .before .before .before .before .before .before .before .before .args .index) (words (c .before .before .before .before .before .before .before .before .before .before .before .before .before .before .before .before .before .before .before .before .before .before .before .before .before .before .args .sign .now)) (words (c .before .before .before .before .before .before .before .before .before .before .before .before .before .before .before .before .before .before .before .before .before .before .before .before .before .before .args .lm .now)) (c .before .before .before .before .before .before .before .before .before .before .before .before .before .before .before .before .before .before .before .before .before .label-entry .last .0) (c .before .before .before .before .before .before .before .before .before .before .before .before .before .before .before .before .before .before .before .before .before .label-entry .result) (c .before .before .before .before .before .before .before .before .before .before .before .before .before .before .before .before .before .label-at .result) (c .before .before .before .before .before .before .before .before .before .before .before .before .before .before .before .track .last .0) (c .before .before .before .before .before .before .before .before .before .before .before .track2 .last .0) (c .before .before .before .before .before .before .write-ratio-row .last .0) (record { one = (c .before .before .before .before .before .before .before .before .before .before .before .before .before .before .before .before .before .before .before .before .before .before .before .before .before .before .pre .1 .0); few = (c .before .before .before .before .before .before .before .before .before .before .before .before .before .before .before .before .before .before .before .before .before .before .before .before .before .before .pre .0) .few; index-small = (c .before .before .before .before .before .before .before .before .before .before .before .before .before .before .before .before .before .before .before .before .before .before .before .before .before .before .pre .1 .1 .0); sign-canonical = (c .before .before .before .before .before .before .before .before .before .before .before .before .before .before .before .before .before .before .before .before .before .before .before .before .before .before .pre .1 .1 .1 .0 .0); lm-canonical = (c .before .before .before .before .before .before .before .before .before .before .before .before .before .before .before .before .before .before .before .before .before .before .before .before .before .before .pre .1 .1 .1 .1 .0); labels-done = c .before .before .before .before .before .before .before .before .before .before .before .before .before .before .before .before .before .before .before .before .before .label-entry .ensures; label-read = c .before .before .before .before .before .before .before .before .before .before .before .before .before .before .before .before .before .label-at .ensures; sign-tracked = c .before .before .before .before .before .before .before .before .before .before .before .before .before .before .before .track .ensures; lm-tracked = c .before .before .before .before .before .before .before .before .before .before .before .track2 .ensures; row-written = rw (c .before .before .before .before .before .before .before .entry-at .ensures) at (c .before .before .before .before .before .before .write-ratio-row .ensures) }) (c .before .before .hang .last .0) (c .before .before .hang .ensures)
+returns c =
+    let start = c .before .before .before .before .before .before .before .before .before .before .before .before .before .before .before .before .before .before .before .before .before .before .before .before .before .before in
+    let slice-known = c .before .before .before .before .before .before .before .before .before .before .before .before .before .before .before .before .before .before .before .before .before .before .before .before .before .slice-known in
+    let label-entry = c .before .before .before .before .before .before .before .before .before .before .before .before .before .before .before .before .before .before .before .before .before .label-entry in
+    let label-at = c .before .before .before .before .before .before .before .before .before .before .before .before .before .before .before .before .before .label-at in
+    let track = c .before .before .before .before .before .before .before .before .before .before .before .before .before .before .before .track in
+    let track2 = c .before .before .before .before .before .before .before .before .before .before .before .track2 in
+    let entry-at = c .before .before .before .before .before .before .before .entry-at in
+    let write-ratio-row = c .before .before .before .before .before .before .write-ratio-row in
+    let hang = c .before .before .hang in
+    ratio-inserted (start .args .image .now) (λ j. (slice-known .given) j .fits) (start .args .s) (start .pre .0) (start .args .index) (words (start .args .sign .now))
+    (words (start .args .lm .now)) (label-entry .last .0) (label-entry .result) (label-at .result) (track .last .0) (track2 .last .0) (write-ratio-row .last .0)
+    (record {
+      one = (start .pre .1 .0);
+      few = (start .pre .0) .few;
+      index-small = (start .pre .1 .1 .0);
+      sign-canonical = (start .pre .1 .1 .1 .0 .0);
+      lm-canonical =
+          (start .pre .1 .1 .1 .1 .0);
+      labels-done = label-entry .ensures;
+      label-read = label-at .ensures;
+      sign-tracked = track .ensures;
+      lm-tracked = track2 .ensures;
+      row-written = rw (entry-at .ensures) at (write-ratio-row .ensures);
+    }) (hang .last .0) (hang .ensures)
 
 pub insert-ratio-spec : {M : Type 1} → statement M
 insert-ratio-spec =

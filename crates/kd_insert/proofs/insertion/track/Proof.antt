@@ -43,7 +43,15 @@ cast-update c = search needs
 
 -- src/insertion.rt:27:5
 update-requires : tie.Need-update-requires
-update-requires c κs = (simp (length-take, length-drop) (omega (arith, c .before .before .before .pre .1 .0)), (rw (part-words (c .before .before .before .args .image .now) shape.maximaAt (c .before .before .before .args .s .variables) (4 * shape.maximaAt + 4 * (c .before .before .before .args .s .variables) - 4 * shape.maximaAt) (omega arith)) (c .before .before .before .pre .1 .1 .0), starts-whole (c .before .before .before .pre .1 .1 .1)))
+update-requires c κs =
+    let start = c .before .before .before in (
+      simp (length-take, length-drop) (omega (arith, start .pre .1 .0)),
+      (
+        rw (part-words (start .args .image .now) shape.maximaAt (start .args .s .variables) (4 * shape.maximaAt + 4 * (start .args .s .variables) - 4 * shape.maximaAt)
+            (omega arith)) (start .pre .1 .1 .0),
+        starts-whole (start .pre .1 .1 .1),
+      ),
+    )
 
 -- src/insertion.rt:17:1
 same-length : tie.Need-same-length
@@ -51,7 +59,11 @@ same-length c = search needs
 
 -- src/insertion.rt:17:1
 returns : tie.Need-returns
-returns c = tracked-back (c .before .before .before .before .before .before .args .image .now) (c .before .before .before .before .before .before .args .s .variables) (4 * shape.maximaAt + 4 * (c .before .before .before .before .before .before .args .s .variables) - 4 * shape.maximaAt) (c .before .before .update .last .0) (words (c .before .before .before .before .before .before .args .monomial .now)) (omega arith) (omega (arith, c .before .before .before .before .before .before .pre .1 .0)) (rw (first-whole (c .before .before .before .before .before .before .pre .1 .1 .1)) at (c .before .before .update .ensures))
+returns c =
+    let start = c .before .before .before .before .before .before in
+    let update = c .before .before .update in
+    tracked-back (start .args .image .now) (start .args .s .variables) (4 * shape.maximaAt + 4 * (start .args .s .variables) - 4 * shape.maximaAt) (update .last .0)
+    (words (start .args .monomial .now)) (omega arith) (omega (arith, start .pre .1 .0)) (rw (first-whole (start .pre .1 .1 .1)) at (update .ensures))
 
 pub track-spec : {M : Type 1} → statement M
 track-spec =

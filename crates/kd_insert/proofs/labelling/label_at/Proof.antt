@@ -22,11 +22,17 @@ add-get c = search needs
 
 -- src/labelling.rt:97:44
 mul-get : tie.Need-mul-get
-mul-get c = let z = spots (c .before .before .args .s) (c .before .before .pre .0) (c .before .before .pre .1 .1 .0) 0 (c .before .before .args .row) (omega (arith, c .before .before .pre .0 .cap-from)) (c .before .before .pre .1 .1 .1) in omega arith
+mul-get c =
+    let start = c .before .before in
+    let z = spots (start .args .s) (start .pre .0) (start .pre .1 .1 .0) 0 (start .args .row) (omega (arith, start .pre .0 .cap-from)) (start .pre .1 .1 .1) in
+    omega arith
 
 -- src/labelling.rt:97:40
 add-get-2 : tie.Need-add-get-2
-add-get-2 c = let z = spots (c .before .before .args .s) (c .before .before .pre .0) (c .before .before .pre .1 .1 .0) 0 (c .before .before .args .row) (omega (arith, c .before .before .pre .0 .cap-from)) (c .before .before .pre .1 .1 .1) in omega arith
+add-get-2 c =
+    let start = c .before .before in
+    let z = spots (start .args .s) (start .pre .0) (start .pre .1 .1 .0) 0 (start .args .row) (omega (arith, start .pre .0 .cap-from)) (start .pre .1 .1 .1) in
+    omega arith
 
 -- src/labelling.rt:97:61
 add-get-3 : tie.Need-add-get-3
@@ -34,15 +40,24 @@ add-get-3 c = search needs
 
 -- src/labelling.rt:97:40
 add-get-4 : tie.Need-add-get-4
-add-get-4 c = let z = spots (c .before .before .args .s) (c .before .before .pre .0) (c .before .before .pre .1 .1 .0) 0 (c .before .before .args .row) (omega (arith, c .before .before .pre .0 .cap-from)) (c .before .before .pre .1 .1 .1) in omega (arith, c .before .before .pre .0 .vars-to)
+add-get-4 c =
+    let start = c .before .before in
+    let z = spots (start .args .s) (start .pre .0) (start .pre .1 .1 .0) 0 (start .args .row) (omega (arith, start .pre .0 .cap-from)) (start .pre .1 .1 .1) in
+    omega (arith, start .pre .0 .vars-to)
 
 -- src/labelling.rt:97:23
 add-get-5 : tie.Need-add-get-5
-add-get-5 c = let z = spots (c .before .before .args .s) (c .before .before .pre .0) (c .before .before .pre .1 .1 .0) 0 (c .before .before .args .row) (omega (arith, c .before .before .pre .0 .cap-from)) (c .before .before .pre .1 .1 .1) in omega (arith, c .before .before .pre .0 .vars-to, c .labels-at .ensures)
+add-get-5 c =
+    let start = c .before .before in
+    let z = spots (start .args .s) (start .pre .0) (start .pre .1 .1 .0) 0 (start .args .row) (omega (arith, start .pre .0 .cap-from)) (start .pre .1 .1 .1) in
+    omega (arith, start .pre .0 .vars-to, c .labels-at .ensures)
 
 -- src/labelling.rt:97:5
 get-requires : tie.Need-get-requires
-get-requires c κs = let z = spots (c .before .before .args .s) (c .before .before .pre .0) (c .before .before .pre .1 .1 .0) 0 (c .before .before .args .row) (omega (arith, c .before .before .pre .0 .cap-from)) (c .before .before .pre .1 .1 .1) in omega (arith, c .labels-at .ensures, c .before .before .pre .1 .0)
+get-requires c κs =
+    let start = c .before .before in
+    let z = spots (start .args .s) (start .pre .0) (start .pre .1 .1 .0) 0 (start .args .row) (omega (arith, start .pre .0 .cap-from)) (start .pre .1 .1 .1) in
+    omega (arith, c .labels-at .ensures, start .pre .1 .0)
 
 -- src/labelling.rt:97:5
 cast-result : tie.Need-cast-result
@@ -50,7 +65,10 @@ cast-result c = search needs
 
 -- src/labelling.rt:90:1
 returns : tie.Need-returns
-returns c = c .get .ensures ∙ ap (λ (j : ℕ). getD (words (c .before .before .before .args .image .now)) (j + (4 + (c .before .before .before .args .row) * ((c .before .before .before .args .s .variables) + 3) + ((c .before .before .before .args .s .variables) + 2))) 0) (c .before .labels-at .ensures)
+returns c =
+    let start = c .before .before .before in
+    c .get .ensures ∙ ap (λ (j : ℕ). getD (words (start .args .image .now))
+    (j + (4 + (start .args .row) * ((start .args .s .variables) + 3) + ((start .args .s .variables) + 2))) 0) (c .before .labels-at .ensures)
 
 pub label-at-spec : {M : Type 1} → statement M
 label-at-spec =

@@ -20,23 +20,78 @@ slice-aggregate-fraction-division c = search needs
 
 -- src/labelling.rt:84:9
 fraction-division-requires : tie.Need-fraction-division-requires
-fraction-division-requires c κs = (starts-wide (starts-whole (c .before .before .before .before .pre .1 .1 .1 .1 .1 .0)), (starts-wide (starts-whole (c .before .before .before .before .pre .1 .1 .1 .1 .1 .1)), rw (first-whole (c .before .before .before .before .pre .1 .1 .1 .1 .1 .0), first-whole (c .before .before .before .before .pre .1 .1 .1 .1 .1 .1)) (omega (arith, length-result 64 (words (c .before .before .before .before .args .sign .now)) (words (c .before .before .before .before .args .lm .now)) (canonical-more (omega arith) (c .before .before .before .before .pre .0 .vars-to) (c .before .before .before .before .pre .1 .1 .1 .1 .1 .0)) (canonical-more (omega arith) (c .before .before .before .before .pre .0 .vars-to) (c .before .before .before .before .pre .1 .1 .1 .1 .1 .1)) Op.Ratio (omega arith)))))
+fraction-division-requires c κs =
+    let start = c .before .before .before .before in (
+      starts-wide (starts-whole (start .pre .1 .1 .1 .1 .1 .0)),
+      (
+        starts-wide (starts-whole (start .pre .1 .1 .1 .1 .1 .1)),
+        rw (first-whole (start .pre .1 .1 .1 .1 .1 .0), first-whole (start .pre .1 .1 .1 .1 .1 .1))
+            (omega (
+              arith,
+              length-result 64 (words (start .args .sign .now)) (words (start .args .lm .now))
+                  (canonical-more (omega arith) (start .pre .0 .vars-to) (start .pre .1 .1 .1 .1 .1 .0))
+                  (canonical-more (omega arith) (start .pre .0 .vars-to) (start .pre .1 .1 .1 .1 .1 .1)) Op.Ratio (omega arith),
+            )),
+      ),
+    )
 
 -- src/labelling.rt:85:13
 mul-e : tie.Need-mul-e
-mul-e c = omega (arith, (rw (first-whole (c .before .before .before .before .before .before .pre .1 .1 .1 .1 .1 .0), first-whole (c .before .before .before .before .before .before .pre .1 .1 .1 .1 .1 .1)) at (c .before .fraction-division .ensures .0)), length-result 64 (words (c .before .before .before .before .before .before .args .sign .now)) (words (c .before .before .before .before .before .before .args .lm .now)) (canonical-more (omega arith) (c .before .before .before .before .before .before .pre .0 .vars-to) (c .before .before .before .before .before .before .pre .1 .1 .1 .1 .1 .0)) (canonical-more (omega arith) (c .before .before .before .before .before .before .pre .0 .vars-to) (c .before .before .before .before .before .before .pre .1 .1 .1 .1 .1 .1)) Op.Ratio (omega arith))
+mul-e c =
+    let start = c .before .before .before .before .before .before in
+    omega (
+      arith,
+      (rw (first-whole (start .pre .1 .1 .1 .1 .1 .0), first-whole (start .pre .1 .1 .1 .1 .1 .1)) at (c .before .fraction-division .ensures .0)),
+      length-result 64 (words (start .args .sign .now)) (words (start .args .lm .now))
+          (canonical-more (omega arith) (start .pre .0 .vars-to) (start .pre .1 .1 .1 .1 .1 .0))
+          (canonical-more (omega arith) (start .pre .0 .vars-to) (start .pre .1 .1 .1 .1 .1 .1)) Op.Ratio (omega arith),
+    )
 
 -- src/labelling.rt:86:34
 array-share-prefix-made : tie.Need-array-share-prefix-made
-array-share-prefix-made c = (made-aside Op.Ratio (words (c .before .before .before .before .before .before .before .args .sign .now)) (words (c .before .before .before .before .before .before .before .args .lm .now)) _ (c .before .before .fraction-division .last .1 .1 .0) (c .before .before .fraction-division .result) (canonical-more (omega arith) (c .before .before .before .before .before .before .before .pre .0 .vars-to) (c .before .before .before .before .before .before .before .pre .1 .1 .1 .1 .1 .0)) (canonical-more (omega arith) (c .before .before .before .before .before .before .before .pre .0 .vars-to) (c .before .before .before .before .before .before .before .pre .1 .1 .1 .1 .1 .1)) refl (rw (first-whole (c .before .before .before .before .before .before .before .pre .1 .1 .1 .1 .1 .0), first-whole (c .before .before .before .before .before .before .before .pre .1 .1 .1 .1 .1 .1)) at (c .before .before .fraction-division .ensures .0)) (rw (first-whole (c .before .before .before .before .before .before .before .pre .1 .1 .1 .1 .1 .0), first-whole (c .before .before .before .before .before .before .before .pre .1 .1 .1 .1 .1 .1)) at (c .before .before .fraction-division .ensures .1))) .room
+array-share-prefix-made c =
+    let start = c .before .before .before .before .before .before .before in
+    let fraction-division = c .before .before .fraction-division in
+    (made-aside Op.Ratio (words (start .args .sign .now)) (words (start .args .lm .now)) _ (fraction-division .last .1 .1 .0) (fraction-division .result)
+    (canonical-more (omega arith) (start .pre .0 .vars-to) (start .pre .1 .1 .1 .1 .1 .0))
+    (canonical-more (omega arith) (start .pre .0 .vars-to) (start .pre .1 .1 .1 .1 .1 .1)) refl
+    (rw (first-whole (start .pre .1 .1 .1 .1 .1 .0), first-whole (start .pre .1 .1 .1 .1 .1 .1)) at (fraction-division .ensures .0))
+    (rw (first-whole (start .pre .1 .1 .1 .1 .1 .0), first-whole (start .pre .1 .1 .1 .1 .1 .1)) at (fraction-division .ensures .1))) .room
 
 -- src/labelling.rt:86:34
 slice-aggregate-label-ratio : tie.Need-slice-aggregate-label-ratio
-slice-aggregate-label-ratio c = sym ((made-aside Op.Ratio (words (c .before .before .before .before .before .before .before .before .args .sign .now)) (words (c .before .before .before .before .before .before .before .before .args .lm .now)) _ (c .before .before .before .fraction-division .last .1 .1 .0) (c .before .before .before .fraction-division .result) (canonical-more (omega arith) (c .before .before .before .before .before .before .before .before .pre .0 .vars-to) (c .before .before .before .before .before .before .before .before .pre .1 .1 .1 .1 .1 .0)) (canonical-more (omega arith) (c .before .before .before .before .before .before .before .before .pre .0 .vars-to) (c .before .before .before .before .before .before .before .before .pre .1 .1 .1 .1 .1 .1)) refl (rw (first-whole (c .before .before .before .before .before .before .before .before .pre .1 .1 .1 .1 .1 .0), first-whole (c .before .before .before .before .before .before .before .before .pre .1 .1 .1 .1 .1 .1)) at (c .before .before .before .fraction-division .ensures .0)) (rw (first-whole (c .before .before .before .before .before .before .before .before .pre .1 .1 .1 .1 .1 .0), first-whole (c .before .before .before .before .before .before .before .before .pre .1 .1 .1 .1 .1 .1)) at (c .before .before .before .fraction-division .ensures .1))) .size)
+slice-aggregate-label-ratio c =
+    let start = c .before .before .before .before .before .before .before .before in
+    let fraction-division = c .before .before .before .fraction-division in
+    sym ((made-aside Op.Ratio (words (start .args .sign .now)) (words (start .args .lm .now)) _ (fraction-division .last .1 .1 .0) (fraction-division .result)
+    (canonical-more (omega arith) (start .pre .0 .vars-to) (start .pre .1 .1 .1 .1 .1 .0))
+    (canonical-more (omega arith) (start .pre .0 .vars-to) (start .pre .1 .1 .1 .1 .1 .1)) refl
+    (rw (first-whole (start .pre .1 .1 .1 .1 .1 .0), first-whole (start .pre .1 .1 .1 .1 .1 .1)) at (fraction-division .ensures .0))
+    (rw (first-whole (start .pre .1 .1 .1 .1 .1 .0), first-whole (start .pre .1 .1 .1 .1 .1 .1)) at (fraction-division .ensures .1))) .size)
 
 -- src/labelling.rt:86:5
 label-ratio-requires : tie.Need-label-ratio-requires
-label-ratio-requires c κs = (c .before .before .before .before .before .before .before .before .pre .0, (c .before .before .before .before .before .before .before .before .pre .1 .0, (c .before .before .before .before .before .before .before .before .pre .1 .1 .0, (c .before .before .before .before .before .before .before .before .pre .1 .1 .1 .0, rw ((made-aside Op.Ratio (words (c .before .before .before .before .before .before .before .before .args .sign .now)) (words (c .before .before .before .before .before .before .before .before .args .lm .now)) _ (c .before .before .before .fraction-division .last .1 .1 .0) (c .before .before .before .fraction-division .result) (canonical-more (omega arith) (c .before .before .before .before .before .before .before .before .pre .0 .vars-to) (c .before .before .before .before .before .before .before .before .pre .1 .1 .1 .1 .1 .0)) (canonical-more (omega arith) (c .before .before .before .before .before .before .before .before .pre .0 .vars-to) (c .before .before .before .before .before .before .before .before .pre .1 .1 .1 .1 .1 .1)) refl (rw (first-whole (c .before .before .before .before .before .before .before .before .pre .1 .1 .1 .1 .1 .0), first-whole (c .before .before .before .before .before .before .before .before .pre .1 .1 .1 .1 .1 .1)) at (c .before .before .before .fraction-division .ensures .0)) (rw (first-whole (c .before .before .before .before .before .before .before .before .pre .1 .1 .1 .1 .1 .0), first-whole (c .before .before .before .before .before .before .before .before .pre .1 .1 .1 .1 .1 .1)) at (c .before .before .before .fraction-division .ensures .1))) .are) (ratio-good (c .before .before .before .before .before .before .before .before .args .s .variables) (c .before .before .before .before .before .before .before .before .args .index) (words (c .before .before .before .before .before .before .before .before .args .sign .now)) (words (c .before .before .before .before .before .before .before .before .args .lm .now)) (c .before .before .before .before .before .before .before .before .pre .0 .vars-to) (c .before .before .before .before .before .before .before .before .pre .1 .1 .1 .1 .0) (c .before .before .before .before .before .before .before .before .pre .1 .1 .1 .1 .1 .0) (c .before .before .before .before .before .before .before .before .pre .1 .1 .1 .1 .1 .1))))))
+label-ratio-requires c κs =
+    let start = c .before .before .before .before .before .before .before .before in
+    let fraction-division = c .before .before .before .fraction-division in (
+      start .pre .0,
+      (
+        start .pre .1 .0,
+        (
+          start .pre .1 .1 .0,
+          (
+            start .pre .1 .1 .1 .0,
+            rw ((made-aside Op.Ratio (words (start .args .sign .now)) (words (start .args .lm .now)) _ (fraction-division .last .1 .1 .0) (fraction-division .result)
+                (canonical-more (omega arith) (start .pre .0 .vars-to) (start .pre .1 .1 .1 .1 .1 .0))
+                (canonical-more (omega arith) (start .pre .0 .vars-to) (start .pre .1 .1 .1 .1 .1 .1)) refl
+                (rw (first-whole (start .pre .1 .1 .1 .1 .1 .0), first-whole (start .pre .1 .1 .1 .1 .1 .1)) at (fraction-division .ensures .0))
+                (rw (first-whole (start .pre .1 .1 .1 .1 .1 .0), first-whole (start .pre .1 .1 .1 .1 .1 .1)) at (fraction-division .ensures .1))) .are)
+                (ratio-good (start .args .s .variables) (start .args .index) (words (start .args .sign .now)) (words (start .args .lm .now)) (start .pre .0 .vars-to)
+                (start .pre .1 .1 .1 .1 .0) (start .pre .1 .1 .1 .1 .1 .0) (start .pre .1 .1 .1 .1 .1 .1)),
+          ),
+        ),
+      ),
+    )
 
 -- src/labelling.rt:73:1
 same-length : tie.Need-same-length
@@ -44,7 +99,16 @@ same-length c = search needs
 
 -- src/labelling.rt:73:1
 returns : tie.Need-returns
-returns c = λ l m. as-quotient (c .before .before .before .before .before .before .before .before .before .before .before .args .s) l (c .before .before .before .before .before .before .before .before .before .before .before .args .index) (c .before .before .label-ratio .result) (words (c .before .before .before .before .before .before .before .before .before .before .before .args .sign .now)) (words (c .before .before .before .before .before .before .before .before .before .before .before .args .lm .now)) _ (c .before .before .before .before .before .before .before .before .before .before .before .args .image .now) _ ((made-aside Op.Ratio (words (c .before .before .before .before .before .before .before .before .before .before .before .args .sign .now)) (words (c .before .before .before .before .before .before .before .before .before .before .before .args .lm .now)) _ (c .before .before .before .before .before .before .fraction-division .last .1 .1 .0) (c .before .before .before .before .before .before .fraction-division .result) (canonical-more (omega arith) (c .before .before .before .before .before .before .before .before .before .before .before .pre .0 .vars-to) (c .before .before .before .before .before .before .before .before .before .before .before .pre .1 .1 .1 .1 .1 .0)) (canonical-more (omega arith) (c .before .before .before .before .before .before .before .before .before .before .before .pre .0 .vars-to) (c .before .before .before .before .before .before .before .before .before .before .before .pre .1 .1 .1 .1 .1 .1)) refl (rw (first-whole (c .before .before .before .before .before .before .before .before .before .before .before .pre .1 .1 .1 .1 .1 .0), first-whole (c .before .before .before .before .before .before .before .before .before .before .before .pre .1 .1 .1 .1 .1 .1)) at (c .before .before .before .before .before .before .fraction-division .ensures .0)) (rw (first-whole (c .before .before .before .before .before .before .before .before .before .before .before .pre .1 .1 .1 .1 .1 .0), first-whole (c .before .before .before .before .before .before .before .before .before .before .before .pre .1 .1 .1 .1 .1 .1)) at (c .before .before .before .before .before .before .fraction-division .ensures .1))) .are) ((c .before .before .label-ratio .ensures) l m)
+returns c =
+    let start = c .before .before .before .before .before .before .before .before .before .before .before in
+    let fraction-division = c .before .before .before .before .before .before .fraction-division in
+    let label-ratio = c .before .before .label-ratio in
+    λ l m. as-quotient (start .args .s) l (start .args .index) (label-ratio .result) (words (start .args .sign .now)) (words (start .args .lm .now)) _
+    (start .args .image .now) _ ((made-aside Op.Ratio (words (start .args .sign .now)) (words (start .args .lm .now)) _ (fraction-division .last .1 .1 .0)
+    (fraction-division .result) (canonical-more (omega arith) (start .pre .0 .vars-to) (start .pre .1 .1 .1 .1 .1 .0))
+    (canonical-more (omega arith) (start .pre .0 .vars-to) (start .pre .1 .1 .1 .1 .1 .1)) refl
+    (rw (first-whole (start .pre .1 .1 .1 .1 .1 .0), first-whole (start .pre .1 .1 .1 .1 .1 .1)) at (fraction-division .ensures .0))
+    (rw (first-whole (start .pre .1 .1 .1 .1 .1 .0), first-whole (start .pre .1 .1 .1 .1 .1 .1)) at (fraction-division .ensures .1))) .are) ((label-ratio .ensures) l m)
 
 pub label-entry-spec : {M : Type 1} → statement M
 label-entry-spec =

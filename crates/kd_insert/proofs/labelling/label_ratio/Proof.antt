@@ -52,7 +52,8 @@ part-count-end c = search needs
 count-requires : tie.Need-count-requires
 count-requires c κs = let s = (c .before .before .before .before .before .before) in
     let v = valueOf (s .args .index) (words (s .args .ratio .now)) in
-    lent-ready (s .args .image .now) (s .args .s) (s .pre .0) (s .pre .1 .0) (s .pre .1 .1 .0) (c .before .before .before .labels-at .result) (c .before .before .labels-size .result) (c .before .before .before .labels-at .ensures) (c .before .before .labels-size .ensures) v (s .pre .1 .1 .1 .1) (s .pre .1 .1 .1 .0) .0
+    lent-ready (s .args .image .now) (s .args .s) (s .pre .0) (s .pre .1 .0) (s .pre .1 .1 .0) (c .before .before .before .labels-at .result)
+    (c .before .before .labels-size .result) (c .before .before .before .labels-at .ensures) (c .before .before .labels-size .ensures) v (s .pre .1 .1 .1 .1) (s .pre .1 .1 .1 .0) .0
 
 -- src/labelling.rt:82:12
 sub-settle : tie.Need-sub-settle
@@ -70,7 +71,9 @@ part-settle-end c = search needs
 settle-requires : tie.Need-settle-requires
 settle-requires c κs = let s = (c .before .before .before .before .before .before .before .before) in
     let v = valueOf (s .args .index) (words (s .args .ratio .now)) in
-    lent-ready (s .args .image .now) (s .args .s) (s .pre .0) (s .pre .1 .0) (s .pre .1 .1 .0) (c .before .before .before .before .before .labels-at .result) (c .before .before .before .before .labels-size .result) (c .before .before .before .before .before .labels-at .ensures) (c .before .before .before .before .labels-size .ensures) v (s .pre .1 .1 .1 .1) (s .pre .1 .1 .1 .0)
+    lent-ready (s .args .image .now) (s .args .s) (s .pre .0) (s .pre .1 .0) (s .pre .1 .1 .0) (c .before .before .before .before .before .labels-at .result)
+    (c .before .before .before .before .labels-size .result) (c .before .before .before .before .before .labels-at .ensures)
+    (c .before .before .before .before .labels-size .ensures) v (s .pre .1 .1 .1 .1) (s .pre .1 .1 .1 .0)
 
 -- src/labelling.rt:83:17
 sub-settled-row : tie.Need-sub-settled-row
@@ -90,7 +93,15 @@ settled-row-requires c κs = let s = (c .before .before .before .before .before 
     let v = valueOf (s .args .index) (words (s .args .ratio .now)) in
     let l = s .pre .1 .1 .1 .0 .state in
     let m = map-of (s .args .image .now) (s .args .s) (s .pre .0) (s .pre .1 .0) (s .pre .1 .1 .0) (s .pre .1 .1 .1 .0) in (
-      record { state = settled l v; is = read-again (s .args .image .now) (s .args .s) (s .pre .0) (s .pre .1 .0) (s .pre .1 .1 .0) (c .before .before .before .before .before .before .before .before .before .before .labels-at .result) (c .before .before .before .before .before .before .before .before .before .labels-size .result) (c .before .before .before .before .before .before .before .before .before .before .labels-at .ensures) (c .before .before .before .before .before .before .before .before .before .labels-size .ensures) v (s .pre .1 .1 .1 .1) (c .before .before .before .before .settle .last .0) (c .before .before .before .before .settle .ensures) l m },
+      record {
+        state = settled l v;
+        is = read-again (s .args .image .now) (s .args .s) (s .pre .0) (s .pre .1 .0) (s .pre .1 .1 .0)
+            (c .before .before .before .before .before .before .before .before .before .before .labels-at .result)
+            (c .before .before .before .before .before .before .before .before .before .labels-size .result)
+            (c .before .before .before .before .before .before .before .before .before .before .labels-at .ensures)
+            (c .before .before .before .before .before .before .before .before .before .labels-size .ensures) v (s .pre .1 .1 .1 .1)
+            (c .before .before .before .before .settle .last .0) (c .before .before .before .before .settle .ensures) l m;
+      },
       canonical-more (omega arith) (omega (arith, s .pre .0 .vars-to)) (s .pre .1 .1 .1 .1 .canonical),
     )
 
@@ -102,9 +113,25 @@ same-length c = search needs
 returns : tie.Need-returns
 returns c = let s = (c .before .before .before .before .before .before .before .before .before .before .before .before .before .before) in
     let v = valueOf (s .args .index) (words (s .args .ratio .now)) in
-    λ l m. let few = (c .before .before .before .before .before .before .before .count .ensures .1) l (is-l (s .args .image .now) (s .args .s) (s .pre .0) (s .pre .1 .0) (s .pre .1 .1 .0) (c .before .before .before .before .before .before .before .before .before .before .before .labels-at .result) (c .before .before .before .before .before .before .before .before .before .before .labels-size .result) (c .before .before .before .before .before .before .before .before .before .before .before .labels-at .ensures) (c .before .before .before .before .before .before .before .before .before .before .labels-size .ensures) v (s .pre .1 .1 .1 .1) (c .before .before .before .before .before .settle .last .0) (c .before .before .before .before .before .settle .ensures) l m) in
-    labels-are (s .args .image .now) (s .args .s) (s .pre .0) (s .pre .1 .0) (s .pre .1 .1 .0) (c .before .before .before .before .before .before .before .before .before .before .before .labels-at .result) (c .before .before .before .before .before .before .before .before .before .before .labels-size .result) (c .before .before .before .before .before .before .before .before .before .before .before .labels-at .ensures) (c .before .before .before .before .before .before .before .before .before .before .labels-size .ensures) v (s .pre .1 .1 .1 .1) (c .before .before .before .before .before .settle .last .0) (c .before .before .before .before .before .settle .ensures) l m (c .settled-row .result)
-    ((c .settled-row .ensures) l (m .valid) few (read-again (s .args .image .now) (s .args .s) (s .pre .0) (s .pre .1 .0) (s .pre .1 .1 .0) (c .before .before .before .before .before .before .before .before .before .before .before .labels-at .result) (c .before .before .before .before .before .before .before .before .before .before .labels-size .result) (c .before .before .before .before .before .before .before .before .before .before .before .labels-at .ensures) (c .before .before .before .before .before .before .before .before .before .before .labels-size .ensures) v (s .pre .1 .1 .1 .1) (c .before .before .before .before .before .settle .last .0) (c .before .before .before .before .before .settle .ensures) l m))
+    λ l m. let few = (c .before .before .before .before .before .before .before .count .ensures .1) l
+    (is-l (s .args .image .now) (s .args .s) (s .pre .0) (s .pre .1 .0) (s .pre .1 .1 .0)
+    (c .before .before .before .before .before .before .before .before .before .before .before .labels-at .result)
+    (c .before .before .before .before .before .before .before .before .before .before .labels-size .result)
+    (c .before .before .before .before .before .before .before .before .before .before .before .labels-at .ensures)
+    (c .before .before .before .before .before .before .before .before .before .before .labels-size .ensures) v (s .pre .1 .1 .1 .1)
+    (c .before .before .before .before .before .settle .last .0) (c .before .before .before .before .before .settle .ensures) l m) in
+    labels-are (s .args .image .now) (s .args .s) (s .pre .0) (s .pre .1 .0) (s .pre .1 .1 .0)
+    (c .before .before .before .before .before .before .before .before .before .before .before .labels-at .result)
+    (c .before .before .before .before .before .before .before .before .before .before .labels-size .result)
+    (c .before .before .before .before .before .before .before .before .before .before .before .labels-at .ensures)
+    (c .before .before .before .before .before .before .before .before .before .before .labels-size .ensures) v (s .pre .1 .1 .1 .1)
+    (c .before .before .before .before .before .settle .last .0) (c .before .before .before .before .before .settle .ensures) l m (c .settled-row .result)
+    ((c .settled-row .ensures) l (m .valid) few (read-again (s .args .image .now) (s .args .s) (s .pre .0) (s .pre .1 .0) (s .pre .1 .1 .0)
+    (c .before .before .before .before .before .before .before .before .before .before .before .labels-at .result)
+    (c .before .before .before .before .before .before .before .before .before .before .labels-size .result)
+    (c .before .before .before .before .before .before .before .before .before .before .before .labels-at .ensures)
+    (c .before .before .before .before .before .before .before .before .before .before .labels-size .ensures) v (s .pre .1 .1 .1 .1)
+    (c .before .before .before .before .before .settle .last .0) (c .before .before .before .before .before .settle .ensures) l m))
 
 pub label-ratio-spec : {M : Type 1} → statement M
 label-ratio-spec =

@@ -23,7 +23,19 @@ enum-known-place c = search needs
 
 -- src/labelling.rt:52:25
 row-at-requires : tie.Need-row-at-requires
-row-at-requires c κs = (c .before .before .before .before .before .before .pre .0, omega (arith, known-row (c .before .before .before .before .before .before .pre .0 .state) (valueOf (c .before .before .before .before .before .before .args .index) (words (c .before .before .before .before .before .before .args .ratio .now))) ((c .before .before .before .before .before .before .pre .0 .is) .valid) (c .before .place .given .0 .0) (at-place (c .before .before .before .before .before .before .pre .0 .state) (valueOf (c .before .before .before .before .before .before .args .index) (words (c .before .before .before .before .before .before .args .ratio .now))) (c .before .place .given .0 .0) (sym (c .before .place .given .1) ∙ (c .before .before .before .search .ensures) (c .before .before .before .before .before .before .pre .0 .state) (c .before .before .before .before .before .before .pre .0 .is))) .0, count-of (c .before .before .before .before .before .before .args .labels .now) (c .before .before .before .before .before .before .pre .0 .state) (c .before .before .before .before .before .before .pre .0 .is)))
+row-at-requires c κs =
+    let start = c .before .before .before .before .before .before in
+    let search = c .before .before .before .search in
+    let p = valueOf (start .args .index) (words (start .args .ratio .now)) in (
+      start .pre .0,
+      omega (
+        arith,
+        known-row (start .pre .0 .state) p ((start .pre .0 .is) .valid) (c .before .place .given .0 .0)
+            (at-place (start .pre .0 .state) p (c .before .place .given .0 .0)
+            (sym (c .before .place .given .1) ∙ (search .ensures) (start .pre .0 .state) (start .pre .0 .is))) .0,
+        count-of (start .args .labels .now) (start .pre .0 .state) (start .pre .0 .is),
+      ),
+    )
 
 -- src/labelling.rt:53:29
 enum-told : tie.Need-enum-told
@@ -31,11 +43,18 @@ enum-told c = search needs
 
 -- src/labelling.rt:45:1
 returns : tie.Need-returns
-returns c = λ l i. row-at-place l (valueOf (c .before .before .before .before .before .before .before .args .index) (words (c .before .before .before .before .before .before .before .args .ratio .now))) (c .before .before .place .given .0 .0) (c .row-at .result) (i .valid) (sym (c .before .before .place .given .1) ∙ (c .before .before .before .before .search .ensures) l i) ((c .row-at .ensures) l i .1)
+returns c =
+    let start = c .before .before .before .before .before .before .before in
+    let search = c .before .before .before .before .search in
+    let place = c .before .before .place in
+    λ l i. row-at-place l (valueOf (start .args .index) (words (start .args .ratio .now))) (place .given .0 .0) (c .row-at .result) (i .valid)
+    (sym (place .given .1) ∙ (search .ensures) l i) ((c .row-at .ensures) l i .1)
 
 -- src/labelling.rt:45:1
 returns-2 : tie.Need-returns-2
-returns-2 c = λ l i. no-row l (valueOf (c .before .before .before .before .before .args .index) (words (c .before .before .before .before .before .args .ratio .now))) (c .enum-told .given .0 .0) (sym (c .enum-told .given .1) ∙ (c .before .before .search .ensures) l i)
+returns-2 c =
+    let start = c .before .before .before .before .before in
+    λ l i. no-row l (valueOf (start .args .index) (words (start .args .ratio .now))) (c .enum-told .given .0 .0) (sym (c .enum-told .given .1) ∙ (c .before .before .search .ensures) l i)
 
 pub row-of-spec : {M : Type 1} → statement M
 row-of-spec =

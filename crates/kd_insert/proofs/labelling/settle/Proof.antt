@@ -26,15 +26,46 @@ same-length c = search needs
 
 -- src/labelling.rt:38:9
 returns : tie.Need-returns
-returns c = λ l i. first-done (c .before .before .before .before .before .before .before .before .args .labels .now) (c .before .before .before .before .get-comparer .last .0) l (valueOf (c .before .before .before .before .before .before .before .before .args .index) (words (c .before .before .before .before .before .before .before .before .args .ratio .now))) (c .before .before .before .before .get-comparer .result) (c .before .no-label .result) ((c .before .before .before .before .get-comparer .ensures) l i) (c .before .no-label .ensures) (not-true (c .before .no-label .result) (c .if1 .taken))
+returns c =
+    let start = c .before .before .before .before .before .before .before .before in
+    let get-comparer = c .before .before .before .before .get-comparer in
+    λ l i. first-done (start .args .labels .now) (get-comparer .last .0) l (valueOf (start .args .index) (words (start .args .ratio .now))) (get-comparer .result)
+    (c .before .no-label .result) ((get-comparer .ensures) l i) (c .before .no-label .ensures) (not-true (c .before .no-label .result) (c .if1 .taken))
 
 -- src/labelling.rt:40:5
 rebuild-requires : tie.Need-rebuild-requires
-rebuild-requires c κs = record { state = (c .before .before .before .before .before .before .before .before .before .pre .0 .state); is = still (c .before .before .before .before .before .before .before .before .before .args .labels .now) (c .before .before .before .before .before .get-comparer .last .0) (c .before .before .before .before .before .before .before .before .before .pre .0 .state) (valueOf (c .before .before .before .before .before .before .before .before .before .args .index) (words (c .before .before .before .before .before .before .before .before .before .args .ratio .now))) (c .before .before .before .before .before .get-comparer .result) (c .before .before .before .before .before .before .before .before .before .pre .0 .is) (c .before .before .before .before .before .before .before .before .before .pre .1) ((c .before .before .before .before .before .get-comparer .ensures) (c .before .before .before .before .before .before .before .before .before .pre .0 .state) (c .before .before .before .before .before .before .before .before .before .pre .0 .is)) (sym (c .before .before .no-label .ensures) ∙ not-false (c .before .before .no-label .result) (c .before .if1 .left)) }
+rebuild-requires c κs =
+    let start = c .before .before .before .before .before .before .before .before .before in
+    let get-comparer = c .before .before .before .before .before .get-comparer in
+    let no-label = c .before .before .no-label in
+    record {
+      state = (start .pre .0 .state);
+      is = still (start .args .labels .now) (get-comparer .last .0) (start .pre .0 .state)
+          (valueOf (start .args .index) (words (start .args .ratio .now))) (get-comparer .result) (start .pre .0 .is) (start .pre .1)
+          ((get-comparer .ensures) (start .pre .0 .state) (start .pre .0 .is)) (sym (no-label .ensures) ∙ not-false (no-label .result) (c .before .if1 .left));
+    }
 
 -- src/labelling.rt:41:5
 get-comparer-requires-2 : tie.Need-get-comparer-requires-2
-get-comparer-requires-2 c κs = (record { state = rebuild (c .before .before .before .before .before .before .before .before .before .before .before .before .before .pre .0 .state); is = dealt (c .before .before .before .before .before .before .before .before .before .before .before .before .before .args .labels .now) (c .before .before .before .before .before .before .before .before .before .get-comparer .last .0) (c .before .before .before .before .before .before .before .before .before .before .before .before .before .pre .0 .state) (valueOf (c .before .before .before .before .before .before .before .before .before .before .before .before .before .args .index) (words (c .before .before .before .before .before .before .before .before .before .before .before .before .before .args .ratio .now))) (c .before .before .before .before .before .before .before .before .before .get-comparer .result) (c .before .before .before .before .before .before .before .before .before .before .before .before .before .pre .0 .is) (c .before .before .before .before .before .before .before .before .before .before .before .before .before .pre .1) ((c .before .before .before .before .before .before .before .before .before .get-comparer .ensures) (c .before .before .before .before .before .before .before .before .before .before .before .before .before .pre .0 .state) (c .before .before .before .before .before .before .before .before .before .before .before .before .before .pre .0 .is)) (sym (c .before .before .before .before .before .before .no-label .ensures) ∙ not-false (c .before .before .before .before .before .before .no-label .result) (c .before .before .before .before .before .if1 .left)) (c .before .before .before .rebuild .last .0) ((c .before .before .before .rebuild .ensures) (c .before .before .before .before .before .before .before .before .before .before .before .before .before .pre .0 .state) (still (c .before .before .before .before .before .before .before .before .before .before .before .before .before .args .labels .now) (c .before .before .before .before .before .before .before .before .before .get-comparer .last .0) (c .before .before .before .before .before .before .before .before .before .before .before .before .before .pre .0 .state) (valueOf (c .before .before .before .before .before .before .before .before .before .before .before .before .before .args .index) (words (c .before .before .before .before .before .before .before .before .before .before .before .before .before .args .ratio .now))) (c .before .before .before .before .before .before .before .before .before .get-comparer .result) (c .before .before .before .before .before .before .before .before .before .before .before .before .before .pre .0 .is) (c .before .before .before .before .before .before .before .before .before .before .before .before .before .pre .1) ((c .before .before .before .before .before .before .before .before .before .get-comparer .ensures) (c .before .before .before .before .before .before .before .before .before .before .before .before .before .pre .0 .state) (c .before .before .before .before .before .before .before .before .before .before .before .before .before .pre .0 .is)) (sym (c .before .before .before .before .before .before .no-label .ensures) ∙ not-false (c .before .before .before .before .before .before .no-label .result) (c .before .before .before .before .before .if1 .left)))) }, good-again (c .before .before .before .before .before .before .before .before .before .before .before .before .before .args .labels .now) (c .before .before .before .before .before .before .before .before .before .get-comparer .last .0) (c .before .before .before .before .before .before .before .before .before .before .before .before .before .pre .0 .state) (valueOf (c .before .before .before .before .before .before .before .before .before .before .before .before .before .args .index) (words (c .before .before .before .before .before .before .before .before .before .before .before .before .before .args .ratio .now))) (c .before .before .before .before .before .before .before .before .before .get-comparer .result) (c .before .before .before .before .before .before .before .before .before .before .before .before .before .pre .0 .is) (c .before .before .before .before .before .before .before .before .before .before .before .before .before .pre .1) ((c .before .before .before .before .before .before .before .before .before .get-comparer .ensures) (c .before .before .before .before .before .before .before .before .before .before .before .before .before .pre .0 .state) (c .before .before .before .before .before .before .before .before .before .before .before .before .before .pre .0 .is)) (sym (c .before .before .before .before .before .before .no-label .ensures) ∙ not-false (c .before .before .before .before .before .before .no-label .result) (c .before .before .before .before .before .if1 .left)) (c .before .before .before .rebuild .last .0) ((c .before .before .before .rebuild .ensures) (c .before .before .before .before .before .before .before .before .before .before .before .before .before .pre .0 .state) (still (c .before .before .before .before .before .before .before .before .before .before .before .before .before .args .labels .now) (c .before .before .before .before .before .before .before .before .before .get-comparer .last .0) (c .before .before .before .before .before .before .before .before .before .before .before .before .before .pre .0 .state) (valueOf (c .before .before .before .before .before .before .before .before .before .before .before .before .before .args .index) (words (c .before .before .before .before .before .before .before .before .before .before .before .before .before .args .ratio .now))) (c .before .before .before .before .before .before .before .before .before .get-comparer .result) (c .before .before .before .before .before .before .before .before .before .before .before .before .before .pre .0 .is) (c .before .before .before .before .before .before .before .before .before .before .before .before .before .pre .1) ((c .before .before .before .before .before .before .before .before .before .get-comparer .ensures) (c .before .before .before .before .before .before .before .before .before .before .before .before .before .pre .0 .state) (c .before .before .before .before .before .before .before .before .before .before .before .before .before .pre .0 .is)) (sym (c .before .before .before .before .before .before .no-label .ensures) ∙ not-false (c .before .before .before .before .before .before .no-label .result) (c .before .before .before .before .before .if1 .left)))))
+get-comparer-requires-2 c κs =
+    let start = c .before .before .before .before .before .before .before .before .before .before .before .before .before in
+    let get-comparer = c .before .before .before .before .before .before .before .before .before .get-comparer in
+    let no-label = c .before .before .before .before .before .before .no-label in
+    let if1 = c .before .before .before .before .before .if1 in
+    let rebuild′ = c .before .before .before .rebuild in
+    let p = (rebuild′ .ensures) (start .pre .0 .state) (still (start .args .labels .now) (get-comparer .last .0) (start .pre .0 .state)
+    (valueOf (start .args .index) (words (start .args .ratio .now))) (get-comparer .result) (start .pre .0 .is) (start .pre .1)
+    ((get-comparer .ensures) (start .pre .0 .state) (start .pre .0 .is)) (sym (no-label .ensures) ∙ not-false (no-label .result) (if1 .left))) in
+    let q = sym (no-label .ensures) ∙ not-false (no-label .result) (if1 .left) in
+    let x = (get-comparer .ensures) (start .pre .0 .state) (start .pre .0 .is) in
+    let y = valueOf (start .args .index) (words (start .args .ratio .now)) in (
+      record {
+        state = rebuild (start .pre .0 .state);
+        is = dealt (start .args .labels .now) (get-comparer .last .0) (start .pre .0 .state) y (get-comparer .result)
+            (start .pre .0 .is) (start .pre .1) x q (rebuild′ .last .0) p;
+      },
+      good-again (start .args .labels .now) (get-comparer .last .0) (start .pre .0 .state) y (get-comparer .result) (start .pre .0 .is) (start .pre .1) x q (rebuild′ .last .0) p,
+    )
 
 -- src/labelling.rt:31:1
 same-length-2 : tie.Need-same-length-2
@@ -42,7 +73,20 @@ same-length-2 c = search needs
 
 -- src/labelling.rt:31:1
 returns-2 : tie.Need-returns-2
-returns-2 c = λ l i. let s = still (c .before .before .before .before .before .before .before .before .before .before .before .before .before .before .before .before .args .labels .now) (c .before .before .before .before .before .before .before .before .before .before .before .before .get-comparer .last .0) l (valueOf (c .before .before .before .before .before .before .before .before .before .before .before .before .before .before .before .before .args .index) (words (c .before .before .before .before .before .before .before .before .before .before .before .before .before .before .before .before .args .ratio .now))) (c .before .before .before .before .before .before .before .before .before .before .before .before .get-comparer .result) i (c .before .before .before .before .before .before .before .before .before .before .before .before .before .before .before .before .pre .1) ((c .before .before .before .before .before .before .before .before .before .before .before .before .get-comparer .ensures) l i) (sym (c .before .before .before .before .before .before .before .before .before .no-label .ensures) ∙ not-false (c .before .before .before .before .before .before .before .before .before .no-label .result) (c .before .before .before .before .before .before .before .before .if1 .left)) in second-done (c .before .before .before .before .before .before .before .before .before .before .before .before .before .before .before .before .args .labels .now) (c .before .before .before .before .before .before .before .before .before .before .before .before .get-comparer .last .0) l (valueOf (c .before .before .before .before .before .before .before .before .before .before .before .before .before .before .before .before .args .index) (words (c .before .before .before .before .before .before .before .before .before .before .before .before .before .before .before .before .args .ratio .now))) (c .before .before .before .before .before .before .before .before .before .before .before .before .get-comparer .result) i (c .before .before .before .before .before .before .before .before .before .before .before .before .before .before .before .before .pre .1) ((c .before .before .before .before .before .before .before .before .before .before .before .before .get-comparer .ensures) l i) (sym (c .before .before .before .before .before .before .before .before .before .no-label .ensures) ∙ not-false (c .before .before .before .before .before .before .before .before .before .no-label .result) (c .before .before .before .before .before .before .before .before .if1 .left)) (c .before .before .before .before .before .before .rebuild .last .0) ((c .before .before .before .before .before .before .rebuild .ensures) l s) (c .before .before .get-comparer2 .last .0) (c .before .before .get-comparer2 .result) ((c .before .before .get-comparer2 .ensures) (rebuild l) (dealt (c .before .before .before .before .before .before .before .before .before .before .before .before .before .before .before .before .args .labels .now) (c .before .before .before .before .before .before .before .before .before .before .before .before .get-comparer .last .0) l (valueOf (c .before .before .before .before .before .before .before .before .before .before .before .before .before .before .before .before .args .index) (words (c .before .before .before .before .before .before .before .before .before .before .before .before .before .before .before .before .args .ratio .now))) (c .before .before .before .before .before .before .before .before .before .before .before .before .get-comparer .result) i (c .before .before .before .before .before .before .before .before .before .before .before .before .before .before .before .before .pre .1) ((c .before .before .before .before .before .before .before .before .before .before .before .before .get-comparer .ensures) l i) (sym (c .before .before .before .before .before .before .before .before .before .no-label .ensures) ∙ not-false (c .before .before .before .before .before .before .before .before .before .no-label .result) (c .before .before .before .before .before .before .before .before .if1 .left)) (c .before .before .before .before .before .before .rebuild .last .0) ((c .before .before .before .before .before .before .rebuild .ensures) l s)))
+returns-2 c =
+    let start = c .before .before .before .before .before .before .before .before .before .before .before .before .before .before .before .before in
+    let get-comparer = c .before .before .before .before .before .before .before .before .before .before .before .before .get-comparer in
+    let no-label = c .before .before .before .before .before .before .before .before .before .no-label in
+    let if1 = c .before .before .before .before .before .before .before .before .if1 in
+    let rebuild′ = c .before .before .before .before .before .before .rebuild in
+    let get-comparer2 = c .before .before .get-comparer2 in
+    let p = sym (no-label .ensures) ∙ not-false (no-label .result) (if1 .left) in
+    let q = valueOf (start .args .index) (words (start .args .ratio .now)) in
+    λ l i. let s = still (start .args .labels .now) (get-comparer .last .0) l q (get-comparer .result) i (start .pre .1) ((get-comparer .ensures) l i) p in second-done
+    (start .args .labels .now) (get-comparer .last .0) l q (get-comparer .result) i (start .pre .1) ((get-comparer .ensures) l i) p (rebuild′ .last .0)
+    ((rebuild′ .ensures) l s) (get-comparer2 .last .0) (get-comparer2 .result)
+    ((get-comparer2 .ensures) (rebuild l) (dealt (start .args .labels .now) (get-comparer .last .0) l q (get-comparer .result) i (start .pre .1)
+    ((get-comparer .ensures) l i) p (rebuild′ .last .0) ((rebuild′ .ensures) l s)))
 
 pub settle-spec : {M : Type 1} → statement M
 settle-spec =

@@ -44,11 +44,23 @@ cast-map c = search needs
 
 -- src/slots.rt:49:5
 map-requires : tie.Need-map-requires
-map-requires c κs = (rw (part-words (c .before .before .before .args .image .now) (shape.mapAt (c .before .before .before .args .s .variables)) (c .before .before .before .args .s .variables) (4 * shape.mapAt (c .before .before .before .args .s .variables) + 4 * (c .before .before .before .args .s .variables) - 4 * shape.mapAt (c .before .before .before .args .s .variables)) (omega arith)) (c .before .before .before .pre .1 .1 .0), starts-whole (c .before .before .before .pre .1 .1 .1))
+map-requires c κs =
+    let start = c .before .before .before in (
+      rw (part-words (start .args .image .now) (shape.mapAt (start .args .s .variables)) (start .args .s .variables)
+          (4 * shape.mapAt (start .args .s .variables) + 4 * (start .args .s .variables) - 4 * shape.mapAt (start .args .s .variables)) (omega arith))
+          (start .pre .1 .1 .0),
+      starts-whole (start .pre .1 .1 .1),
+    )
 
 -- src/slots.rt:39:1
 returns : tie.Need-returns
-returns c = rw ((part-words (c .before .before .before .before .args .image .now) (shape.mapAt (c .before .before .before .before .args .s .variables)) (c .before .before .before .before .args .s .variables) (4 * shape.mapAt (c .before .before .before .before .args .s .variables) + 4 * (c .before .before .before .before .args .s .variables) - 4 * shape.mapAt (c .before .before .before .before .args .s .variables)) (omega arith)), first-whole (c .before .before .before .before .pre .1 .1 .1)) at (c .map .ensures)
+returns c =
+    let start = c .before .before .before .before in
+    rw (
+      (part-words (start .args .image .now) (shape.mapAt (start .args .s .variables)) (start .args .s .variables)
+          (4 * shape.mapAt (start .args .s .variables) + 4 * (start .args .s .variables) - 4 * shape.mapAt (start .args .s .variables)) (omega arith)),
+      first-whole (start .pre .1 .1 .1),
+    ) at (c .map .ensures)
 
 pub mask-of-spec : {M : Type 1} → statement M
 mask-of-spec =

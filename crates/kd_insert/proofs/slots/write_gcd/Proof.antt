@@ -37,7 +37,13 @@ same-length c = search needs
 
 -- src/slots.rt:68:1
 returns : tie.Need-returns
-returns c = gcd-written (c .before .before .before .before .before .before .before .before .before .before .before .before .args .image .now) (c .before .before .before .before .before .before .before .before .before .before .before .before .args .at) (c .before .before .before .before .before .before .before .before .before .before .before .before .args .s .variables) (mapMaxima (words (c .before .before .before .before .before .before .before .before .before .before .before .before .args .image .now)) (c .before .before .before .before .before .before .before .before .before .before .before .before .args .s)) (words (c .before .before .before .before .before .before .before .before .before .before .before .before .args .gcd .now)) (c .before .before .before .before .before .before .put .last .0) _ (c .before .before .before .before .before .before .before .before .mask-of .result) (omega (arith, c .before .before .before .before .before .before .before .before .before .before .before .before .pre .1 .0, c .before .before .before .before .before .before .before .before .before .before .before .before .pre .1 .1 .1 .1 .1)) (c .before .before .before .before .before .before .before .before .mask-of .ensures) (c .before .before .before .before .before .before .put .ensures) (c .before .before .write-slot .ensures)
+returns c =
+    let start = c .before .before .before .before .before .before .before .before .before .before .before .before in
+    let mask-of = c .before .before .before .before .before .before .before .before .mask-of in
+    let put = c .before .before .before .before .before .before .put in
+    gcd-written (start .args .image .now) (start .args .at) (start .args .s .variables) (mapMaxima (words (start .args .image .now)) (start .args .s))
+    (words (start .args .gcd .now)) (put .last .0) _ (mask-of .result) (omega (arith, start .pre .1 .0, start .pre .1 .1 .1 .1 .1)) (mask-of .ensures) (put .ensures)
+    (c .before .before .write-slot .ensures)
 
 pub write-gcd-spec : {M : Type 1} → statement M
 write-gcd-spec =

@@ -58,7 +58,16 @@ same-length c = search needs
 
 -- src/slots.rt:60:1
 returns : tie.Need-returns
-returns c = masked-written (c .before .before .before .before .before .before .before .before .before .before .before .before .before .before .before .before .before .before .args .image .now) (c .before .before .before .before .before .before .before .before .before .before .before .before .before .before .before .before .before .before .args .i) (c .before .before .before .before .before .before .before .before .before .before .before .before .before .before .before .before .before .before .args .s .variables) (c .before .before .before .before .before .before .before .before .before .before .before .before .before .before .masks-of .result) (mapMaxima (words (c .before .before .before .before .before .before .before .before .before .before .before .before .before .before .before .before .before .before .args .image .now)) (c .before .before .before .before .before .before .before .before .before .before .before .before .before .before .before .before .before .before .args .s)) (words (c .before .before .before .before .before .before .before .before .before .before .before .before .before .before .before .before .before .before .args .monomial .now)) (c .before .before .before .before .before .before .before .before .before .before .before .before .write-slot .last .0) (c .before .before .before .before .before .before .before .put .last .0) (c .before .before .put2 .last .0) (canonical-length 1 (c .before .before .before .before .before .before .before .before .before .before .before .before .before .before .before .before .before .before .args .s .variables) (words (c .before .before .before .before .before .before .before .before .before .before .before .before .before .before .before .before .before .before .args .monomial .now)) (omega arith) (omega (arith, c .before .before .before .before .before .before .before .before .before .before .before .before .before .before .before .before .before .before .pre .0 .vars-to)) (c .before .before .before .before .before .before .before .before .before .before .before .before .before .before .before .before .before .before .pre .1 .1 .1 .0)) (omega (arith, c .before .before .before .before .before .before .before .before .before .before .before .before .before .before .before .before .before .before .pre .1 .0, c .before .before .before .before .before .before .before .before .before .before .before .before .before .before .before .before .before .before .pre .1 .1 .1 .1 .1)) (c .before .before .before .before .before .before .before .before .before .before .before .before .before .before .masks-of .ensures) (c .before .before .before .before .before .before .before .before .before .before .before .before .write-slot .ensures) (c .before .before .before .before .before .before .before .put .ensures) (c .before .before .put2 .ensures)
+returns c =
+    let start = c .before .before .before .before .before .before .before .before .before .before .before .before .before .before .before .before .before .before in
+    let masks-of = c .before .before .before .before .before .before .before .before .before .before .before .before .before .before .masks-of in
+    let write-slot = c .before .before .before .before .before .before .before .before .before .before .before .before .write-slot in
+    let put = c .before .before .before .before .before .before .before .put in
+    let put2 = c .before .before .put2 in
+    masked-written (start .args .image .now) (start .args .i) (start .args .s .variables) (masks-of .result)
+    (mapMaxima (words (start .args .image .now)) (start .args .s)) (words (start .args .monomial .now)) (write-slot .last .0) (put .last .0) (put2 .last .0)
+    (canonical-length 1 (start .args .s .variables) (words (start .args .monomial .now)) (omega arith) (omega (arith, start .pre .0 .vars-to))
+    (start .pre .1 .1 .1 .0)) (omega (arith, start .pre .1 .0, start .pre .1 .1 .1 .1 .1)) (masks-of .ensures) (write-slot .ensures) (put .ensures) (put2 .ensures)
 
 pub write-masked-spec : {M : Type 1} → statement M
 write-masked-spec =

@@ -18,7 +18,9 @@ use Rattle.words.proofs.put.Reads as put-reads
 
 -- src/slots.rt:95:5
 write-masked-requires : tie.Need-write-masked-requires
-write-masked-requires c κs = (c .before .before .before .before .pre .0, (c .before .before .before .before .pre .1 .0, (c .before .before .before .before .pre .1 .1 .0, (c .before .before .before .before .pre .1 .1 .1 .1 .0 .0, (c .before .before .before .before .pre .1 .1 .1 .1 .0 .1, omega (arith, c .before .before .before .before .pre .1 .1 .1 .1 .1 .1 .1))))))
+write-masked-requires c κs =
+    let start = c .before .before .before .before in
+    (start .pre .0, (start .pre .1 .0, (start .pre .1 .1 .0, (start .pre .1 .1 .1 .1 .0 .0, (start .pre .1 .1 .1 .1 .0 .1, omega (arith, start .pre .1 .1 .1 .1 .1 .1 .1))))))
 
 -- src/slots.rt:96:28
 add-put : tie.Need-add-put
@@ -46,7 +48,24 @@ add-write-masked-2 c = search needs
 
 -- src/slots.rt:97:5
 write-masked-requires-2 : tie.Need-write-masked-requires-2
-write-masked-requires-2 c κs = (c .before .before .before .before .before .before .before .before .before .before .before .before .before .pre .0, (omega (arith, c .before .before .before .put .kept .0, c .before .before .before .before .before .before .before .before .write-masked .kept .0, c .before .before .before .before .before .before .before .before .before .before .before .before .before .pre .1 .0), (rw (map-entered (c .before .before .before .before .before .before .before .before .write-masked .last .0) (c .before .before .before .put .last .0) (c .before .before .before .before .before .before .before .before .before .before .before .before .before .args .s) ((c .before .before .before .before .before .before .before .before .before .before .before .before .before .args .i) + ((c .before .before .before .before .before .before .before .before .before .before .before .before .before .args .s .variables) + 3)) _ (omega (arith, c .before .before .before .before .before .before .before .before .before .before .before .before .before .pre .1 .0, c .before .before .before .before .before .before .before .before .before .before .before .before .before .pre .1 .1 .1 .1 .1 .1 .1, c .before .before .before .before .before .before .before .before .write-masked .kept .0)) (omega (arith, c .before .before .before .before .before .before .before .before .before .before .before .before .before .pre .1 .1 .1 .1 .1 .1 .0)) (c .before .before .before .put .ensures ∙ putW-paste (c .before .before .before .before .before .before .before .before .write-masked .last .0) ((c .before .before .before .before .before .before .before .before .before .before .before .before .before .args .i) + ((c .before .before .before .before .before .before .before .before .before .before .before .before .before .args .s .variables) + 3)) _ (omega (arith, c .before .before .before .before .before .before .before .before .before .before .before .before .before .pre .1 .0, c .before .before .before .before .before .before .before .before .before .before .before .before .before .pre .1 .1 .1 .1 .1 .1 .1, c .before .before .before .before .before .before .before .before .write-masked .kept .0))) ∙ map-entered (c .before .before .before .before .before .before .before .before .before .before .before .before .before .args .image .now) (c .before .before .before .before .before .before .before .before .write-masked .last .0) (c .before .before .before .before .before .before .before .before .before .before .before .before .before .args .s) (c .before .before .before .before .before .before .before .before .before .before .before .before .before .args .i) _ (omega (arith, c .before .before .before .before .before .before .before .before .before .before .before .before .before .pre .1 .0, c .before .before .before .before .before .before .before .before .before .before .before .before .before .pre .1 .1 .1 .1 .1 .1 .1)) (c .before .before .before .before .before .before .before .before .before .before .before .before .before .pre .1 .1 .1 .1 .1 .1 .0) (c .before .before .before .before .before .before .before .before .write-masked .ensures)) (c .before .before .before .before .before .before .before .before .before .before .before .before .before .pre .1 .1 .0), (c .before .before .before .before .before .before .before .before .before .before .before .before .before .pre .1 .1 .1 .0 .0, (c .before .before .before .before .before .before .before .before .before .before .before .before .before .pre .1 .1 .1 .0 .1, omega (arith, c .before .before .before .before .before .before .before .before .before .before .before .before .before .pre .1 .1 .1 .1 .1 .1 .1))))))
+write-masked-requires-2 c κs =
+    let start = c .before .before .before .before .before .before .before .before .before .before .before .before .before in
+    let write-masked = c .before .before .before .before .before .before .before .before .write-masked in
+    let put = c .before .before .before .put in
+    let p = (start .args .i) + ((start .args .s .variables) + 3) in (
+      start .pre .0,
+      (
+        omega (arith, put .kept .0, write-masked .kept .0, start .pre .1 .0),
+        (
+          rw (map-entered (write-masked .last .0) (put .last .0) (start .args .s) p _
+              (omega (arith, start .pre .1 .0, start .pre .1 .1 .1 .1 .1 .1 .1, write-masked .kept .0)) (omega (arith, start .pre .1 .1 .1 .1 .1 .1 .0))
+              (put .ensures ∙ putW-paste (write-masked .last .0) p _ (omega (arith, start .pre .1 .0, start .pre .1 .1 .1 .1 .1 .1 .1, write-masked .kept .0)))
+              ∙ map-entered (start .args .image .now) (write-masked .last .0) (start .args .s) (start .args .i) _
+              (omega (arith, start .pre .1 .0, start .pre .1 .1 .1 .1 .1 .1 .1)) (start .pre .1 .1 .1 .1 .1 .1 .0) (write-masked .ensures)) (start .pre .1 .1 .0),
+          (start .pre .1 .1 .1 .0 .0, (start .pre .1 .1 .1 .0 .1, omega (arith, start .pre .1 .1 .1 .1 .1 .1 .1))),
+        ),
+      ),
+    )
 
 -- src/slots.rt:98:28
 mul-put : tie.Need-mul-put
@@ -70,7 +89,24 @@ same-length c = search needs
 
 -- src/slots.rt:84:1
 returns : tie.Need-returns
-returns c = ratio-row-written (c .before .before .before .before .before .before .before .before .before .before .before .before .before .before .before .before .before .before .before .before .args .image .now) (c .before .before .before .before .before .before .before .before .before .before .before .before .before .before .before .write-masked .last .0) (c .before .before .before .before .before .before .before .before .before .before .put .last .0) (c .before .before .before .before .before .before .write-masked2 .last .0) _ (c .before .before .before .before .before .before .before .before .before .before .before .before .before .before .before .before .before .before .before .before .args .i) (c .before .before .before .before .before .before .before .before .before .before .before .before .before .before .before .before .before .before .before .before .args .s .variables) _ (c .before .before .before .before .before .before .before .before .before .before .before .before .before .before .before .before .before .before .before .before .args .row) (mapMaxima (words (c .before .before .before .before .before .before .before .before .before .before .before .before .before .before .before .before .before .before .before .before .args .image .now)) (c .before .before .before .before .before .before .before .before .before .before .before .before .before .before .before .before .before .before .before .before .args .s)) (words (c .before .before .before .before .before .before .before .before .before .before .before .before .before .before .before .before .before .before .before .before .args .sign .now)) (words (c .before .before .before .before .before .before .before .before .before .before .before .before .before .before .before .before .before .before .before .before .args .lm .now)) (canonical-length 1 (c .before .before .before .before .before .before .before .before .before .before .before .before .before .before .before .before .before .before .before .before .args .s .variables) (words (c .before .before .before .before .before .before .before .before .before .before .before .before .before .before .before .before .before .before .before .before .args .sign .now)) (omega arith) (omega (arith, c .before .before .before .before .before .before .before .before .before .before .before .before .before .before .before .before .before .before .before .before .pre .0 .vars-to)) (c .before .before .before .before .before .before .before .before .before .before .before .before .before .before .before .before .before .before .before .before .pre .1 .1 .1 .0 .0)) (canonical-length 1 (c .before .before .before .before .before .before .before .before .before .before .before .before .before .before .before .before .before .before .before .before .args .s .variables) (words (c .before .before .before .before .before .before .before .before .before .before .before .before .before .before .before .before .before .before .before .before .args .lm .now)) (omega arith) (omega (arith, c .before .before .before .before .before .before .before .before .before .before .before .before .before .before .before .before .before .before .before .before .pre .0 .vars-to)) (c .before .before .before .before .before .before .before .before .before .before .before .before .before .before .before .before .before .before .before .before .pre .1 .1 .1 .1 .0 .0)) (omega (arith, c .before .before .before .before .before .before .before .before .before .before .before .before .before .before .before .before .before .before .before .before .pre .1 .0, c .before .before .before .before .before .before .before .before .before .before .before .before .before .before .before .before .before .before .before .before .pre .1 .1 .1 .1 .1 .1 .1)) (c .before .before .before .before .before .before .before .before .before .before .before .before .before .before .before .write-masked .ensures) (rw (c .before .before .before .before .before .before .before .before .before .before .before .index-word .ensures) at (c .before .before .before .before .before .before .before .before .before .before .put .ensures)) (rw (map-entered (c .before .before .before .before .before .before .before .before .before .before .before .before .before .before .before .write-masked .last .0) (c .before .before .before .before .before .before .before .before .before .before .put .last .0) (c .before .before .before .before .before .before .before .before .before .before .before .before .before .before .before .before .before .before .before .before .args .s) ((c .before .before .before .before .before .before .before .before .before .before .before .before .before .before .before .before .before .before .before .before .args .i) + ((c .before .before .before .before .before .before .before .before .before .before .before .before .before .before .before .before .before .before .before .before .args .s .variables) + 3)) _ (omega (arith, c .before .before .before .before .before .before .before .before .before .before .before .before .before .before .before .before .before .before .before .before .pre .1 .0, c .before .before .before .before .before .before .before .before .before .before .before .before .before .before .before .before .before .before .before .before .pre .1 .1 .1 .1 .1 .1 .1, c .before .before .before .before .before .before .before .before .before .before .before .before .before .before .before .write-masked .kept .0)) (omega (arith, c .before .before .before .before .before .before .before .before .before .before .before .before .before .before .before .before .before .before .before .before .pre .1 .1 .1 .1 .1 .1 .0)) (c .before .before .before .before .before .before .before .before .before .before .put .ensures ∙ putW-paste (c .before .before .before .before .before .before .before .before .before .before .before .before .before .before .before .write-masked .last .0) ((c .before .before .before .before .before .before .before .before .before .before .before .before .before .before .before .before .before .before .before .before .args .i) + ((c .before .before .before .before .before .before .before .before .before .before .before .before .before .before .before .before .before .before .before .before .args .s .variables) + 3)) _ (omega (arith, c .before .before .before .before .before .before .before .before .before .before .before .before .before .before .before .before .before .before .before .before .pre .1 .0, c .before .before .before .before .before .before .before .before .before .before .before .before .before .before .before .before .before .before .before .before .pre .1 .1 .1 .1 .1 .1 .1, c .before .before .before .before .before .before .before .before .before .before .before .before .before .before .before .write-masked .kept .0))) ∙ map-entered (c .before .before .before .before .before .before .before .before .before .before .before .before .before .before .before .before .before .before .before .before .args .image .now) (c .before .before .before .before .before .before .before .before .before .before .before .before .before .before .before .write-masked .last .0) (c .before .before .before .before .before .before .before .before .before .before .before .before .before .before .before .before .before .before .before .before .args .s) (c .before .before .before .before .before .before .before .before .before .before .before .before .before .before .before .before .before .before .before .before .args .i) _ (omega (arith, c .before .before .before .before .before .before .before .before .before .before .before .before .before .before .before .before .before .before .before .before .pre .1 .0, c .before .before .before .before .before .before .before .before .before .before .before .before .before .before .before .before .before .before .before .before .pre .1 .1 .1 .1 .1 .1 .1)) (c .before .before .before .before .before .before .before .before .before .before .before .before .before .before .before .before .before .before .before .before .pre .1 .1 .1 .1 .1 .1 .0) (c .before .before .before .before .before .before .before .before .before .before .before .before .before .before .before .write-masked .ensures)) at (c .before .before .before .before .before .before .write-masked2 .ensures)) (c .before .before .put2 .ensures)
+returns c =
+    let start = c .before .before .before .before .before .before .before .before .before .before .before .before .before .before .before .before .before .before .before .before in
+    let write-masked = c .before .before .before .before .before .before .before .before .before .before .before .before .before .before .before .write-masked in
+    let index-word = c .before .before .before .before .before .before .before .before .before .before .before .index-word in
+    let put = c .before .before .before .before .before .before .before .before .before .before .put in
+    let write-masked2 = c .before .before .before .before .before .before .write-masked2 in
+    let p = (start .args .i) + ((start .args .s .variables) + 3) in
+    ratio-row-written (start .args .image .now) (write-masked .last .0) (put .last .0) (write-masked2 .last .0) _ (start .args .i) (start .args .s .variables) _
+    (start .args .row) (mapMaxima (words (start .args .image .now)) (start .args .s)) (words (start .args .sign .now)) (words (start .args .lm .now))
+    (canonical-length 1 (start .args .s .variables) (words (start .args .sign .now)) (omega arith) (omega (arith, start .pre .0 .vars-to))
+    (start .pre .1 .1 .1 .0 .0)) (canonical-length 1 (start .args .s .variables) (words (start .args .lm .now)) (omega arith) (omega (arith, start .pre .0 .vars-to))
+    (start .pre .1 .1 .1 .1 .0 .0)) (omega (arith, start .pre .1 .0, start .pre .1 .1 .1 .1 .1 .1 .1)) (write-masked .ensures)
+    (rw (index-word .ensures) at (put .ensures)) (rw (map-entered (write-masked .last .0) (put .last .0) (start .args .s) p _
+    (omega (arith, start .pre .1 .0, start .pre .1 .1 .1 .1 .1 .1 .1, write-masked .kept .0)) (omega (arith, start .pre .1 .1 .1 .1 .1 .1 .0))
+    (put .ensures ∙ putW-paste (write-masked .last .0) p _ (omega (arith, start .pre .1 .0, start .pre .1 .1 .1 .1 .1 .1 .1, write-masked .kept .0)))
+    ∙ map-entered (start .args .image .now) (write-masked .last .0) (start .args .s) (start .args .i) _
+    (omega (arith, start .pre .1 .0, start .pre .1 .1 .1 .1 .1 .1 .1)) (start .pre .1 .1 .1 .1 .1 .1 .0) (write-masked .ensures)) at (write-masked2 .ensures))
+    (c .before .before .put2 .ensures)
 
 pub write-ratio-row-spec : {M : Type 1} → statement M
 write-ratio-row-spec =

@@ -16,7 +16,14 @@ use Rattle.words.proofs.runs.paste.Reads as paste-reads
 
 -- src/slots.rt:26:5
 paste-requires : tie.Need-paste-requires
-paste-requires c κs = omega (arith, canonical-length 1 (c .before .before .before .args .variables) (words (c .before .before .before .args .monomial .now)) (omega arith) (omega (arith, c .before .before .before .pre .0)) (c .before .before .before .pre .1 .0), length-words (c .before .before .before .args .monomial .now), c .before .before .before .pre .1 .1)
+paste-requires c κs =
+    let start = c .before .before .before in
+    omega (
+      arith,
+      canonical-length 1 (start .args .variables) (words (start .args .monomial .now)) (omega arith) (omega (arith, start .pre .0)) (start .pre .1 .0),
+      length-words (start .args .monomial .now),
+      start .pre .1 .1,
+    )
 
 -- src/slots.rt:27:31
 add-clear : tie.Need-add-clear
@@ -28,11 +35,25 @@ add-clear-2 c = search needs
 
 -- src/slots.rt:27:38
 sub-clear : tie.Need-sub-clear
-sub-clear c = omega (arith, canonical-length 1 (c .before .before .before .before .before .before .before .args .variables) (words (c .before .before .before .before .before .before .before .args .monomial .now)) (omega arith) (omega (arith, c .before .before .before .before .before .before .before .pre .0)) (c .before .before .before .before .before .before .before .pre .1 .0), length-words (c .before .before .before .before .before .before .before .args .monomial .now), c .before .before .before .before .before .before .before .pre .1 .1)
+sub-clear c =
+    let start = c .before .before .before .before .before .before .before in
+    omega (
+      arith,
+      canonical-length 1 (start .args .variables) (words (start .args .monomial .now)) (omega arith) (omega (arith, start .pre .0)) (start .pre .1 .0),
+      length-words (start .args .monomial .now),
+      start .pre .1 .1,
+    )
 
 -- src/slots.rt:27:5
 clear-requires : tie.Need-clear-requires
-clear-requires c κs = omega (arith, canonical-length 1 (c .before .before .before .before .before .before .before .args .variables) (words (c .before .before .before .before .before .before .before .args .monomial .now)) (omega arith) (omega (arith, c .before .before .before .before .before .before .before .pre .0)) (c .before .before .before .before .before .before .before .pre .1 .0), length-words (c .before .before .before .before .before .before .before .args .monomial .now), c .before .before .before .before .before .before .before .pre .1 .1)
+clear-requires c κs =
+    let start = c .before .before .before .before .before .before .before in
+    omega (
+      arith,
+      canonical-length 1 (start .args .variables) (words (start .args .monomial .now)) (omega arith) (omega (arith, start .pre .0)) (start .pre .1 .0),
+      length-words (start .args .monomial .now),
+      start .pre .1 .1,
+    )
 
 -- src/slots.rt:18:1
 same-length : tie.Need-same-length
@@ -40,7 +61,16 @@ same-length c = search needs
 
 -- src/slots.rt:18:1
 returns : tie.Need-returns
-returns c = slot-written (c .before .before .before .before .before .before .before .before .before .before .args .image .now) (c .before .before .before .before .before .before .before .before .before .before .args .i) (c .before .before .before .before .before .before .before .before .before .before .args .variables) (length (c .before .before .before .before .before .before .before .before .before .before .args .monomial .now) / 4) (words (c .before .before .before .before .before .before .before .before .before .before .args .monomial .now)) (c .before .before .before .before .before .before .paste .last .0) _ (sym (length-words (c .before .before .before .before .before .before .before .before .before .before .args .monomial .now))) (omega (arith, canonical-length 1 (c .before .before .before .before .before .before .before .before .before .before .args .variables) (words (c .before .before .before .before .before .before .before .before .before .before .args .monomial .now)) (omega arith) (omega (arith, c .before .before .before .before .before .before .before .before .before .before .pre .0)) (c .before .before .before .before .before .before .before .before .before .before .pre .1 .0), length-words (c .before .before .before .before .before .before .before .before .before .before .args .monomial .now))) (c .before .before .before .before .before .before .before .before .before .before .pre .1 .1 .1) (c .before .before .before .before .before .before .paste .ensures) (c .before .before .clear .ensures)
+returns c =
+    let start = c .before .before .before .before .before .before .before .before .before .before in
+    let paste = c .before .before .before .before .before .before .paste in
+    slot-written (start .args .image .now) (start .args .i) (start .args .variables) (length (start .args .monomial .now) / 4) (words (start .args .monomial .now))
+    (paste .last .0) _ (sym (length-words (start .args .monomial .now)))
+    (omega (
+      arith,
+      canonical-length 1 (start .args .variables) (words (start .args .monomial .now)) (omega arith) (omega (arith, start .pre .0)) (start .pre .1 .0),
+      length-words (start .args .monomial .now),
+    )) (start .pre .1 .1 .1) (paste .ensures) (c .before .before .clear .ensures)
 
 pub write-slot-spec : {M : Type 1} → statement M
 write-slot-spec =

@@ -30,7 +30,9 @@ add-entry-at c = omega (arith, c .before .before .before .before .before .pre .0
 
 -- src/leaf.rt:76:13
 entry-at-requires : tie.Need-entry-at-requires Inv-loop μ-loop
-entry-at-requires c κs = (c .before .before .before .before .before .pre .0 .asks .laid, (entries-ready _ _ _ _ _ _ _ (c .before .before .before .before .before .pre .0), omega (arith, c .before .before .before .before .before .pre .0 .inside)))
+entry-at-requires c κs =
+    let start = c .before .before .before .before .before in
+    (start .pre .0 .asks .laid, (entries-ready _ _ _ _ _ _ _ (start .pre .0), omega (arith, start .pre .0 .inside)))
 
 -- src/leaf.rt:77:12
 is-divisor-requires : tie.Need-is-divisor-requires Inv-loop μ-loop
@@ -46,7 +48,16 @@ stopped-requires c κs = omega (arith, c .before .before .entry-at .ensures .1, 
 
 -- src/leaf.rt:78:13
 returns : tie.Need-returns Inv-loop μ-loop
-returns c = (scan-stop _ _ _ _ _ _ _ (c .before .before .before .before .before .before .before .before .before .pre .0 .inside) _ _ _ (c .before .before .before .before .before .loop .inv .1) (c .before .before .before .before .loop-test .taken) (c .before .before .before .entry-at .ensures .0) _ _ _ (c .stopped .ensures .1 .0) (c .stopped .ensures .1 .1) (omega (arith, c .before .before .before .entry-at .ensures .1)) (contained-hit _ _ _ _ _ _ (c .before .before .before .entry-at .ensures .1) _ (c .before .before .before .before .before .before .before .before .before .pre .1 .1) (c .before .before .is-divisor .ensures) (c .before .if1 .taken)), c .stopped .ensures .0)
+returns c =
+    let start = c .before .before .before .before .before .before .before .before .before in
+    let loop = c .before .before .before .before .before .loop in
+    let loop-test = c .before .before .before .before .loop-test in
+    let entry-at = c .before .before .before .entry-at in (
+      scan-stop _ _ _ _ _ _ _ (start .pre .0 .inside) _ _ _ (loop .inv .1) (loop-test .taken) (entry-at .ensures .0) _ _ _ (c .stopped .ensures .1 .0)
+          (c .stopped .ensures .1 .1) (omega (arith, entry-at .ensures .1))
+          (contained-hit _ _ _ _ _ _ (entry-at .ensures .1) _ (start .pre .1 .1) (c .before .before .is-divisor .ensures) (c .before .if1 .taken)),
+      c .stopped .ensures .0,
+    )
 
 -- src/leaf.rt:80:9
 add-i : tie.Need-add-i Inv-loop μ-loop
@@ -58,11 +69,21 @@ loop-less c = omega arith
 
 -- src/leaf.rt:75:5
 loop-again : tie.Need-loop-again Inv-loop μ-loop
-loop-again c = (omega arith, scan-more _ _ _ _ _ _ _ (c .before .before .before .before .before .before .before .before .pre .0 .inside) _ _ _ (c .before .before .before .before .loop .inv .1) (c .before .before .before .loop-test .taken) (c .before .before .entry-at .ensures .0) _ (contained-miss _ _ _ _ _ _ (c .before .before .entry-at .ensures .1) _ (c .before .before .before .before .before .before .before .before .pre .1 .1) (c .before .is-divisor .ensures) (c .if1 .left)))
+loop-again c =
+    let start = c .before .before .before .before .before .before .before .before in
+    let loop = c .before .before .before .before .loop in
+    let loop-test = c .before .before .before .loop-test in
+    let entry-at = c .before .before .entry-at in (
+      omega arith,
+      scan-more _ _ _ _ _ _ _ (start .pre .0 .inside) _ _ _ (loop .inv .1) (loop-test .taken) (entry-at .ensures .0) _
+          (contained-miss _ _ _ _ _ _ (entry-at .ensures .1) _ (start .pre .1 .1) (c .before .is-divisor .ensures) (c .if1 .left)),
+    )
 
 -- src/leaf.rt:69:1
 returns-2 : tie.Need-returns-2 Inv-loop μ-loop
-returns-2 c = (scan-end _ _ _ _ _ _ _ (c .before .before .before .before .before .pre .0 .inside) _ _ _ _ (c .before .loop .inv .1) (omega (arith, c .loop-test .left)) refl (c .before .before .before .before .before .pre .1 .0) (c .before .before .before .before .before .pre .0 .small), refl)
+returns-2 c =
+    let start = c .before .before .before .before .before in
+    (scan-end _ _ _ _ _ _ _ (start .pre .0 .inside) _ _ _ _ (c .before .loop .inv .1) (omega (arith, c .loop-test .left)) refl (start .pre .1 .0) (start .pre .0 .small), refl)
 
 pub contained-spec : {M : Type 1} → statement M
 contained-spec =

@@ -18,11 +18,15 @@ may-requires c κs = search needs
 
 -- src/leaf.rt:56:9
 returns : tie.Need-returns
-returns c = count-masked _ _ _ _ _ _ (out-by-mask (c .before .before .before .before .before .args .image .now) (c .before .before .before .before .before .args .q .now) _ _ _ (c .before .before .before .before .before .pre .0) (sym (c .before .may .ensures) ∙ not-true _ (c .if1 .taken)))
+returns c =
+    let start = c .before .before .before .before .before in
+    count-masked _ _ _ _ _ _ (out-by-mask (start .args .image .now) (start .args .q .now) _ _ _ (start .pre .0) (sym (c .before .may .ensures) ∙ not-true _ (c .if1 .taken)))
 
 -- src/leaf.rt:58:9
 label-requires : tie.Need-label-requires
-label-requires c κs = (c .before .before .before .before .before .pre .0 .asks .laid, (tested-at (c .before .before .before .before .before .args .image .now) (c .before .before .before .before .before .args .q .now) _ _ _ (c .before .before .before .before .before .pre .0) .ready, (c .before .before .before .before .before .pre .1, c .before .before .before .before .before .pre .0 .inside)))
+label-requires c κs =
+    let start = c .before .before .before .before .before in
+    (start .pre .0 .asks .laid, (tested-at (start .args .image .now) (start .args .q .now) _ _ _ (start .pre .0) .ready, (start .pre .1, start .pre .0 .inside)))
 
 -- src/leaf.rt:60:9
 returns-2 : tie.Need-returns-2
@@ -30,7 +34,9 @@ returns-2 c = count-below _ _ _ _ _ _ _ (c .before .label .ensures .0) (c .if2 .
 
 -- src/leaf.rt:62:8
 get-requires : tie.Need-get-requires
-get-requires c κs = omega (arith, tested-at (c .before .before .before .before .before .before .before .args .image .now) (c .before .before .before .before .before .before .before .args .q .now) _ _ _ (c .before .before .before .before .before .before .before .pre .0) .long)
+get-requires c κs =
+    let start = c .before .before .before .before .before .before .before in
+    omega (arith, tested-at (start .args .image .now) (start .args .q .now) _ _ _ (start .pre .0) .long)
 
 -- src/leaf.rt:63:9
 returns-3 : tie.Need-returns-3
@@ -42,7 +48,10 @@ divides-requires c κs = search needs
 
 -- src/leaf.rt:50:1
 returns-4 : tie.Need-returns-4
-returns-4 c = count-divides _ _ _ _ _ _ _ _ (c .before .before .before .before .label .ensures .0) (omega (arith, c .before .before .before .if2 .left)) (omega (arith, c .before .before .get .ensures, c .before .if3 .left)) (c .divides .ensures)
+returns-4 c =
+    let label = c .before .before .before .before .label in
+    let if2 = c .before .before .before .if2 in
+    count-divides _ _ _ _ _ _ _ _ (label .ensures .0) (omega (arith, if2 .left)) (omega (arith, c .before .before .get .ensures, c .before .if3 .left)) (c .divides .ensures)
 
 pub counts-spec : {M : Type 1} → statement M
 counts-spec =

@@ -17,27 +17,39 @@ num-requires c κs = omega (arith, tested-at (c .before .before .before .args .i
 
 -- src/leaf.rt:29:52
 num-requires-2 : tie.Need-num-requires-2
-num-requires-2 c κs = omega (arith, tested-at (c .before .before .before .before .args .image .now) (c .before .before .before .before .args .q .now) _ _ _ (c .before .before .before .before .pre) .long)
+num-requires-2 c κs =
+    let start = c .before .before .before .before in
+    omega (arith, tested-at (start .args .image .now) (start .args .q .now) _ _ _ (start .pre) .long)
 
 -- src/leaf.rt:29:48
 mul-at : tie.Need-mul-at
-mul-at c = rw (c .num2 .ensures .0) (omega (arith, tested-at (c .before .before .before .before .before .args .image .now) (c .before .before .before .before .before .args .q .now) _ _ _ (c .before .before .before .before .before .pre) .slot-small))
+mul-at c =
+    let start = c .before .before .before .before .before in
+    rw (c .num2 .ensures .0) (omega (arith, tested-at (start .args .image .now) (start .args .q .now) _ _ _ (start .pre) .slot-small))
 
 -- src/leaf.rt:29:19
 add-at : tie.Need-add-at
-add-at c = rw (c .num2 .ensures .0) (omega (arith, tested-at (c .before .before .before .before .before .args .image .now) (c .before .before .before .before .before .args .q .now) _ _ _ (c .before .before .before .before .before .pre) .slot-small, c .before .num .ensures .0))
+add-at c =
+    let start = c .before .before .before .before .before in
+    rw (c .num2 .ensures .0) (omega (arith, tested-at (start .args .image .now) (start .args .q .now) _ _ _ (start .pre) .slot-small, c .before .num .ensures .0))
 
 -- src/leaf.rt:29:14
 mul-at-2 : tie.Need-mul-at-2
-mul-at-2 c = rw (c .num2 .ensures .0) (omega (arith, tested-at (c .before .before .before .before .before .args .image .now) (c .before .before .before .before .before .args .q .now) _ _ _ (c .before .before .before .before .before .pre) .slot-small, c .before .num .ensures .0))
+mul-at-2 c =
+    let start = c .before .before .before .before .before in
+    rw (c .num2 .ensures .0) (omega (arith, tested-at (start .args .image .now) (start .args .q .now) _ _ _ (start .pre) .slot-small, c .before .num .ensures .0))
 
 -- src/leaf.rt:30:23
 sub-divides : tie.Need-sub-divides
-sub-divides c = rw (c .num2 .ensures .0) (omega (arith, tested-at (c .before .before .before .before .before .args .image .now) (c .before .before .before .before .before .args .q .now) _ _ _ (c .before .before .before .before .before .pre) .slot-room, c .before .num .ensures .0))
+sub-divides c =
+    let start = c .before .before .before .before .before in
+    rw (c .num2 .ensures .0) (omega (arith, tested-at (start .args .image .now) (start .args .q .now) _ _ _ (start .pre) .slot-room, c .before .num .ensures .0))
 
 -- src/leaf.rt:30:23
 part-divides-start : tie.Need-part-divides-start
-part-divides-start c = rw (c .num2 .ensures .0) (omega (arith, tested-at (c .before .before .before .before .before .args .image .now) (c .before .before .before .before .before .args .q .now) _ _ _ (c .before .before .before .before .before .pre) .slot-room, c .before .num .ensures .0))
+part-divides-start c =
+    let start = c .before .before .before .before .before in
+    rw (c .num2 .ensures .0) (omega (arith, tested-at (start .args .image .now) (start .args .q .now) _ _ _ (start .pre) .slot-room, c .before .num .ensures .0))
 
 -- src/leaf.rt:30:23
 part-divides-end : tie.Need-part-divides-end
@@ -45,11 +57,22 @@ part-divides-end c = omega arith
 
 -- src/leaf.rt:30:5
 divides-requires : tie.Need-divides-requires
-divides-requires c κs = both-start (c .before .before .before .before .before .before .args .image .now) (c .before .before .before .before .before .before .args .q .now) _ _ _ (c .before .before .before .before .before .before .pre) ((c .before .before .num .result) + (c .before .before .before .before .before .before .args .e) * (c .before .num2 .result)) (length (c .before .before .before .before .before .before .args .image .now) - 4 * ((c .before .before .num .result) + (c .before .before .before .before .before .before .args .e) * (c .before .num2 .result))) (omega arith) (rw (c .before .before .num .ensures .0, c .before .num2 .ensures .0) refl)
+divides-requires c κs =
+    let start = c .before .before .before .before .before .before in
+    let num = c .before .before .num in
+    let p = (num .result) + (start .args .e) * (c .before .num2 .result) in
+    both-start (start .args .image .now) (start .args .q .now) _ _ _ (start .pre) p (length (start .args .image .now) - 4 * p) (omega arith)
+    (rw (num .ensures .0, c .before .num2 .ensures .0) refl)
 
 -- src/leaf.rt:25:1
 returns : tie.Need-returns
-returns c = divides-read (c .before .before .before .before .before .before .before .args .image .now) (c .before .before .before .before .before .before .before .args .q .now) _ _ _ (c .before .before .before .before .before .before .before .pre) ((c .before .before .before .num .result) + (c .before .before .before .before .before .before .before .args .e) * (c .before .before .num2 .result)) (length (c .before .before .before .before .before .before .before .args .image .now) - 4 * ((c .before .before .before .num .result) + (c .before .before .before .before .before .before .before .args .e) * (c .before .before .num2 .result))) (omega arith) (rw (c .before .before .before .num .ensures .0, c .before .before .num2 .ensures .0) refl) _ (c .divides .ensures)
+returns c =
+    let start = c .before .before .before .before .before .before .before in
+    let num = c .before .before .before .num in
+    let num2 = c .before .before .num2 in
+    let p = (num .result) + (start .args .e) * (num2 .result) in
+    divides-read (start .args .image .now) (start .args .q .now) _ _ _ (start .pre) p (length (start .args .image .now) - 4 * p) (omega arith)
+    (rw (num .ensures .0, num2 .ensures .0) refl) _ (c .divides .ensures)
 
 pub divides-spec : {M : Type 1} → statement M
 divides-spec =

@@ -15,7 +15,9 @@ may-requires c κs = search needs
 
 -- src/leaf.rt:44:9
 returns : tie.Need-returns
-returns c = sym (out-by-mask (c .before .before .before .before .before .args .image .now) (c .before .before .before .before .before .args .q .now) _ _ _ (c .before .before .before .before .before .pre) (sym (c .before .may .ensures) ∙ not-true _ (c .if1 .taken)))
+returns c =
+    let start = c .before .before .before .before .before in
+    sym (out-by-mask (start .args .image .now) (start .args .q .now) _ _ _ (start .pre) (sym (c .before .may .ensures) ∙ not-true _ (c .if1 .taken)))
 
 -- src/leaf.rt:46:5
 divides-requires : tie.Need-divides-requires

@@ -20,7 +20,9 @@ use Rattle.kd_tree.proofs.step.best.Reads as best-reads
 use Rattle.kd_tree.proofs.step.going.Reads as going-reads
 
 abbrev Inv-loop : tie.InvT-loop
-Inv-loop image q m lo c acc found₀ least₀ i₀ found least i = (i ≤ c) × ((found ≤ shapeIn (words q) .entries) × ((least ≡ leastAbove (walk.label (words image) (shapeIn (words q))) (fromIn (words q)) found) × Scanning image m (shapeIn (words q)) (words q) lo c (bestOf acc) found i))
+Inv-loop image q m lo c acc found₀ least₀ i₀ found least i = (i ≤ c) ×
+    ((found ≤ shapeIn (words q) .entries) × ((least ≡ leastAbove (walk.label (words image) (shapeIn (words q))) (fromIn (words q)) found) × Scanning image m
+    (shapeIn (words q)) (words q) lo c (bestOf acc) found i))
 
 abbrev μ-loop : tie.MeasureT-loop
 μ-loop image q m lo c acc found₀ least₀ i₀ found least i = c - i
@@ -31,11 +33,20 @@ best-requires c κs = search needs
 
 -- src/leaf.rt:146:9
 least-above-requires : tie.Need-least-above-requires Inv-loop μ-loop
-least-above-requires c κs = (c .before .before .before .before .pre .0 .asks .laid, (entries-ready _ _ _ _ _ _ _ (c .before .before .before .before .pre .0), (has-labels _ _ _ _ _ _ _ (c .before .before .before .before .pre .0) (λ z. omega (arith, c .before .before .before .before .pre .1)), rw (c .best .ensures) (c .before .before .before .before .pre .0 .small))))
+least-above-requires c κs =
+    let start = c .before .before .before .before in (
+      start .pre .0 .asks .laid,
+      (
+        entries-ready _ _ _ _ _ _ _ (start .pre .0),
+        (has-labels _ _ _ _ _ _ _ (start .pre .0) (λ z. omega (arith, start .pre .1)), rw (c .best .ensures) (start .pre .0 .small)),
+      ),
+    )
 
 -- src/leaf.rt:148:5
 loop-holds : tie.Need-loop-holds Inv-loop μ-loop
-loop-holds c = (omega arith, (rw (c .before .best .ensures) (c .before .before .before .before .before .pre .0 .small), (c .least-above .ensures, rw (c .before .best .ensures) (scan-none _ _ _ _ _ _ _ (c .before .before .before .before .before .pre .0 .inside)))))
+loop-holds c =
+    let start = c .before .before .before .before .before in
+    (omega arith, (rw (c .before .best .ensures) (start .pre .0 .small), (c .least-above .ensures, rw (c .before .best .ensures) (scan-none _ _ _ _ _ _ _ (start .pre .0 .inside)))))
 
 -- src/leaf.rt:149:43
 add-entry-at : tie.Need-add-entry-at Inv-loop μ-loop
@@ -43,11 +54,15 @@ add-entry-at c = omega (arith, c .before .before .before .before .before .before
 
 -- src/leaf.rt:149:13
 entry-at-requires : tie.Need-entry-at-requires Inv-loop μ-loop
-entry-at-requires c κs = (c .before .before .before .before .before .before .before .pre .0 .asks .laid, (entries-ready _ _ _ _ _ _ _ (c .before .before .before .before .before .before .before .pre .0), omega (arith, c .before .before .before .before .before .before .before .pre .0 .inside)))
+entry-at-requires c κs =
+    let start = c .before .before .before .before .before .before .before in
+    (start .pre .0 .asks .laid, (entries-ready _ _ _ _ _ _ _ (start .pre .0), omega (arith, start .pre .0 .inside)))
 
 -- src/leaf.rt:150:12
 counts-requires : tie.Need-counts-requires Inv-loop μ-loop
-counts-requires c κs = (entered _ _ _ _ _ _ _ (c .before .before .before .before .before .before .before .before .pre .0) _ (c .entry-at .ensures .1), has-labels _ _ _ _ _ _ _ (c .before .before .before .before .before .before .before .before .pre .0) (λ z. omega (arith, c .before .before .before .before .before .before .before .before .pre .1)))
+counts-requires c κs =
+    let start = c .before .before .before .before .before .before .before .before in
+    (entered _ _ _ _ _ _ _ (start .pre .0) _ (c .entry-at .ensures .1), has-labels _ _ _ _ _ _ _ (start .pre .0) (λ z. omega (arith, start .pre .1)))
 
 -- src/leaf.rt:151:21
 add-found : tie.Need-add-found Inv-loop μ-loop
@@ -55,7 +70,14 @@ add-found c = omega (arith, c .before .before .entry-at .ensures .1, few-entries
 
 -- src/leaf.rt:152:13
 least-above-requires-2 : tie.Need-least-above-requires-2 Inv-loop μ-loop
-least-above-requires-2 c κs = (c .before .before .before .before .before .before .before .before .before .before .pre .0 .asks .laid, (entries-ready _ _ _ _ _ _ _ (c .before .before .before .before .before .before .before .before .before .before .pre .0), (has-labels _ _ _ _ _ _ _ (c .before .before .before .before .before .before .before .before .before .before .pre .0) (λ z. omega (arith, c .before .before .before .before .before .before .before .before .before .before .pre .1)), omega (arith, c .before .before .entry-at .ensures .1))))
+least-above-requires-2 c κs =
+    let start = c .before .before .before .before .before .before .before .before .before .before in (
+      start .pre .0 .asks .laid,
+      (
+        entries-ready _ _ _ _ _ _ _ (start .pre .0),
+        (has-labels _ _ _ _ _ _ _ (start .pre .0) (λ z. omega (arith, start .pre .1)), omega (arith, c .before .before .entry-at .ensures .1)),
+      ),
+    )
 
 -- src/leaf.rt:154:9
 add-i : tie.Need-add-i Inv-loop μ-loop
@@ -67,7 +89,34 @@ loop-less c = omega arith
 
 -- src/leaf.rt:148:5
 loop-again : tie.Need-loop-again Inv-loop μ-loop
-loop-again c = ⊎-elim (λ w. (omega arith, (rw (w .2) (omega (arith, c .before .before .entry-at .ensures .1)), (rw (w .2, w .3) (w .1 .ensures), rw (w .2) (scan-more _ _ _ _ _ _ _ (c .before .before .before .before .before .before .before .before .before .before .pre .0 .inside) _ _ _ (c .before .before .before .before .loop .inv .1 .1 .1) (c .before .before .before .loop-test .taken) (c .before .before .entry-at .ensures .0) _ (largest-hit _ _ _ _ _ _ (c .before .before .entry-at .ensures .1) _ (c .before .before .before .before .before .before .before .before .before .before .pre .1 .0) (c .before .before .before .before .before .before .before .before .before .before .pre .1 .1) (c .before .before .before .before .loop .inv .1 .0) (rw (c .before .before .before .before .loop .inv .1 .1 .0) at (c .before .counts .ensures)) (w .0 .taken))))))) (λ w. (omega arith, (rw (w .1) (c .before .before .before .before .loop .inv .1 .0), (rw (w .1, w .2) (c .before .before .before .before .loop .inv .1 .1 .0), rw (w .1) (scan-more _ _ _ _ _ _ _ (c .before .before .before .before .before .before .before .before .before .before .pre .0 .inside) _ _ _ (c .before .before .before .before .loop .inv .1 .1 .1) (c .before .before .before .loop-test .taken) (c .before .before .entry-at .ensures .0) _ (largest-miss _ _ _ _ _ _ (c .before .before .entry-at .ensures .1) _ (c .before .before .before .before .before .before .before .before .before .before .pre .1 .0) (c .before .before .before .before .before .before .before .before .before .before .pre .1 .1) (c .before .before .before .before .loop .inv .1 .0) (rw (c .before .before .before .before .loop .inv .1 .1 .0) at (c .before .counts .ensures)) (w .0 .left))))))) (c .if1 .came)
+loop-again c =
+    let start = c .before .before .before .before .before .before .before .before .before .before in
+    let loop = c .before .before .before .before .loop in
+    let loop-test = c .before .before .before .loop-test in
+    let entry-at = c .before .before .entry-at in
+    let p = rw (loop .inv .1 .1 .0) at (c .before .counts .ensures) in
+    ⊎-elim (λ w. (
+      omega arith,
+      (
+        rw (w .2) (omega (arith, entry-at .ensures .1)),
+        (
+          rw (w .2, w .3) (w .1 .ensures),
+          rw (w .2) (scan-more _ _ _ _ _ _ _ (start .pre .0 .inside) _ _ _ (loop .inv .1 .1 .1) (loop-test .taken) (entry-at .ensures .0)
+              _ (largest-hit _ _ _ _ _ _ (entry-at .ensures .1) _ (start .pre .1 .0) (start .pre .1 .1) (loop .inv .1 .0) p (w .0 .taken))),
+        ),
+      ),
+    ))
+    (λ w. (
+      omega arith,
+      (
+        rw (w .1) (loop .inv .1 .0),
+        (
+          rw (w .1, w .2) (loop .inv .1 .1 .0),
+          rw (w .1) (scan-more _ _ _ _ _ _ _ (start .pre .0 .inside) _ _ _ (loop .inv .1 .1 .1) (loop-test .taken) (entry-at .ensures .0) _
+              (largest-miss _ _ _ _ _ _ (entry-at .ensures .1) _ (start .pre .1 .0) (start .pre .1 .1) (loop .inv .1 .0) p (w .0 .left))),
+        ),
+      ),
+    )) (c .if1 .came)
 
 -- src/leaf.rt:156:5
 going-requires : tie.Need-going-requires Inv-loop μ-loop
@@ -75,7 +124,13 @@ going-requires c κs = omega (arith, c .before .loop .inv .1 .0, few-entries _ _
 
 -- src/leaf.rt:140:1
 returns : tie.Need-returns Inv-loop μ-loop
-returns c = (scan-end _ _ _ _ _ _ _ (c .before .before .before .before .before .before .before .before .pre .0 .inside) _ _ _ _ (c .before .before .loop .inv .1 .1 .1) (omega (arith, c .before .loop-test .left)) (c .going .ensures .1 .0) (c .going .ensures .1 .1) (c .before .before .loop .inv .1 .0), c .going .ensures .0)
+returns c =
+    let start = c .before .before .before .before .before .before .before .before in
+    let loop = c .before .before .loop in (
+      scan-end _ _ _ _ _ _ _ (start .pre .0 .inside) _ _ _ _ (loop .inv .1 .1 .1) (omega (arith, c .before .loop-test .left)) (c .going .ensures .1 .0)
+          (c .going .ensures .1 .1) (loop .inv .1 .0),
+      c .going .ensures .0,
+    )
 
 pub largest-spec : {M : Type 1} → statement M
 largest-spec =

@@ -24,7 +24,9 @@ sub-label c = omega (arith, c .if1 .left)
 
 -- src/leaf.rt:135:9
 label-requires : tie.Need-label-requires
-label-requires c κs = (c .before .before .before .before .pre .0, (c .before .before .before .before .pre .1 .0, (c .before .before .before .before .pre .1 .1 .0, omega (arith, c .before .before .before .before .pre .1 .1 .1, c .if1 .left))))
+label-requires c κs =
+    let start = c .before .before .before .before in
+    (start .pre .0, (start .pre .1 .0, (start .pre .1 .1 .0, omega (arith, start .pre .1 .1 .1, c .if1 .left))))
 
 -- src/leaf.rt:136:20
 add-result : tie.Need-add-result

@@ -17,23 +17,33 @@ num-requires c κs = omega (arith, tested-at (c .before .before .before .args .i
 
 -- src/leaf.rt:20:50
 num-requires-2 : tie.Need-num-requires-2
-num-requires-2 c κs = omega (arith, tested-at (c .before .before .before .before .args .image .now) (c .before .before .before .before .args .q .now) _ _ _ (c .before .before .before .before .pre) .long)
+num-requires-2 c κs =
+    let start = c .before .before .before .before in
+    omega (arith, tested-at (start .args .image .now) (start .args .q .now) _ _ _ (start .pre) .long)
 
 -- src/leaf.rt:20:46
 mul-at : tie.Need-mul-at
-mul-at c = rw (c .num2 .ensures .0) (omega (arith, tested-at (c .before .before .before .before .before .args .image .now) (c .before .before .before .before .before .args .q .now) _ _ _ (c .before .before .before .before .before .pre) .mask-small))
+mul-at c =
+    let start = c .before .before .before .before .before in
+    rw (c .num2 .ensures .0) (omega (arith, tested-at (start .args .image .now) (start .args .q .now) _ _ _ (start .pre) .mask-small))
 
 -- src/leaf.rt:20:14
 add-at : tie.Need-add-at
-add-at c = rw (c .num2 .ensures .0) (omega (arith, tested-at (c .before .before .before .before .before .args .image .now) (c .before .before .before .before .before .args .q .now) _ _ _ (c .before .before .before .before .before .pre) .mask-small, c .before .num .ensures .0))
+add-at c =
+    let start = c .before .before .before .before .before in
+    rw (c .num2 .ensures .0) (omega (arith, tested-at (start .args .image .now) (start .args .q .now) _ _ _ (start .pre) .mask-small, c .before .num .ensures .0))
 
 -- src/leaf.rt:21:28
 get-requires : tie.Need-get-requires
-get-requires c κs = rw (c .num2 .ensures .0) (omega (arith, tested-at (c .before .before .before .before .before .args .image .now) (c .before .before .before .before .before .args .q .now) _ _ _ (c .before .before .before .before .before .pre) .mask-room, c .before .num .ensures .0))
+get-requires c κs =
+    let start = c .before .before .before .before .before in
+    rw (c .num2 .ensures .0) (omega (arith, tested-at (start .args .image .now) (start .args .q .now) _ _ _ (start .pre) .mask-room, c .before .num .ensures .0))
 
 -- src/leaf.rt:21:58
 get-requires-2 : tie.Need-get-requires-2
-get-requires-2 c κs = omega (arith, tested-at (c .before .before .before .before .before .before .args .image .now) (c .before .before .before .before .before .before .args .q .now) _ _ _ (c .before .before .before .before .before .before .pre) .long)
+get-requires-2 c κs =
+    let start = c .before .before .before .before .before .before in
+    omega (arith, tested-at (start .args .image .now) (start .args .q .now) _ _ _ (start .pre) .long)
 
 -- src/leaf.rt:21:5
 within-requires : tie.Need-within-requires
@@ -41,7 +51,15 @@ within-requires c κs = search needs
 
 -- src/leaf.rt:16:1
 returns : tie.Need-returns
-returns c = may-is _ _ _ _ _ _ _ (words-small (c .before .before .before .before .before .before .before .before .args .image .now) (λ j. (c .before .before .before .before .before .before .before .shared-slice-known .given) j .fits)) (words-small (c .before .before .before .before .before .before .before .before .args .q .now) (λ j. (c .before .before .before .before .before .before .shared-slice-known2 .given) j .fits)) (rw (c .before .before .before .before .num .ensures .0, c .before .before .before .num2 .ensures .0) refl) (c .before .before .get .ensures) (c .before .get2 .ensures) (c .within .ensures)
+returns c =
+    let start = c .before .before .before .before .before .before .before .before in
+    let shared-slice-known = c .before .before .before .before .before .before .before .shared-slice-known in
+    let shared-slice-known2 = c .before .before .before .before .before .before .shared-slice-known2 in
+    let num = c .before .before .before .before .num in
+    let num2 = c .before .before .before .num2 in
+    may-is _ _ _ _ _ _ _ (words-small (start .args .image .now) (λ j. (shared-slice-known .given) j .fits))
+    (words-small (start .args .q .now) (λ j. (shared-slice-known2 .given) j .fits)) (rw (num .ensures .0, num2 .ensures .0) refl) (c .before .before .get .ensures)
+    (c .before .get2 .ensures) (c .within .ensures)
 
 pub may-spec : {M : Type 1} → statement M
 may-spec =

@@ -36,7 +36,9 @@ best-requires c κs = search needs
 
 -- src/leaf.rt:112:5
 loop-holds : tie.Need-loop-holds Inv-loop μ-loop
-loop-holds c = (omega arith, (rw (c .best .ensures) (c .before .before .before .before .before .pre .0 .small), rw (c .best .ensures) (scan-none _ _ _ _ _ _ _ (c .before .before .before .before .before .pre .0 .inside))))
+loop-holds c =
+    let start = c .before .before .before .before .before in
+    (omega arith, (rw (c .best .ensures) (start .pre .0 .small), rw (c .best .ensures) (scan-none _ _ _ _ _ _ _ (start .pre .0 .inside))))
 
 -- src/leaf.rt:113:43
 add-entry-at : tie.Need-add-entry-at Inv-loop μ-loop
@@ -44,15 +46,26 @@ add-entry-at c = omega (arith, c .before .before .before .before .before .before
 
 -- src/leaf.rt:113:13
 entry-at-requires : tie.Need-entry-at-requires Inv-loop μ-loop
-entry-at-requires c κs = (c .before .before .before .before .before .before .before .pre .0 .asks .laid, (entries-ready _ _ _ _ _ _ _ (c .before .before .before .before .before .before .before .pre .0), omega (arith, c .before .before .before .before .before .before .before .pre .0 .inside)))
+entry-at-requires c κs =
+    let start = c .before .before .before .before .before .before .before in
+    (start .pre .0 .asks .laid, (entries-ready _ _ _ _ _ _ _ (start .pre .0), omega (arith, start .pre .0 .inside)))
 
 -- src/leaf.rt:114:12
 counts-requires : tie.Need-counts-requires Inv-loop μ-loop
-counts-requires c κs = (entered _ _ _ _ _ _ _ (c .before .before .before .before .before .before .before .before .pre .0) _ (c .entry-at .ensures .1), has-labels _ _ _ _ _ _ _ (c .before .before .before .before .before .before .before .before .pre .0) (λ z. omega (arith, c .before .before .before .before .before .before .before .before .pre .1 .1)))
+counts-requires c κs =
+    let start = c .before .before .before .before .before .before .before .before in
+    (entered _ _ _ _ _ _ _ (start .pre .0) _ (c .entry-at .ensures .1), has-labels _ _ _ _ _ _ _ (start .pre .0) (λ z. omega (arith, start .pre .1 .1)))
 
 -- src/leaf.rt:115:16
 label-requires : tie.Need-label-requires Inv-loop μ-loop
-label-requires c κs = (c .before .before .before .before .before .before .before .before .before .before .pre .0 .asks .laid, (entries-ready _ _ _ _ _ _ _ (c .before .before .before .before .before .before .before .before .before .before .pre .0), (has-labels _ _ _ _ _ _ _ (c .before .before .before .before .before .before .before .before .before .before .pre .0) (λ z. omega (arith, c .before .before .before .before .before .before .before .before .before .before .pre .1 .1)), c .before .before .entry-at .ensures .1)))
+label-requires c κs =
+    let start = c .before .before .before .before .before .before .before .before .before .before in (
+      start .pre .0 .asks .laid,
+      (
+        entries-ready _ _ _ _ _ _ _ (start .pre .0),
+        (has-labels _ _ _ _ _ _ _ (start .pre .0) (λ z. omega (arith, start .pre .1 .1)), c .before .before .entry-at .ensures .1),
+      ),
+    )
 
 -- src/leaf.rt:115:44
 get-requires-2 : tie.Need-get-requires-2 Inv-loop μ-loop
@@ -60,19 +73,43 @@ get-requires-2 c κs = omega (arith, query-long _ _ (c .before .before .before .
 
 -- src/leaf.rt:116:43
 add-stopped : tie.Need-add-stopped Inv-loop μ-loop
-add-stopped c = omega (arith, c .before .before .before .before .before .entry-at .ensures .1, few-entries _ _ _ _ _ _ _ (c .before .before .before .before .before .before .before .before .before .before .before .before .before .pre .0))
+add-stopped c =
+    let start = c .before .before .before .before .before .before .before .before .before .before .before .before .before in
+    let entry-at = c .before .before .before .before .before .entry-at in
+    omega (arith, entry-at .ensures .1, few-entries _ _ _ _ _ _ _ (start .pre .0))
 
 -- src/leaf.rt:116:17
 stopped-requires : tie.Need-stopped-requires Inv-loop μ-loop
-stopped-requires c κs = omega (arith, c .before .before .before .before .before .entry-at .ensures .1, few-entries _ _ _ _ _ _ _ (c .before .before .before .before .before .before .before .before .before .before .before .before .before .pre .0))
+stopped-requires c κs =
+    let start = c .before .before .before .before .before .before .before .before .before .before .before .before .before in
+    let entry-at = c .before .before .before .before .before .entry-at in
+    omega (arith, entry-at .ensures .1, few-entries _ _ _ _ _ _ _ (start .pre .0))
 
 -- src/leaf.rt:116:17
 returns : tie.Need-returns Inv-loop μ-loop
-returns c = (scan-stop _ _ _ _ _ _ _ (c .before .before .before .before .before .before .before .before .before .before .before .before .before .before .pre .0 .inside) _ _ _ (c .before .before .before .before .before .before .before .before .loop .inv .1 .1) (c .before .before .before .before .before .before .before .loop-test .taken) (c .before .before .before .before .before .before .entry-at .ensures .0) _ _ _ (c .stopped .ensures .1 .0) (c .stopped .ensures .1 .1) (omega (arith, c .before .before .before .before .before .before .entry-at .ensures .1)) (regular-made _ _ _ _ _ _ (c .before .before .before .before .before .before .entry-at .ensures .1) _ (λ z. omega (arith, c .before .before .before .before .before .before .before .before .before .before .before .before .before .before .pre .1 .1)) (λ x y. omega (arith, c .before .before .before .before .before .before .before .before .before .before .before .before .before .before .pre .1 .1)) (rw (c .before .before .before .before .before .before .before .before .before .before .get .ensures) at (c .before .before .before .before .before .counts .ensures)) _ (c .before .before .before .before .before .before .before .before .before .before .before .before .before .before .pre .1 .1) (c .before .before .before .before .if1 .taken) (c .before .before .before .label .ensures .0) (omega (arith, c .before .if2 .taken, c .before .before .get2 .ensures))), c .stopped .ensures .0)
+returns c =
+    let start = c .before .before .before .before .before .before .before .before .before .before .before .before .before .before in
+    let get = c .before .before .before .before .before .before .before .before .before .before .get in
+    let loop = c .before .before .before .before .before .before .before .before .loop in
+    let loop-test = c .before .before .before .before .before .before .before .loop-test in
+    let entry-at = c .before .before .before .before .before .before .entry-at in
+    let counts = c .before .before .before .before .before .counts in
+    let if1 = c .before .before .before .before .if1 in
+    let label = c .before .before .before .label in (
+      scan-stop _ _ _ _ _ _ _ (start .pre .0 .inside) _ _ _ (loop .inv .1 .1) (loop-test .taken) (entry-at .ensures .0) _ _ _ (c .stopped .ensures .1 .0)
+          (c .stopped .ensures .1 .1) (omega (arith, entry-at .ensures .1))
+          (regular-made _ _ _ _ _ _ (entry-at .ensures .1) _ (λ z. omega (arith, start .pre .1 .1)) (λ x y. omega (arith, start .pre .1 .1))
+          (rw (get .ensures) at (counts .ensures)) _ (start .pre .1 .1) (if1 .taken) (label .ensures .0)
+          (omega (arith, c .before .if2 .taken, c .before .before .get2 .ensures))),
+      c .stopped .ensures .0,
+    )
 
 -- src/leaf.rt:118:21
 add-found : tie.Need-add-found Inv-loop μ-loop
-add-found c = omega (arith, c .before .before .before .before .before .entry-at .ensures .1, few-entries _ _ _ _ _ _ _ (c .before .before .before .before .before .before .before .before .before .before .before .before .before .pre .0))
+add-found c =
+    let start = c .before .before .before .before .before .before .before .before .before .before .before .before .before in
+    let entry-at = c .before .before .before .before .before .entry-at in
+    omega (arith, entry-at .ensures .1, few-entries _ _ _ _ _ _ _ (start .pre .0))
 
 -- src/leaf.rt:120:9
 add-i : tie.Need-add-i Inv-loop μ-loop
@@ -84,7 +121,31 @@ loop-less c = omega arith
 
 -- src/leaf.rt:112:5
 loop-again : tie.Need-loop-again Inv-loop μ-loop
-loop-again c = ⊎-elim (λ w. (omega arith, (rw (w .4) (omega (arith, c .before .before .entry-at .ensures .1)), rw (w .4) (scan-more _ _ _ _ _ _ _ (c .before .before .before .before .before .before .before .before .before .before .pre .0 .inside) _ _ _ (c .before .before .before .before .loop .inv .1 .1) (c .before .before .before .loop-test .taken) (c .before .before .entry-at .ensures .0) _ (singular-made _ _ _ _ _ _ (c .before .before .entry-at .ensures .1) _ (λ z. omega (arith, c .before .before .before .before .before .before .before .before .before .before .pre .1 .1)) (λ x y. omega (arith, c .before .before .before .before .before .before .before .before .before .before .pre .1 .1)) (rw (c .before .before .before .before .before .before .get .ensures) at (c .before .counts .ensures)) _ (c .before .before .before .before .before .before .before .before .before .before .pre .1 .1) (w .0 .taken) (w .1 .ensures .0) (omega (arith, w .3 .left, w .2 .ensures))))))) (λ w. (omega arith, (rw (w .1) (c .before .before .before .before .loop .inv .1 .0), rw (w .1) (scan-more _ _ _ _ _ _ _ (c .before .before .before .before .before .before .before .before .before .before .pre .0 .inside) _ _ _ (c .before .before .before .before .loop .inv .1 .1) (c .before .before .before .loop-test .taken) (c .before .before .entry-at .ensures .0) _ (counted-miss _ _ _ _ _ _ (c .before .before .entry-at .ensures .1) _ (λ z. omega (arith, c .before .before .before .before .before .before .before .before .before .before .pre .1 .1)) (λ x y. omega (arith, c .before .before .before .before .before .before .before .before .before .before .pre .1 .1)) (rw (c .before .before .before .before .before .before .get .ensures) at (c .before .counts .ensures)) (w .0 .left)))))) (c .if1 .came)
+loop-again c =
+    let start = c .before .before .before .before .before .before .before .before .before .before in
+    let get = c .before .before .before .before .before .before .get in
+    let loop = c .before .before .before .before .loop in
+    let loop-test = c .before .before .before .loop-test in
+    let entry-at = c .before .before .entry-at in
+    let p = rw (get .ensures) at (c .before .counts .ensures) in
+    ⊎-elim (λ w. (
+      omega arith,
+      (
+        rw (w .4) (omega (arith, entry-at .ensures .1)),
+        rw (w .4) (scan-more _ _ _ _ _ _ _ (start .pre .0 .inside) _ _ _ (loop .inv .1 .1) (loop-test .taken) (entry-at .ensures .0) _
+            (singular-made _ _ _ _ _ _ (entry-at .ensures .1) _ (λ z. omega (arith, start .pre .1 .1)) (λ x y. omega (arith, start .pre .1 .1)) p _ (start .pre .1 .1)
+            (w .0 .taken) (w .1 .ensures .0) (omega (arith, w .3 .left, w .2 .ensures)))),
+      ),
+    ))
+    (λ w. (
+      omega arith,
+      (
+        rw (w .1) (loop .inv .1 .0),
+        rw (w .1) (scan-more _ _ _ _ _ _ _ (start .pre .0 .inside) _ _ _ (loop .inv .1 .1) (loop-test .taken)
+            (entry-at .ensures .0) _ (counted-miss _ _ _ _ _ _ (entry-at .ensures .1) _ (λ z. omega (arith, start .pre .1 .1)) (λ x y. omega (arith, start .pre .1 .1)) p
+            (w .0 .left))),
+      ),
+    )) (c .if1 .came)
 
 -- src/leaf.rt:122:5
 going-requires : tie.Need-going-requires Inv-loop μ-loop
@@ -92,7 +153,13 @@ going-requires c κs = omega (arith, c .before .loop .inv .1 .0, few-entries _ _
 
 -- src/leaf.rt:104:1
 returns-2 : tie.Need-returns-2 Inv-loop μ-loop
-returns-2 c = (scan-end _ _ _ _ _ _ _ (c .before .before .before .before .before .before .before .before .pre .0 .inside) _ _ _ _ (c .before .before .loop .inv .1 .1) (omega (arith, c .before .loop-test .left)) (c .going .ensures .1 .0) (c .going .ensures .1 .1) (c .before .before .loop .inv .1 .0), c .going .ensures .0)
+returns-2 c =
+    let start = c .before .before .before .before .before .before .before .before in
+    let loop = c .before .before .loop in (
+      scan-end _ _ _ _ _ _ _ (start .pre .0 .inside) _ _ _ _ (loop .inv .1 .1) (omega (arith, c .before .loop-test .left)) (c .going .ensures .1 .0)
+          (c .going .ensures .1 .1) (loop .inv .1 .0),
+      c .going .ensures .0,
+    )
 
 pub reducer-spec : {M : Type 1} → statement M
 reducer-spec =

@@ -42,7 +42,15 @@ returns-3 c = search needs
 
 -- src/leaf.rt:175:5
 largest-requires : tie.Need-largest-requires
-largest-requires c κs = (c .before .before .before .before .before .before .before .pre .0, (omega (arith, c .before .before .before .get .ensures, c .before .before .if1 .left, c .before .if2 .left, c .if3 .left), omega (arith, c .before .before .before .get .ensures, c .if3 .left, five-searches _ _ _ _ _ _ _ (c .before .before .before .before .before .before .before .pre .0))))
+largest-requires c κs =
+    let start = c .before .before .before .before .before .before .before in
+    let get = c .before .before .before .get in (
+      start .pre .0,
+      (
+        omega (arith, get .ensures, c .before .before .if1 .left, c .before .if2 .left, c .if3 .left),
+        omega (arith, get .ensures, c .if3 .left, five-searches _ _ _ _ _ _ _ (start .pre .0)),
+      ),
+    )
 
 -- src/leaf.rt:160:1
 returns-4 : tie.Need-returns-4

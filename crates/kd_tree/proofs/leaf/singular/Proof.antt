@@ -36,11 +36,15 @@ add-entry-at c = omega (arith, c .before .before .before .before .before .before
 
 -- src/leaf.rt:94:13
 entry-at-requires : tie.Need-entry-at-requires Inv-loop μ-loop
-entry-at-requires c κs = (c .before .before .before .before .before .before .pre .0 .asks .laid, (entries-ready _ _ _ _ _ _ _ (c .before .before .before .before .before .before .pre .0), omega (arith, c .before .before .before .before .before .before .pre .0 .inside)))
+entry-at-requires c κs =
+    let start = c .before .before .before .before .before .before in
+    (start .pre .0 .asks .laid, (entries-ready _ _ _ _ _ _ _ (start .pre .0), omega (arith, start .pre .0 .inside)))
 
 -- src/leaf.rt:95:12
 counts-requires : tie.Need-counts-requires Inv-loop μ-loop
-counts-requires c κs = (entered _ _ _ _ _ _ _ (c .before .before .before .before .before .before .before .pre .0) _ (c .entry-at .ensures .1), has-labels _ _ _ _ _ _ _ (c .before .before .before .before .before .before .before .pre .0) (λ z. omega (arith, c .before .before .before .before .before .before .before .pre .1 .1)))
+counts-requires c κs =
+    let start = c .before .before .before .before .before .before .before in
+    (entered _ _ _ _ _ _ _ (start .pre .0) _ (c .entry-at .ensures .1), has-labels _ _ _ _ _ _ _ (start .pre .0) (λ z. omega (arith, start .pre .1 .1)))
 
 -- src/leaf.rt:96:39
 add-stopped : tie.Need-add-stopped Inv-loop μ-loop
@@ -52,7 +56,18 @@ stopped-requires c κs = omega (arith, c .before .before .entry-at .ensures .1, 
 
 -- src/leaf.rt:96:13
 returns : tie.Need-returns Inv-loop μ-loop
-returns c = (scan-stop _ _ _ _ _ _ _ (c .before .before .before .before .before .before .before .before .before .before .pre .0 .inside) _ _ _ (c .before .before .before .before .before .loop .inv .1) (c .before .before .before .before .loop-test .taken) (c .before .before .before .entry-at .ensures .0) _ _ _ (c .stopped .ensures .1 .0) (c .stopped .ensures .1 .1) (omega (arith, c .before .before .before .entry-at .ensures .1)) (counted-stop _ _ _ _ _ _ (c .before .before .before .entry-at .ensures .1) _ (λ z. omega (arith, c .before .before .before .before .before .before .before .before .before .before .pre .1 .1)) (λ x y. omega (arith, c .before .before .before .before .before .before .before .before .before .before .pre .1 .1)) (rw (c .before .before .before .before .before .before .get .ensures) at (c .before .before .counts .ensures)) (λ z. omega (arith, c .before .before .before .before .before .before .before .before .before .before .pre .1 .1)) (c .before .if1 .taken)), c .stopped .ensures .0)
+returns c =
+    let start = c .before .before .before .before .before .before .before .before .before .before in
+    let get = c .before .before .before .before .before .before .get in
+    let loop = c .before .before .before .before .before .loop in
+    let loop-test = c .before .before .before .before .loop-test in
+    let entry-at = c .before .before .before .entry-at in (
+      scan-stop _ _ _ _ _ _ _ (start .pre .0 .inside) _ _ _ (loop .inv .1) (loop-test .taken) (entry-at .ensures .0) _ _ _ (c .stopped .ensures .1 .0)
+          (c .stopped .ensures .1 .1) (omega (arith, entry-at .ensures .1))
+          (counted-stop _ _ _ _ _ _ (entry-at .ensures .1) _ (λ z. omega (arith, start .pre .1 .1)) (λ x y. omega (arith, start .pre .1 .1))
+          (rw (get .ensures) at (c .before .before .counts .ensures)) (λ z. omega (arith, start .pre .1 .1)) (c .before .if1 .taken)),
+      c .stopped .ensures .0,
+    )
 
 -- src/leaf.rt:98:9
 add-i : tie.Need-add-i Inv-loop μ-loop
@@ -64,11 +79,23 @@ loop-less c = omega arith
 
 -- src/leaf.rt:93:5
 loop-again : tie.Need-loop-again Inv-loop μ-loop
-loop-again c = (omega arith, scan-more _ _ _ _ _ _ _ (c .before .before .before .before .before .before .before .before .before .pre .0 .inside) _ _ _ (c .before .before .before .before .loop .inv .1) (c .before .before .before .loop-test .taken) (c .before .before .entry-at .ensures .0) _ (counted-miss _ _ _ _ _ _ (c .before .before .entry-at .ensures .1) _ (λ z. omega (arith, c .before .before .before .before .before .before .before .before .before .pre .1 .1)) (λ x y. omega (arith, c .before .before .before .before .before .before .before .before .before .pre .1 .1)) (rw (c .before .before .before .before .before .get .ensures) at (c .before .counts .ensures)) (c .if1 .left)))
+loop-again c =
+    let start = c .before .before .before .before .before .before .before .before .before in
+    let get = c .before .before .before .before .before .get in
+    let loop = c .before .before .before .before .loop in
+    let loop-test = c .before .before .before .loop-test in
+    let entry-at = c .before .before .entry-at in (
+      omega arith,
+      scan-more _ _ _ _ _ _ _ (start .pre .0 .inside) _ _ _ (loop .inv .1) (loop-test .taken) (entry-at .ensures .0) _
+          (counted-miss _ _ _ _ _ _ (entry-at .ensures .1) _ (λ z. omega (arith, start .pre .1 .1)) (λ x y. omega (arith, start .pre .1 .1))
+          (rw (get .ensures) at (c .before .counts .ensures)) (c .if1 .left)),
+    )
 
 -- src/leaf.rt:86:1
 returns-2 : tie.Need-returns-2 Inv-loop μ-loop
-returns-2 c = (scan-end _ _ _ _ _ _ _ (c .before .before .before .before .before .before .pre .0 .inside) _ _ _ _ (c .before .loop .inv .1) (omega (arith, c .loop-test .left)) refl (c .before .before .before .before .before .before .pre .1 .0) (c .before .before .before .before .before .before .pre .0 .small), refl)
+returns-2 c =
+    let start = c .before .before .before .before .before .before in
+    (scan-end _ _ _ _ _ _ _ (start .pre .0 .inside) _ _ _ _ (c .before .loop .inv .1) (omega (arith, c .loop-test .left)) refl (start .pre .1 .0) (start .pre .0 .small), refl)
 
 pub singular-spec : {M : Type 1} → statement M
 singular-spec =

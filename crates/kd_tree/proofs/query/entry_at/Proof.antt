@@ -16,15 +16,23 @@ num-requires c κs = omega (arith, query-long _ _ (c .before .before .pre .0))
 
 -- src/query.rt:71:16
 add-num : tie.Need-add-num
-add-num c = omega (arith, place-room (c .before .before .before .args .image .now) _ (c .before .before .before .pre .1 .0) (c .before .before .before .args .p) (omega (arith, c .before .before .before .pre .1 .1)), c .num .ensures .0, c .before .before .before .pre .0 .permutation)
+add-num c =
+    let start = c .before .before .before in
+    omega (arith, place-room (start .args .image .now) _ (start .pre .1 .0) (start .args .p) (omega (arith, start .pre .1 .1)), c .num .ensures .0, start .pre .0 .permutation)
 
 -- src/query.rt:71:5
 num-requires-2 : tie.Need-num-requires-2
-num-requires-2 c κs = omega (arith, place-room (c .before .before .before .args .image .now) _ (c .before .before .before .pre .1 .0) ((c .before .before .before .args .p) + 1) (omega (arith, c .before .before .before .pre .1 .1)), c .num .ensures .0, c .before .before .before .pre .0 .permutation)
+num-requires-2 c κs =
+    let start = c .before .before .before in
+    omega (arith, place-room (start .args .image .now) _ (start .pre .1 .0) ((start .args .p) + 1) (omega (arith, start .pre .1 .1)), c .num .ensures .0, start .pre .0 .permutation)
 
 -- src/query.rt:65:1
 returns : tie.Need-returns
-returns c = (c .num2 .ensures .0 ∙ rw (c .before .num .ensures .0, c .before .before .before .before .pre .0 .permutation) refl, rw (c .num2 .ensures .0, c .before .num .ensures .0, c .before .before .before .before .pre .0 .permutation) ((c .before .before .before .before .pre .1 .0 .places) (c .before .before .before .before .args .p) (c .before .before .before .before .pre .1 .1)))
+returns c =
+    let start = c .before .before .before .before in (
+      c .num2 .ensures .0 ∙ rw (c .before .num .ensures .0, start .pre .0 .permutation) refl,
+      rw (c .num2 .ensures .0, c .before .num .ensures .0, start .pre .0 .permutation) ((start .pre .1 .0 .places) (start .args .p) (start .pre .1 .1)),
+    )
 
 pub entry-at-spec : {M : Type 1} → statement M
 entry-at-spec = tie.close (tie.spec num-requires add-num num-requires-2 returns)

@@ -18,15 +18,41 @@ num-requires-2 c κs = omega (arith, query-long _ _ (c .before .before .before .
 
 -- src/query.rt:81:40
 mul-num : tie.Need-mul-num
-mul-num c = rw (c .num2 .ensures .0) (omega (arith, row-read (c .before .before .before .before .args .image .now) (c .before .before .before .before .args .q .now) _ (c .before .before .before .before .pre .0) (c .before .before .before .before .pre .1 .0) (c .before .before .before .before .args .e) (c .before .before .before .before .pre .1 .1 .0) (c .before .before .before .before .pre .1 .1 .1) .is, row-read (c .before .before .before .before .args .image .now) (c .before .before .before .before .args .q .now) _ (c .before .before .before .before .pre .0) (c .before .before .before .before .pre .1 .0) (c .before .before .before .before .args .e) (c .before .before .before .before .pre .1 .1 .0) (c .before .before .before .before .pre .1 .1 .1) .small))
+mul-num c =
+    let start = c .before .before .before .before in
+    rw (c .num2 .ensures .0) (omega (
+      arith,
+      row-read (start .args .image .now) (start .args .q .now) _ (start .pre .0) (start .pre .1 .0) (start .args .e)
+          (start .pre .1 .1 .0) (start .pre .1 .1 .1) .is,
+      row-read (start .args .image .now) (start .args .q .now) _ (start .pre .0) (start .pre .1 .0) (start .args .e)
+          (start .pre .1 .1 .0) (start .pre .1 .1 .1) .small,
+    ))
 
 -- src/query.rt:81:26
 add-num : tie.Need-add-num
-add-num c = rw (c .num2 .ensures .0) (omega (arith, row-read (c .before .before .before .before .args .image .now) (c .before .before .before .before .args .q .now) _ (c .before .before .before .before .pre .0) (c .before .before .before .before .pre .1 .0) (c .before .before .before .before .args .e) (c .before .before .before .before .pre .1 .1 .0) (c .before .before .before .before .pre .1 .1 .1) .is, row-read (c .before .before .before .before .args .image .now) (c .before .before .before .before .args .q .now) _ (c .before .before .before .before .pre .0) (c .before .before .before .before .pre .1 .0) (c .before .before .before .before .args .e) (c .before .before .before .before .pre .1 .1 .0) (c .before .before .before .before .pre .1 .1 .1) .small, c .before .num .ensures .0))
+add-num c =
+    let start = c .before .before .before .before in
+    rw (c .num2 .ensures .0) (omega (
+      arith,
+      row-read (start .args .image .now) (start .args .q .now) _ (start .pre .0) (start .pre .1 .0) (start .args .e)
+          (start .pre .1 .1 .0) (start .pre .1 .1 .1) .is,
+      row-read (start .args .image .now) (start .args .q .now) _ (start .pre .0) (start .pre .1 .0) (start .args .e)
+          (start .pre .1 .1 .0) (start .pre .1 .1 .1) .small,
+      c .before .num .ensures .0,
+    ))
 
 -- src/query.rt:81:9
 num-requires-3 : tie.Need-num-requires-3
-num-requires-3 c κs = rw (c .num2 .ensures .0) (omega (arith, row-read (c .before .before .before .before .args .image .now) (c .before .before .before .before .args .q .now) _ (c .before .before .before .before .pre .0) (c .before .before .before .before .pre .1 .0) (c .before .before .before .before .args .e) (c .before .before .before .before .pre .1 .1 .0) (c .before .before .before .before .pre .1 .1 .1) .is, row-read (c .before .before .before .before .args .image .now) (c .before .before .before .before .args .q .now) _ (c .before .before .before .before .pre .0) (c .before .before .before .before .pre .1 .0) (c .before .before .before .before .args .e) (c .before .before .before .before .pre .1 .1 .0) (c .before .before .before .before .pre .1 .1 .1) .room, c .before .num .ensures .0))
+num-requires-3 c κs =
+    let start = c .before .before .before .before in
+    rw (c .num2 .ensures .0) (omega (
+      arith,
+      row-read (start .args .image .now) (start .args .q .now) _ (start .pre .0) (start .pre .1 .0) (start .args .e)
+          (start .pre .1 .1 .0) (start .pre .1 .1 .1) .is,
+      row-read (start .args .image .now) (start .args .q .now) _ (start .pre .0) (start .pre .1 .0) (start .args .e)
+          (start .pre .1 .1 .0) (start .pre .1 .1 .1) .room,
+      c .before .num .ensures .0,
+    ))
 
 -- src/query.rt:82:16
 num-requires-4 : tie.Need-num-requires-4
@@ -38,19 +64,57 @@ num-requires-5 c κs = omega (arith, query-long _ _ (c .before .before .before .
 
 -- src/query.rt:82:32
 mul-num-2 : tie.Need-mul-num-2
-mul-num-2 c = rw (c .num5 .ensures .0) (omega (arith, label-read (c .before .before .before .before .before .before .before .args .image .now) (c .before .before .before .before .before .before .before .args .q .now) _ (c .before .before .before .before .before .before .before .pre .0) (c .before .before .before .before .before .before .before .pre .1 .0) (c .before .before .before .before .before .before .before .args .e) (c .before .before .before .before .before .before .before .pre .1 .1 .0) (c .before .before .before .before .before .before .before .pre .1 .1 .1) (c .before .before .num3 .result) (c .before .before .num3 .ensures .0 ∙ rw (c .before .before .before .before .num .ensures .0, c .before .before .before .num2 .ensures .0) refl) .small))
+mul-num-2 c =
+    let start = c .before .before .before .before .before .before .before in
+    let num = c .before .before .before .before .num in
+    let num2 = c .before .before .before .num2 in
+    let num3 = c .before .before .num3 in
+    rw (c .num5 .ensures .0) (omega (
+      arith,
+      label-read (start .args .image .now) (start .args .q .now) _ (start .pre .0) (start .pre .1 .0) (start .args .e)
+          (start .pre .1 .1 .0) (start .pre .1 .1 .1) (num3 .result) (num3 .ensures .0 ∙ rw (num .ensures .0, num2 .ensures .0) refl) .small,
+    ))
 
 -- src/query.rt:82:16
 add-num-2 : tie.Need-add-num-2
-add-num-2 c = rw (c .num5 .ensures .0) (omega (arith, label-read (c .before .before .before .before .before .before .before .args .image .now) (c .before .before .before .before .before .before .before .args .q .now) _ (c .before .before .before .before .before .before .before .pre .0) (c .before .before .before .before .before .before .before .pre .1 .0) (c .before .before .before .before .before .before .before .args .e) (c .before .before .before .before .before .before .before .pre .1 .1 .0) (c .before .before .before .before .before .before .before .pre .1 .1 .1) (c .before .before .num3 .result) (c .before .before .num3 .ensures .0 ∙ rw (c .before .before .before .before .num .ensures .0, c .before .before .before .num2 .ensures .0) refl) .small, c .before .num4 .ensures .0))
+add-num-2 c =
+    let start = c .before .before .before .before .before .before .before in
+    let num = c .before .before .before .before .num in
+    let num2 = c .before .before .before .num2 in
+    let num3 = c .before .before .num3 in
+    rw (c .num5 .ensures .0) (omega (
+      arith,
+      label-read (start .args .image .now) (start .args .q .now) _ (start .pre .0) (start .pre .1 .0) (start .args .e)
+          (start .pre .1 .1 .0) (start .pre .1 .1 .1) (num3 .result) (num3 .ensures .0 ∙ rw (num .ensures .0, num2 .ensures .0) refl) .small,
+      c .before .num4 .ensures .0,
+    ))
 
 -- src/query.rt:82:5
 num-requires-6 : tie.Need-num-requires-6
-num-requires-6 c κs = rw (c .num5 .ensures .0) (omega (arith, label-read (c .before .before .before .before .before .before .before .args .image .now) (c .before .before .before .before .before .before .before .args .q .now) _ (c .before .before .before .before .before .before .before .pre .0) (c .before .before .before .before .before .before .before .pre .1 .0) (c .before .before .before .before .before .before .before .args .e) (c .before .before .before .before .before .before .before .pre .1 .1 .0) (c .before .before .before .before .before .before .before .pre .1 .1 .1) (c .before .before .num3 .result) (c .before .before .num3 .ensures .0 ∙ rw (c .before .before .before .before .num .ensures .0, c .before .before .before .num2 .ensures .0) refl) .room, c .before .num4 .ensures .0))
+num-requires-6 c κs =
+    let start = c .before .before .before .before .before .before .before in
+    let num = c .before .before .before .before .num in
+    let num2 = c .before .before .before .num2 in
+    let num3 = c .before .before .num3 in
+    rw (c .num5 .ensures .0) (omega (
+      arith,
+      label-read (start .args .image .now) (start .args .q .now) _ (start .pre .0) (start .pre .1 .0) (start .args .e)
+          (start .pre .1 .1 .0) (start .pre .1 .1 .1) (num3 .result) (num3 .ensures .0 ∙ rw (num .ensures .0, num2 .ensures .0) refl) .room,
+      c .before .num4 .ensures .0,
+    ))
 
 -- src/query.rt:75:1
 returns : tie.Need-returns
-returns c = (label-read (c .before .before .before .before .before .before .before .before .args .image .now) (c .before .before .before .before .before .before .before .before .args .q .now) _ (c .before .before .before .before .before .before .before .before .pre .0) (c .before .before .before .before .before .before .before .before .pre .1 .0) (c .before .before .before .before .before .before .before .before .args .e) (c .before .before .before .before .before .before .before .before .pre .1 .1 .0) (c .before .before .before .before .before .before .before .before .pre .1 .1 .1) (c .before .before .before .num3 .result) (c .before .before .before .num3 .ensures .0 ∙ rw (c .before .before .before .before .before .num .ensures .0, c .before .before .before .before .num2 .ensures .0) refl) .is _ (c .num6 .ensures .0 ∙ rw (c .before .before .num4 .ensures .0, c .before .num5 .ensures .0) refl), c .num6 .ensures .1)
+returns c =
+    let start = c .before .before .before .before .before .before .before .before in
+    let num = c .before .before .before .before .before .num in
+    let num2 = c .before .before .before .before .num2 in
+    let num3 = c .before .before .before .num3 in (
+      label-read (start .args .image .now) (start .args .q .now) _ (start .pre .0) (start .pre .1 .0) (start .args .e) (start .pre .1 .1 .0) (start .pre .1 .1 .1)
+          (num3 .result) (num3 .ensures .0 ∙ rw (num .ensures .0, num2 .ensures .0) refl) .is _
+          (c .num6 .ensures .0 ∙ rw (c .before .before .num4 .ensures .0, c .before .num5 .ensures .0) refl),
+      c .num6 .ensures .1,
+    )
 
 pub label-spec : {M : Type 1} → statement M
 label-spec =

@@ -17,15 +17,26 @@ num-requires-2 c κs = omega (arith, query-long _ _ (c .before .before .pre .0))
 
 -- src/query.rt:61:20
 mul-result : tie.Need-mul-result
-mul-result c = rw (c .num2 .ensures .0) (omega (arith, node-word _ _ (c .before .before .before .pre .0) (c .before .before .before .args .k) (c .before .before .before .pre .1) .is, node-word _ _ (c .before .before .before .pre .0) (c .before .before .before .args .k) (c .before .before .before .pre .1) .small))
+mul-result c =
+    let start = c .before .before .before in
+    rw (c .num2 .ensures .0) (omega (arith, node-word _ _ (start .pre .0) (start .args .k) (start .pre .1) .is, node-word _ _ (start .pre .0) (start .args .k) (start .pre .1) .small))
 
 -- src/query.rt:61:5
 add-result : tie.Need-add-result
-add-result c = rw (c .num2 .ensures .0) (omega (arith, node-word _ _ (c .before .before .before .pre .0) (c .before .before .before .args .k) (c .before .before .before .pre .1) .is, node-word _ _ (c .before .before .before .pre .0) (c .before .before .before .args .k) (c .before .before .before .pre .1) .small, c .before .num .ensures .0))
+add-result c =
+    let start = c .before .before .before in
+    rw (c .num2 .ensures .0) (omega (
+      arith,
+      node-word _ _ (start .pre .0) (start .args .k) (start .pre .1) .is,
+      node-word _ _ (start .pre .0) (start .args .k) (start .pre .1) .small,
+      c .before .num .ensures .0,
+    ))
 
 -- src/query.rt:56:1
 returns : tie.Need-returns
-returns c = rw (c .num2 .ensures .0) (omega (arith, node-word _ _ (c .before .before .before .pre .0) (c .before .before .before .args .k) (c .before .before .before .pre .1) .is, c .before .num .ensures .0))
+returns c =
+    let start = c .before .before .before in
+    rw (c .num2 .ensures .0) (omega (arith, node-word _ _ (start .pre .0) (start .args .k) (start .pre .1) .is, c .before .num .ensures .0))
 
 pub node-at-spec : {M : Type 1} → statement M
 node-at-spec = tie.close (tie.spec num-requires num-requires-2 mul-result add-result returns)

@@ -29,7 +29,10 @@ num-requires-5 c κs = search needs
 
 -- src/query.rt:42:1
 returns : tie.Need-returns
-returns c = shape-is _ _ _ _ _ _ (c .before .before .before .before .num .ensures .0) (c .before .before .before .num2 .ensures .0) (c .before .before .num3 .ensures .0) (c .before .num4 .ensures .0) (c .num5 .ensures .0)
+returns c =
+    let num = c .before .before .before .before .num in
+    let num2 = c .before .before .before .num2 in
+    shape-is _ _ _ _ _ _ (num .ensures .0) (num2 .ensures .0) (c .before .before .num3 .ensures .0) (c .before .num4 .ensures .0) (c .num5 .ensures .0)
 
 pub shape-spec : {M : Type 1} → statement M
 shape-spec =
