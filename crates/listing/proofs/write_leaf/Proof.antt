@@ -150,13 +150,13 @@ loop-again c =
     let f = l .before in
     let a = f .before .before .before in
     let W = words (a .args .image .now) in
+    let p = lms W (a .args .s) (entriesFrom W (a .args .s) (a .args .lo) (l .loop .i)) in
     let x = next (a .args .image .now) (a .args .s) (a .pre .0) (a .args .lo) (l .loop .i) _ (b .get .result) (omega (arith, f .permutation-at .ensures))
     (omega (arith, d .loop-test .taken, a .pre .1 .0)) (b .get .ensures) in
-    let y = behind (a .args .out .now) (l .loop .out) (lms W (a .args .s) (entriesFrom W (a .args .s) (a .args .lo) (l .loop .i))) (lmIn W (a .args .s) (b .get .result))
-    _ (l .loop .n) _ (l .loop .inv .1 .1 .0) (l .loop .inv .0) refl
+    let y = behind (a .args .out .now) (l .loop .out) p (lmIn W (a .args .s) (b .get .result)) _ (l .loop .n) _ (l .loop .inv .1 .1 .0) (l .loop .inv .0) refl
     (omega (
       arith,
-      length-append (lms W (a .args .s) (entriesFrom W (a .args .s) (a .args .lo) (l .loop .i))) (lmIn W (a .args .s) (b .get .result)),
+      length-append p (lmIn W (a .args .s) (b .get .result)),
       x .long,
       front-shorter (a .args .image .now) (a .args .s) (a .pre .0) (a .args .lo) ((l .loop .i) + 1) (a .args .c) (omega (arith, d .loop-test .taken)),
       a .pre .1 .1,
@@ -169,7 +169,11 @@ loop-again c =
           y,
           ap length y ∙ length-pasteW (a .args .out .now) 0
               (lms W (a .args .s) (entriesFrom W (a .args .s) (a .args .lo) ((l .loop .i) + 1)))
-              (omega (arith, front-shorter (a .args .image .now) (a .args .s) (a .pre .0) (a .args .lo) ((l .loop .i) + 1) (a .args .c) (omega (arith, d .loop-test .taken)), a .pre .1 .1)),
+              (omega (
+                arith,
+                front-shorter (a .args .image .now) (a .args .s) (a .pre .0) (a .args .lo) ((l .loop .i) + 1) (a .args .c) (omega (arith, d .loop-test .taken)),
+                a .pre .1 .1,
+              )),
         ),
       ),
     )

@@ -90,17 +90,13 @@ returns c =
     let d = l .before in
     let a = d .before .before .before in
     let W = words (a .args .image .now) in
+    let p = c .before .before .before .before .put .ensures in
     let long = lm-to-end (a .args .image .now) (a .args .s) (a .pre .0) (a .args .e) _ (a .pre .1 .0) (d .entry-at .ensures) in
     let room : 4 * lengthAt W (d .entry-at .result) ≤ length (a .args .out .now) = omega (arith, long, a .pre .1 .1) in
-    let last = ended-here W (d .entry-at .result) (a .args .out .now) (l .loop .out) (l .loop .i) (l .loop .inv) room
-    (g .get .result) (g .get .ensures) _ (c .before .before .before .before .put .ensures)
+    let last = ended-here W (d .entry-at .result) (a .args .out .now) (l .loop .out) (l .loop .i) (l .loop .inv) room (g .get .result) (g .get .ensures) _ p
     (omega (arith, c .before .kind .ensures, c .if1 .taken)) in
-    let all = one-more W (d .entry-at .result) (a .args .out .now) (l .loop .out) (l .loop .i) (l .loop .inv) room
-    (g .get .result) (g .get .ensures) _ (c .before .before .before .before .put .ensures) in (
-      last ∙ long,
-      all ∙ ap (pasteW (a .args .out .now) 0)
-          (lm-part (a .args .image .now) (a .args .s) (a .pre .0) (a .args .e) _ (a .pre .1 .0) (d .entry-at .ensures) _ last),
-    )
+    let all = one-more W (d .entry-at .result) (a .args .out .now) (l .loop .out) (l .loop .i) (l .loop .inv) room (g .get .result) (g .get .ensures) _ p in
+    (last ∙ long, all ∙ ap (pasteW (a .args .out .now) 0) (lm-part (a .args .image .now) (a .args .s) (a .pre .0) (a .args .e) _ (a .pre .1 .0) (d .entry-at .ensures) _ last))
 
 -- src/lib.rt:24:5
 loop-less : tie.Need-loop-less Inv-loop μ-loop

@@ -16,14 +16,13 @@ use prog.Memory.{Memory}
 use prog.Routine.{Routine}
 use prog.Wp.{Heap, Calls, Loops, WpFn, Tables}
 use ghost.Atoms.{Atoms, sem}
-use contract.Lifetimes.{Lfts}
 use contract.Monad.{Fun, fact}
 use contract.Running.{givenOf, tables, tablesOf}
 use types.Kit.{Given, ‵, raw, _⊛_, ⋆, some, later, _$_, _∵_, !, qed, by, move, drop, use1, use2, rewrite, split, join, pick, fsplit, fjoin, suffices, frame, await, done}
 use types.Part.{whole, sub, look-in, agg}
 use types.Run.{look, init, forget, stop, fld, from, load, of-opd, and-then, no-more, assigns, land, returns, enter, alloc1, alloc0, params1, pass1, pass0, free1, free0}
 use sound.WpLaws.{FmC, fmOf, WpFn-mono}
-use denote.RattleType.{RattleType, owns}
+use denote.RattleType.{owns}
 use denote.Laws.{Is, shows}
 use denote.Plain.{uint-makes, uint-lawful, uint-vals, uint-tells}
 use denote.Builtin.{u8, u32, usize}
@@ -31,7 +30,6 @@ use denote.Ref.{RefT, NamedLft, now}
 use denote.Signature.{plain, namedLft}
 use denote.Slice.{sliceVal, ShrSlice, slice-vals, shr-slice-tells, shr-slice-lawful, shr-slice-copy}
 use denote.Steps.{only, owned, peeks, heard, nothing}
-use denote.Struct.Declared.{Declared}
 use denote.Struct.Laws as LL
 use denote.Struct.Rest.{own-shut}
 use denote.Triple.Statement.{Contract, Triple}
@@ -50,6 +48,7 @@ use Rattle.word_reader.proofs.Reader as T
 use Rattle.word_reader.proofs.Reader.Laws as T′
 use Rattle.word_reader.proofs.Step as S
 use Rattle.word_reader.proofs.Step.Laws as S′
+use Rattle.word_reader.proofs.Held.{B, D, L}
 use Rattle.word_reader.proofs.reader_at as new
 use Rattle.word_reader.proofs.reader_at.Symbol as new-def
 use Rattle.word_reader.proofs.reader_at.Symbol.{name as #reader-at}
@@ -66,10 +65,6 @@ use Rattle.word_reader.proofs.read_call.Key.{name as #read-call}
 use Rattle.word_reader.proofs.read_call as read
 use Rattle.word_reader.proofs.read_call.Statement as stated
 use Rattle.word_reader.proofs.read_call.Code as code
-
--- the struct's type, over the signature's lifetimes
-abbrev B : Lfts 1 → RattleType
-B κs = T.the-row (namedLft 1 0 tt κs)
 
 abbrev stayed : Stays (read.ended .signature .params) (read.ended .kept)
 stayed = (stay-none-slice (0 ∷ []) tt (plain (λ _. u8)) yes, (stay-none (λ _. usize) yes, tt))
@@ -109,13 +104,7 @@ module _ {M : Type 1} (𝓤 : URA M) (H : Heap 𝓤) (A : Atoms 𝓤) (W : Given
   abbrev at : Vals read.signature (κ, tt)
   at = (v ∷ [], (vint w64 n ∷ [], tt))
 
-  -- the struct's type, and as a local of a body has it
-  abbrev D : Declared
-  D = T.the-type (namedLft 1 0 tt (κ, tt))
-
-  abbrev L : LL.Laws D
-  L = T′.the-laws (namedLft 1 0 tt (κ, tt))
-
+  -- the lifetime of the struct's type as a local of a body has it
   abbrev αᵉ : NamedLft
   αᵉ = record { mir = erased; lft = κ }
 
@@ -202,7 +191,7 @@ module _ {M : Type 1} (𝓤 : URA M) (H : Heap 𝓤) (A : Atoms 𝓤) (W : Given
         land ! (from ! (stop !)) (init ! 13 refl (LL.lawful (T.the-type αᵉ) (T′.the-laws αᵉ) 𝓤 H A W .typed r _ is .0)) $
         assigns ! (of-opd ! (load ! (from ! (stop !)) (look ! 13 refl))) (from ! (stop !))
         (init ! 9 refl (LL.lawful (T.the-type αᵉ) (T′.the-laws αᵉ) 𝓤 H A W .typed r _ is .0)) $
-        use1 W (‵ (OwnR r u) ⊛ ‵ (OwnR r u)) (LL.copy D (T′.the-copy (namedLft 1 0 tt (κ, tt))) 𝓤 H A W .twice r (u ∷ [])) $ split ! $ move ! (0 ∷ 2 ∷ []) $
+        use1 W (‵ (OwnR r u) ⊛ ‵ (OwnR r u)) (LL.copy (D κ) (T′.the-copy (namedLft 1 0 tt (κ, tt))) 𝓤 H A W .twice r (u ∷ [])) $ split ! $ move ! (0 ∷ 2 ∷ []) $
         use2 W (raw (NextCall 𝓤 H A mem run .pre (to-nxt r u))) (goes-nxt r u) $
         calls-at ! fm (NextCall 𝓤 H A mem run) known-nxt (to-nxt r u) (and-then ! (load ! (from ! (stop !)) (look ! 9 refl)) (no-more !)) (λ u₂.
         use1 W (later (some (λ (r₂ : Reader). ((‵ (flft κ q) ⊛ ‵ ftrue) ⊛ ‵ (OwnR r₂ u₂)) ⊛
@@ -211,7 +200,7 @@ module _ {M : Type 1} (𝓤 : URA M) (H : Heap 𝓤) (A : Atoms 𝓤) (W : Given
         -- [what the moved struct owns; the token; what the struct owns; what s owns; _8; …]
         peeks ! (B (κ, tt)) (Is (B (κ, tt))) (shows 𝓤 H A (B (κ, tt))) r₂ (u₂ ∷ []) (λ is₂.
         land ! (from ! (stop !)) (init ! 12 refl (LL.lawful (T.the-type αᵉ) (T′.the-laws αᵉ) 𝓤 H A W .typed r₂ _ is₂ .0)) $
-        rewrite ! 12 (λ (w : Val). ‵ (fat fullShare (T′.mir erased) l₄ 0 w)) (ap only (LL.tells D L r₂ _ is₂)) refl $ drop ! $
+        rewrite ! 12 (λ (w : Val). ‵ (fat fullShare (T′.mir erased) l₄ 0 w)) (ap only (LL.tells (D κ) (L κ) r₂ _ is₂)) refl $ drop ! $
         assigns ! (of-opd ! (load ! (from ! (stop !)) (look ! 13 refl))) (from ! (stop !))
         (init ! 5 refl (LL.lawful (T.the-type αᵉ) (T′.the-laws αᵉ) 𝓤 H A W .typed r _ is .0)) $ move ! (1 ∷ 0 ∷ []) $
         use2 W (raw (Number 𝓤 H A mem run .pre (to-num r u))) (goes-num r u) $
@@ -225,15 +214,15 @@ module _ {M : Type 1} (𝓤 : URA M) (H : Heap 𝓤) (A : Atoms 𝓤) (W : Given
         rewrite ! 7 (λ (w : Val). ‵ (fat fullShare (tyInt w32) l₆ 0 w)) (ap only (is′ .0)) refl $ drop ! $
         -- [the token; what s owns; _8; …]
         assigns ! (of-opd ! (load ! (from ! (fld ! refl (stop !))) (look-in ! 10 (sub ! 1 refl (whole !))))) (from ! (stop !))
-        (init ! 2 refl (tt, record { fits = LL.owed D L r₂ _ is₂ .1 .0 .1 })) $
+        (init ! 2 refl (tt, record { fits = LL.owed (D κ) (L κ) r₂ _ is₂ .1 .0 .1 })) $
         assigns ! (agg ! (and-then ! (load ! (from ! (stop !)) (look ! 6 refl)) (and-then ! (load ! (from ! (stop !)) (look ! 2 refl)) (no-more !)))) (from ! (stop !))
-        (init ! 18 refl (tt, (record { fits = is′ .1 }, (record { fits = LL.owed D L r₂ _ is₂ .1 .0 .1 }, tt)))) $
+        (init ! 18 refl (tt, (record { fits = is′ .1 }, (record { fits = LL.owed (D κ) (L κ) r₂ _ is₂ .1 .0 .1 }, tt)))) $
         returns ! (look ! 18 refl) $ forget ! 2 refl $ forget ! 4 refl $ forget ! 6 refl $ forget ! 8 refl $ forget ! 10 refl $ forget ! 12 refl $
         forget ! 14 refl $ forget ! 16 refl $ forget ! 18 refl $
         move ! (18 ∷ 19 ∷ []) $ free1 ! $ move ! (16 ∷ 17 ∷ []) $ free1 ! $ move ! (14 ∷ 15 ∷ []) $ free1 ! $ move ! (12 ∷ 13 ∷ []) $ free1 ! $
         move ! (10 ∷ 11 ∷ []) $ free1 ! $ move ! (8 ∷ 9 ∷ []) $ free1 ! $ move ! (6 ∷ 7 ∷ []) $ free1 ! $ move ! (4 ∷ 5 ∷ []) $ free1 ! $
         move ! (2 ∷ 3 ∷ []) $ free1 ! $ free0 ! $
-        by ! (exits t (r₂ .at) (is′ .1) (LL.owed D L r₂ _ is₂ .1 .0 .1) (says-so s n r r₂ t e e₂ e′)))))))))))))))))))))))
+        by ! (exits t (r₂ .at) (is′ .1) (LL.owed (D κ) (L κ) r₂ _ is₂ .1 .0 .1) (says-so s n r r₂ t e e₂ e′)))))))))))))))))))))))
 
 module _ {M : Type 1} (𝓤 : URA M) (H : Heap 𝓤) (A : Atoms 𝓤) (W : Given 𝓤 H A) (mem : Memory → SProp 𝓤) (run : Routine → Fun 𝓤) where
   read-call-walks : (C : Calls 𝓤 H) (Λ : Loops 𝓤 H) → FmC 𝓤 H (W .laws) C → Triple 𝓤 (C #reader-at) (New 𝓤 H A mem run)

@@ -49,19 +49,9 @@ find-low-base-divisor-requires : tie.Need-find-low-base-divisor-requires
 find-low-base-divisor-requires c κs =
     let b = c .before .before .before .before in
     let d = b .before in
-    let a = d .before .before .before .before .before in (
-      a .pre .0,
-      (
-        a .pre .1 .0,
-        (
-          a .pre .1 .1 .0,
-          (
-            (b .pair .ensures _ (d .monomial-at .ensures)) .index-small,
-            (b .pair .ensures _ (d .monomial-at .ensures)) .canonical (not-false _ (c .before .before .if1 .left)),
-          ),
-        ),
-      ),
-    )
+    let p = b .pair .ensures _ (d .monomial-at .ensures) in
+    let a = d .before .before .before .before .before in
+    (a .pre .0, (a .pre .1 .0, (a .pre .1 .1 .0, (p .index-small, p .canonical (not-false _ (c .before .before .if1 .left))))))
 
 -- src/ratio_monomial_index.rt:127:1
 same-length : tie.Need-same-length

@@ -70,21 +70,9 @@ find-a-reducer-requires c κs =
     let d = b .before .before in
     let f = d .before in
     let g = f .before in
-    let a = g .before .before .before .before .before in (
-      a .pre .0,
-      (
-        a .pre .1 .0,
-        (
-          a .pre .1 .1 .0,
-          (
-            (d .triple .ensures 2 _ (omega arith) (omega arith) (g .ratio-at .ensures) (f .monomial-at .ensures)) .first-canonical
-                (not-false _ (b .if1 .left)),
-            (d .triple .ensures 2 _ (omega arith) (omega arith) (g .ratio-at .ensures) (f .monomial-at .ensures)) .second-canonical
-                (not-false _ (b .if1 .left)),
-          ),
-        ),
-      ),
-    )
+    let p = d .triple .ensures 2 _ (omega arith) (omega arith) (g .ratio-at .ensures) (f .monomial-at .ensures) in
+    let a = g .before .before .before .before .before in
+    (a .pre .0, (a .pre .1 .0, (a .pre .1 .1 .0, (p .first-canonical (not-false _ (b .if1 .left)), p .second-canonical (not-false _ (b .if1 .left))))))
 
 -- src/ratio_monomial_index.rt:167:9
 same-length : tie.Need-same-length
@@ -115,21 +103,9 @@ find-high-base-divisor-requires c κs =
     let d = b .before .before in
     let f = d .before in
     let g = f .before in
-    let a = g .before .before .before .before .before in (
-      a .pre .0,
-      (
-        a .pre .1 .0,
-        (
-          a .pre .1 .1 .0,
-          (
-            (d .triple .ensures 2 _ (omega arith) (omega arith) (g .ratio-at .ensures) (f .monomial-at .ensures)) .first-canonical
-                (not-false _ (b .if1 .left)),
-            (d .triple .ensures 2 _ (omega arith) (omega arith) (g .ratio-at .ensures) (f .monomial-at .ensures)) .second-canonical
-                (not-false _ (b .if1 .left)),
-          ),
-        ),
-      ),
-    )
+    let p = d .triple .ensures 2 _ (omega arith) (omega arith) (g .ratio-at .ensures) (f .monomial-at .ensures) in
+    let a = g .before .before .before .before .before in
+    (a .pre .0, (a .pre .1 .0, (a .pre .1 .1 .0, (p .first-canonical (not-false _ (b .if1 .left)), p .second-canonical (not-false _ (b .if1 .left))))))
 
 -- src/ratio_monomial_index.rt:143:1
 same-length-3 : tie.Need-same-length-3

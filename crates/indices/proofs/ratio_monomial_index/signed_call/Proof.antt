@@ -71,23 +71,16 @@ insert-requires c κs =
     let b = c .before .before .before .before in
     let d = b .before in
     let f = d .before in
+    let p = b .triple .ensures 1 _ (omega arith) (omega arith) (f .monomial-at .ensures) (d .monomial-at2 .ensures) in
     let a = f .before .before .before .before .before .before in (
       a .pre .0,
       (
         a .pre .1 .0,
         (
-          (b .triple .ensures 1 _ (omega arith) (omega arith) (f .monomial-at .ensures) (d .monomial-at2 .ensures)) .index-small,
+          p .index-small,
           (
-            (
-              (b .triple .ensures 1 _ (omega arith) (omega arith) (f .monomial-at .ensures) (d .monomial-at2 .ensures)) .first-canonical
-                  (not-false _ (c .before .before .if1 .left)),
-              found-whole _ _ _ _ _ (f .monomial-at .ensures),
-            ),
-            (
-              (b .triple .ensures 1 _ (omega arith) (omega arith) (f .monomial-at .ensures) (d .monomial-at2 .ensures)) .second-canonical
-                  (not-false _ (c .before .before .if1 .left)),
-              found-whole _ _ _ _ _ (d .monomial-at2 .ensures),
-            ),
+            (p .first-canonical (not-false _ (c .before .before .if1 .left)), found-whole _ _ _ _ _ (f .monomial-at .ensures)),
+            (p .second-canonical (not-false _ (c .before .before .if1 .left)), found-whole _ _ _ _ _ (d .monomial-at2 .ensures)),
           ),
         ),
       ),
@@ -117,22 +110,9 @@ test-singular-criterion-requires c κs =
     let d = b .before .before in
     let f = d .before in
     let g = f .before in
-    let a = g .before .before .before .before .before .before in (
-      a .pre .0,
-      (
-        a .pre .1 .0,
-        (
-          a .pre .1 .1 .0,
-          (
-            (d .triple .ensures 1 _ (omega arith) (omega arith) (g .monomial-at .ensures) (f .monomial-at2 .ensures)) .index-small,
-            (
-              (d .triple .ensures 1 _ (omega arith) (omega arith) (g .monomial-at .ensures) (f .monomial-at2 .ensures)) .first-canonical (not-false _ (b .if1 .left)),
-              (d .triple .ensures 1 _ (omega arith) (omega arith) (g .monomial-at .ensures) (f .monomial-at2 .ensures)) .second-canonical (not-false _ (b .if1 .left)),
-            ),
-          ),
-        ),
-      ),
-    )
+    let p = d .triple .ensures 1 _ (omega arith) (omega arith) (g .monomial-at .ensures) (f .monomial-at2 .ensures) in
+    let a = g .before .before .before .before .before .before in
+    (a .pre .0, (a .pre .1 .0, (a .pre .1 .1 .0, (p .index-small, (p .first-canonical (not-false _ (b .if1 .left)), p .second-canonical (not-false _ (b .if1 .left)))))))
 
 -- src/ratio_monomial_index.rt:173:1
 same-length-2 : tie.Need-same-length-2
