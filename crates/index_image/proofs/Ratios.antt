@@ -49,12 +49,12 @@ module _ (bs : List ℕ) (s : Shape) (i : ℕ) (n : RatioReady (words bs) s i) w
 
 -- the value of a row, by the words of the whole image
 row-value : (W : List ℕ) (s : Shape) (j r : ℕ) → r ≡ at.labelsAt s + labels.rowAt (s .variables) j
-    → rowValue W s j ≡ record { index = payload (getD W r 0); ratio = part W (r + 1) (front 2 (s .variables) 0 (drop (r + 1) W)) }
+    → rowValue W s j ≡ record { index = payload (getD W r 0); ratio = part W (at.ratioAt r) (front 2 (s .variables) 0 (drop (at.ratioAt r) W)) }
 unfolding labels.valueAt part
 row-value W s j r e =
     let a = labels.rowAt (s .variables) j in
-    let q : at.labelsAt s + (a + 1) ≡ r + 1 = omega arith in
-    rw (getD-drop (at.labelsAt s) W a 0, drop-drop (a + 1) (at.labelsAt s) W, q, ← e)
+    let q : at.labelsAt s + at.ratioAt a ≡ at.ratioAt r = omega arith in
+    rw (getD-drop (at.labelsAt s) W a 0, drop-drop (at.ratioAt a) (at.labelsAt s) W, q, ← e)
 
 -- the signature monomial and lm of an entry are canonical
 pub parts-canonical : (W : List ℕ) (s : Shape) (i : ℕ) → s .variables ≤ 64 → RatioReady W s i
@@ -114,7 +114,7 @@ module _ {bs : List ℕ} {s : Shape} {i e r x y : ℕ} (k : Read bs s i e r x y)
 
   -- the row's ratio, and whether the row has the entry's
   abbrev ratio : List ℕ
-  ratio = part W (r + 1) (front 2 m 0 (drop (r + 1) W))
+  ratio = part W (at.ratioAt r) (front 2 m 0 (drop (at.ratioAt r) W))
 
   abbrev Same : Type 0
   Same = rowValue W s (rowIn W s i) ≡ quotientOf (indexIn W s i) sign lm
@@ -145,12 +145,12 @@ module _ {bs : List ℕ} {s : Shape} {i e r x y : ℕ} (k : Read bs s i e r x y)
       )
 
   -- as it is compared while it is merged
-  by-merge : x ≡ y → (t : Bool) → (t ≡ true) ↔ HasRatio sign lm (drop (r + 1) W) → (t ≡ true) ↔ Same
+  by-merge : x ≡ y → (t : Bool) → (t ≡ true) ↔ HasRatio sign lm (drop (at.ratioAt r) W) → (t ≡ true) ↔ Same
   unfolding part
   by-merge h t q =
-      let next : at.labelsAt s + (place + 1) ≡ r + 1 = omega (arith, k .row) in
-      let some : front 2 m 0 (drop (r + 1) W) ≡ 0 → ⊥ = rw (drop-drop (place + 1) (at.labelsAt s) W, next) at (k .ready .row-ok .some) in
-      let f = front-ratio m sign lm (k .few) (can .0) (can .1) (drop (r + 1) W) some in
+      let next : at.labelsAt s + at.ratioAt place ≡ at.ratioAt r = omega (arith, k .row) in
+      let some : front 2 m 0 (drop (at.ratioAt r) W) ≡ 0 → ⊥ = rw (drop-drop (at.ratioAt place) (at.labelsAt s) W, next) at (k .ready .row-ok .some) in
+      let f = front-ratio m sign lm (k .few) (can .0) (can .1) (drop (at.ratioAt r) W) some in
       let g = same-ratio h in
       let eq = equal-iff (result Op.Ratio sign lm) ratio in
       (λ (z : t ≡ true). g .0 (eq .1 (sym (f .0 (q .0 z)))), λ z. q .1 (f .1 (sym (eq .0 (g .1 z)))))
@@ -163,7 +163,7 @@ module _ {bs : List ℕ} {s : Shape} {i e r x y : ℕ} (k : Read bs s i e r x y)
   lm-lent-at = rest bs (4 * e)
 
   abbrev row-lent-at : List ℕ
-  row-lent-at = rest bs (4 * (r + 1))
+  row-lent-at = rest bs (4 * at.ratioAt r)
 
   sl : Lent sign-lent-at sign
   sl = sign-lent bs s i (k .ready) (4 * at.signFrom m e) (omega (arith, k .entry))
@@ -178,7 +178,7 @@ module _ {bs : List ℕ} {s : Shape} {i e r x y : ℕ} (k : Read bs s i e r x y)
 
   pub asks : 4 * at.labelAt s (rowIn W s i) ≤ length bs → Asks
   asks room =
-      let l : length row-lent-at ≡ length bs - 4 * (r + 1) = ap length (rest-is bs (4 * (r + 1))) ∙ length-drop (4 * (r + 1)) bs in
+      let l : length row-lent-at ≡ length bs - 4 * at.ratioAt r = ap length (rest-is bs (4 * at.ratioAt r)) ∙ length-drop (4 * at.ratioAt r) bs in
       record {
         sign-starts = sl .starts;
         lm-starts = ll .starts;
@@ -186,4 +186,4 @@ module _ {bs : List ℕ} {s : Shape} {i e r x y : ℕ} (k : Read bs s i e r x y)
       }
 
   pub answered : x ≡ y → (t : Bool) → (t ≡ true) ↔ HasRatio (first 1 (words sign-lent-at)) (first 1 (words lm-lent-at)) (words row-lent-at) → (t ≡ true) ↔ Same
-  answered h t q = by-merge h t (rw (sl .is, ll .is, rest-words bs (4 * (r + 1)) (r + 1) refl) at q)
+  answered h t q = by-merge h t (rw (sl .is, ll .is, rest-words bs (4 * at.ratioAt r) (at.ratioAt r) refl) at q)

@@ -107,7 +107,10 @@ labelsAt s = permutationAt s + s .capacity
 abbrev pub labelsSize : Shape → ℕ
 labelsSize s = s .kind * labels.size (s .variables) (s .capacity)
 
--- a row of the label map, index, ratio and label, and the place of the label in it
+-- a row of the label map, index, ratio and label: where the ratio of the row at word `at` stands, and the place of the label in a row
+abbrev pub ratioAt : ℕ → ℕ
+ratioAt at = at + 1
+
 abbrev pub labelRowWidth : ℕ → ℕ
 labelRowWidth m = m + 3
 

@@ -115,7 +115,7 @@ fn has_ratio(image: &[u8], s: Shape, i: usize) -> bool
     }
     let x = 4 * (e + (m + fields::SIGN));
     let y = 4 * e;
-    let z = 4 * (r + 1);
+    let z = 4 * (r + fields::RATIO);
     is_ratio(&image[x..], &image[y..], &image[z..])
 }
 

@@ -33,10 +33,12 @@ pub const SIGN: usize = 4;
 
 pub const ROW: usize = 7;
 
-// In the label map: its number of rows, its first row, and what a row is longer than the number of variables, with the label in its last word.
+// In the label map: its number of rows, its first row, a row's ratio, and what a row is longer than the number of variables, with the label in its last word.
 pub const ROWS: usize = 3;
 
 pub const LABELS: usize = 4;
+
+pub const RATIO: usize = 1;
 
 pub const LABEL: usize = 2;
 

@@ -74,7 +74,8 @@ module _ {W : List ℕ} {s : Shape} {i : ℕ} {ws : List ℕ} {x y : ℕ} (k : R
   long = canonical-length 1 (s .variables) ws (omega arith) (omega (arith, k .few)) (k .canonical)
 
   slot-iff : (n : ℕ) → n ≡ length ws
-      → (part W (gcdAt i) (slotWidth (s .variables)) ≡ slot (s .variables) ws) ↔ ((part W (gcdAt i) n ≡ ws) × (part W (gcdAt i + n) (slotWidth (s .variables) - n) ≡ zeros (slotWidth (s .variables) - n)))
+      → (part W (gcdAt i) (slotWidth (s .variables)) ≡ slot (s .variables) ws)
+      ↔ ((part W (gcdAt i) n ≡ ws) × (part W (gcdAt i + n) (slotWidth (s .variables) - n) ≡ zeros (slotWidth (s .variables) - n)))
   unfolding slot
   slot-iff n e =
       let z : slotWidth (s .variables) ≡ n + (slotWidth (s .variables) - n) = omega (arith, long) in

@@ -431,7 +431,8 @@ walk-add-walk-4 t c =
     let first = less-side .before .before .before .before .before .before .before in
     let key = first .before .before .before .before .before .before .before .before in
     let start = key .before .before .before .before .before .before .before .before .before .before .before in
-    omega (arith, one t (c .before .before .before .before) .few, c .before .before .before .count-behind .ensures, start .pre .1 .1 .1 .1, key .before .before .before .before .if2 .left, numbers t start)
+    let if2 = key .before .before .before .before .if2 in
+    omega (arith, one t less-side .few, c .before .before .before .count-behind .ensures, start .pre .1 .1 .1 .1, if2 .left, numbers t start)
 
 -- src/lib.rt:454:65
 walk-sub-walk-2 : (t : ℕ) → walk-lts.Need-sub-walk-2 (claims t) (walk-at t) walk.Post

@@ -27,7 +27,9 @@ use Rattle.words.proofs.runs.is_blank.Reads as is-blank-reads
 abbrev map-at : tie.Start → ℕ
 map-at a = at.mapAt (a .args .s .variables)
 
-maxima-lent : (a : tie.Start) → words (take (4 * map-at a + 4 * a .args .s .variables - 4 * map-at a) (drop (4 * map-at a) (a .args .image .now))) ≡ part (words (a .args .image .now)) (map-at a) (a .args .s .variables)
+maxima-lent : (a : tie.Start)
+    → let m = a .args .s .variables in
+    words (take (4 * map-at a + 4 * m - 4 * map-at a) (drop (4 * map-at a) (a .args .image .now))) ≡ part (words (a .args .image .now)) (map-at a) m
 maxima-lent a = range-words (a .args .image .now) (map-at a) (a .args .s .variables)
 
 -- the gcd fits in its slot
