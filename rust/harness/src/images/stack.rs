@@ -52,15 +52,19 @@ fn calls(kind: Kind) -> Vec<u8> {
     bytes(&bodies.into_iter().flat_map(call).collect::<Vec<u32>>())
 }
 
-/// What the port returns for an image and a list of all calls on it, in a
-/// thread with so many bytes of stack. If they are too few, the process ends.
+/// What the port returns for an image, a list of all calls on it and its listing,
+/// in a thread with so many bytes of stack. If they are too few, the process ends.
 fn serve_in_thread(kind: Kind, mut image: Vec<u8>, stack: usize) -> u32 {
     let thread = thread::Builder::new().stack_size(stack);
     let mut answers = [0; 64];
     let list = calls(kind);
     let thread = thread.spawn(move || {
         let run = doors::divisor_index_run(&mut image, &list, &mut answers);
-        doors::divisor_index_check(&image) + run
+        let listed = match kind {
+            Kind::Monomial => doors::divisor_index_list(&image, &mut vec![0; 8 * MAX_CAPACITY]),
+            Kind::Ratio => 0,
+        };
+        doors::divisor_index_check(&image) + run + listed
     });
     thread.expect("a thread").join().expect("a number")
 }
