@@ -14,18 +14,10 @@ use Rattle.index_image.specs.Shape as at
 use Rattle.index_image.specs.declared.Shape.{Shape}
 use Rattle.kd_tree.specs.Asked.{searchOf, slotAt, Range}
 use Rattle.kd_tree.specs.Rooted.{Rooted}
-use Rattle.kd_query.specs.declared.Search.{Search}
-use Rattle.kd_query.specs.declared.Search.the-variants.{Contained, Reducer, High, Low, Singular}
+use Rattle.kd_tree.specs.declared.query.Search.{Search}
+use Rattle.kd_tree.specs.declared.query.Search.the-variants.{Contained, Reducer, High, Low, Singular}
 
 -- ---- what is searched for
--- its number, which is `searchOf` of the request
-unfoldable pub searchNumber : Search → ℕ
-searchNumber Contained = 0
-searchNumber Reducer = 1
-searchNumber High = 2
-searchNumber Low = 3
-searchNumber Singular = 4
-
 -- lms are to divide, or else signature monomials
 unfoldable pub lmDivides : Search → Bool
 lmDivides Contained = true

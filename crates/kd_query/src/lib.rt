@@ -5,6 +5,8 @@ pub mod writing;
 
 use index_image::Shape;
 use index_image::stored;
+use kd_tree::query;
+use kd_tree::query::Search;
 ghost use mathlib.Core.Path.{_≡_};
 ghost use Prim.Native.Nat.{_+_, _*_, _<_, _≤_};
 ghost use lib.ListN.{length};
@@ -18,28 +20,8 @@ ghost use Rattle.index_image.specs.Head.{HeadOk};
 ghost use Rattle.index_image.specs.Layout.{Sound};
 ghost use Rattle.index_image.specs.Shape as at;
 ghost use Rattle.index_image.specs.Walk.{mapMaxima};
-ghost use Rattle.kd_query.specs.Posed.{searchNumber, lmDivides, Poses, PosedFor};
-
-pub enum Search {
-    Contained,
-    Reducer,
-    High,
-    Low,
-    Singular,
-}
-
-// Its number in the words of a query.
-fn number(search: Search) -> usize
-    ensures { λ r. ⌜ r ≡ searchNumber search ⌝ }
-{
-    match search {
-        Search::Contained => 0,
-        Search::Reducer => 1,
-        Search::High => 2,
-        Search::Low => 3,
-        Search::Singular => 4,
-    }
-}
+ghost use Rattle.kd_tree.specs.Asked.{searchNumber};
+ghost use Rattle.kd_query.specs.Posed.{lmDivides, Poses, PosedFor};
 
 // Whether lms are to divide, or else signature monomials.
 fn by_lm(search: Search) -> bool
@@ -74,7 +56,7 @@ pub fn pose(
 {
     let lm = by_lm(search);
     limits::limit(q, s, lm, m);
-    writing::put_masks(q, number(search), lm, stored::masks_of(image, s, m));
+    writing::put_masks(q, query::number(search), lm, stored::masks_of(image, s, m));
     writing::put_range(q, from, to, floor);
     writing::put_slot(q, s, lm);
     writing::lay(q, s);

@@ -15,6 +15,8 @@ use Rattle.index_theory.specs.Searches.{Query, containment, reducing, high, low
 use Rattle.index_theory.specs.Ranges.{dividend, byLm, notBelow, notPast, limitOf}
 use Rattle.index_image.specs.Shape as at
 use Rattle.index_image.specs.declared.Shape.{Shape}
+use Rattle.kd_tree.specs.declared.query.Search.{Search}
+use Rattle.kd_tree.specs.declared.query.Search.the-variants.{Contained, Reducer, High, Low, Singular}
 
 -- how many words a query has
 abbrev pub querySize : ℕ
@@ -82,6 +84,14 @@ optionOf zero = none
 optionOf (suc e) = some e
 
 -- the searches by number
+unfoldable pub searchNumber : Search → ℕ
+searchNumber Contained = 0
+searchNumber Reducer = 1
+searchNumber High = 2
+searchNumber Low = 3
+searchNumber Singular = 4
+
+-- the number of a request's search
 abbrev pub searchOf : Query → ℕ
 searchOf (containment q) = 0
 searchOf (reducing v q) = 1

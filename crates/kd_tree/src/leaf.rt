@@ -1,5 +1,6 @@
 // The entries of a leaf, visited in their order: one loop for each thing that can be made of an entry.
 use crate::query;
+use crate::query::Search;
 use crate::step;
 ghost use mathlib.Core.Path.{_≡_};
 ghost use mathlib.Core.Bool.{true, _&&_};
@@ -161,15 +162,11 @@ pub fn search(image: &[u8], q: &[u8], m: &[u8], lo: usize, c: usize, acc: u64) -
     requires { ⌜ onOf acc ≡ true ⌝ }
     ensures { λ r. ⌜ Visited (now (image .entry)) (now (m .entry)) (shapeIn (words (now (q .entry)))) (words (now (q .entry))) lo c (bestOf acc) (bestOf r) (onOf r) × (rowsOf r ≡ rowsOf acc) ⌝ }
 {
-    let kind = words::get(q, query::SEARCH);
-    if kind == 0 {
-        return contained(image, q, m, lo, c, acc);
+    match query::search_in(q) {
+        Search::Contained => contained(image, q, m, lo, c, acc),
+        Search::Reducer => reducer(image, q, m, lo, c, acc),
+        Search::High => largest(image, q, m, lo, c, acc),
+        Search::Low => largest(image, q, m, lo, c, acc),
+        Search::Singular => singular(image, q, m, lo, c, acc),
     }
-    if kind == 1 {
-        return reducer(image, q, m, lo, c, acc);
-    }
-    if kind == 4 {
-        return singular(image, q, m, lo, c, acc);
-    }
-    largest(image, q, m, lo, c, acc)
 }

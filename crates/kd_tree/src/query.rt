@@ -7,7 +7,29 @@ ghost use lib.ListN.{length, getD};
 ghost use Rattle.words.specs.Words.{words};
 ghost use Rattle.index_image.specs.Shape as at;
 ghost use Rattle.index_image.specs.Walk as walk;
-ghost use Rattle.kd_tree.specs.Asked.{shapeIn, Laid};
+ghost use Rattle.kd_tree.specs.Asked.{searchIn, searchNumber, shapeIn, Laid};
+
+// What is searched for.
+pub enum Search {
+    Contained,
+    Reducer,
+    High,
+    Low,
+    Singular,
+}
+
+// Its number in the words of a query.
+pub fn number(search: Search) -> usize
+    ensures { λ r. ⌜ r ≡ searchNumber search ⌝ }
+{
+    match search {
+        Search::Contained => 0,
+        Search::Reducer => 1,
+        Search::High => 2,
+        Search::Low => 3,
+        Search::Singular => 4,
+    }
+}
 
 // Limits stand by the tag of their branch, 1 to 65.
 pub const SEARCH: usize = 66;
@@ -56,6 +78,28 @@ pub fn num(q: &[u8], i: usize) -> usize
     ensures { λ r. ⌜ (r ≡ getD (words (now (q .entry))) i 0) × (r < 4294967296) ⌝ }
 {
     words::get(q, i) as usize
+}
+
+// What the words of a query search for.
+pub fn search_in(q: &[u8]) -> Search
+    requires { ⌜ 368 ≤ length (now q) ⌝ }
+    requires { ⌜ searchIn (words (now q)) ≤ 4 ⌝ }
+    ensures { λ r. ⌜ searchIn (words (now (q .entry))) ≡ searchNumber r ⌝ }
+{
+    let n = num(q, SEARCH);
+    if n == 0 {
+        return Search::Contained;
+    }
+    if n == 1 {
+        return Search::Reducer;
+    }
+    if n == 2 {
+        return Search::High;
+    }
+    if n == 3 {
+        return Search::Low;
+    }
+    Search::Singular
 }
 
 pub fn shape(q: &[u8]) -> Shape
