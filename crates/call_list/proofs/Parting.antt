@@ -1,8 +1,8 @@
 -- Bodies of calls, part by part. Assumes nothing.
 use mathlib.Core.Path.{_≡_, refl, sym, ap, _∙_}
 use mathlib.Core.Bool.{Bool, true, false, cond}
-use mathlib.Core.List.{List, [], _∷_, _++_}
-use mathlib.Core.Option.{Option, some}
+use mathlib.Core.List.{List, [], _∷_}
+use mathlib.Core.Option.{some}
 use mathlib.Core.Option as option
 use mathlib.Core.Logic.{_↔_}
 use Prim.Native.Nat.{ℕ, zero, suc, _+_, _-_, _*_, _/_, _%_, _≤_, _<_}
@@ -10,14 +10,14 @@ use native.Mathlib.Omega.{arith}
 use lib.Dec.{eqb}
 use lib.ListN.{length, getD, take, drop, length-drop, length-take}
 use lib.Seq.{drop-cons, drop-drop}
-use borrow.Author.Tests.{eq-eqb, ne-eqb, eqb-true, eqb-false}
+use borrow.Author.Tests.{eq-eqb, ne-eqb}
 use Rattle.words.specs.Kinds.{kind, payload}
 use Rattle.words.specs.Words.{words}
 use Rattle.words.proofs.Laws.{length-words, words-take, words-drop}
 use Rattle.monomial.specs.Monomial.{front, found, Canonical}
 use Rattle.monomial.proofs.Canon.{front-short}
 use Rattle.monomial.proofs.Laws.{front-canonical}
-use Rattle.index_theory.specs.Calls.{Call, listed, Request, Asked, refused, asks, bodyOf, calls, withIndex, withPart, atEnd}
+use Rattle.index_theory.specs.Calls.{listed, Request, Asked, refused, asks, bodyOf, calls, withIndex, withPart, atEnd}
 use Rattle.index_theory.proofs.Lists.{front-body}
 use Rattle.call_list.specs.Bodies.{none, IsList, Leads, Single, Paired, Tripled}
 use Rattle.call_list.specs.declared.Body.{Body}

@@ -1,12 +1,12 @@
 use native.Mathlib.Omega.{arith}
 use borrow.Author.Needs.{needs}
 use mathlib.Core.List.{List}
-use mathlib.Core.Path.{_≡_, refl, sym, ap, _∙_}
-use Prim.Native.Nat.{ℕ, _≤_, _+_, _*_, _-_, _/_}
+use mathlib.Core.Path.{_≡_, refl, ap}
+use Prim.Native.Nat.{ℕ, _≤_, _+_, _-_, _/_}
 use lib.ListN.{length, drop}
 use Rattle.words.specs.Words.{words}
 use Rattle.words.proofs.Laws.{length-words}
-use Rattle.index_theory.specs.Calls.{bodyOf, calls}
+use Rattle.index_theory.specs.Calls.{bodyOf}
 use Rattle.call_list.proofs.Parting.{body-stops, body-goes, body-nil, past-end}
 use Rattle.call_list.proofs.body_end.Statement.{statement}
 use Rattle.call_list.proofs.body_end.Tie as tie

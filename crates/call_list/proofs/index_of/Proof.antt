@@ -1,6 +1,6 @@
 use native.Mathlib.Omega.{arith}
-use mathlib.Core.Path.{_≡_, refl, sym, ap, _∙_}
-use lib.ListN.{length, drop, length-drop}
+use mathlib.Core.Path.{sym, _∙_}
+use lib.ListN.{drop, length-drop}
 use Rattle.words.specs.Words.{words}
 use Rattle.words.proofs.Laws.{length-words}
 use Rattle.call_list.proofs.Parting.{body-most, leads-none, leads-other, leads}

@@ -1,13 +1,7 @@
 use native.Mathlib.Omega.{arith}
-use mathlib.Core.Path.{_≡_, refl, sym, ap, _∙_}
-use mathlib.Core.Bool.{true, false}
-use Prim.Native.Nat.{ℕ, _≤_, _+_, _*_, _-_, _/_}
-use lib.ListN.{length, drop}
-use Rattle.words.specs.Words.{words}
-use Rattle.words.proofs.Laws.{length-words}
+use Prim.Native.Nat.{_-_, _/_}
 use Rattle.words.proofs.Answers.{refuse, accept}
 use Rattle.call_list.proofs.Parting.{list-empty, list-starts}
-use borrow.Author.Tests.{eqb-true, eqb-false}
 use borrow.Author.Needs.{needs}
 use Rattle.call_list.proofs.is_list.Statement.{statement}
 use Rattle.call_list.proofs.is_list.Tie as tie
