@@ -5,7 +5,7 @@ use native.Mathlib.Omega.{arith}
 use native.Mathlib.Nat.{mul-le-mul}
 use Rattle.words.proofs.Tables.{row-fits, split-rows}
 use Rattle.index_image.specs.declared.Shape.{Shape}
-use Rattle.index_image.specs.Shape.{InRange, widthOf, entryWidth, entryAt, maskedWidth, labelRowWidth, indexAt, signAt, rowAt, rowsCountAt, mapAt, permutationAt, labelsAt, labelsSize, labelAt, nodeWidth, nodeAt, size}
+use Rattle.index_image.specs.Shape.{InRange, widthOf, entryWidth, entryAt, maskedWidth, labelRowWidth, rowAt, mapAt, permutationAt, labelsSize, labelAt, nodeWidth, size}
 use Rattle.fast_compare.specs.Layout as labels
 
 -- a product of two numbers with known bounds

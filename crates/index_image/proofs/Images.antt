@@ -11,7 +11,6 @@ use Rattle.words.proofs.Tables.{part-get, table-iff, row-fits, split-rows}
 use Rattle.words.proofs.Joined.{moved}
 use Rattle.fast_compare.specs.Map as map
 use Rattle.fast_compare.specs.Layout as labels
-use Rattle.kd_theory.specs.Bag.{_∈_}
 use Rattle.kd_theory.specs.Tree.{inorder, nodes}
 use Rattle.index_theory.specs.Entries.{Entry, entryAt, ratioOf}
 use Rattle.index_theory.specs.State.{Kind, ratioed, State, Valid, LabelsOf, powerIn, labelOf}

@@ -1,11 +1,11 @@
 -- The image of a valid state has the lengths that its tables need. Assumes nothing.
 use mathlib.Core.Path.{_≡_, refl, sym, ap, _∙_}
-use mathlib.Core.List.{List, [], _∷_, _++_}
-use Prim.Native.Nat.{ℕ, zero, suc, _+_, _-_, _*_, _≤_, _<_}
+use mathlib.Core.List.{List, _++_}
+use Prim.Native.Nat.{ℕ, _+_, _-_, _*_, _≤_}
 use native.Mathlib.Omega.{arith}
 use native.Mathlib.Decide.{decLe}
 use native.Mathlib.Nat.{zero-mul}
-use lib.ListN.{length, getD, List·getD-eq-default, length-append}
+use lib.ListN.{length, List·getD-eq-default, length-append}
 use Rattle.monomial.specs.Monomial.{pow, powerOf, find}
 use Rattle.monomial.proofs.Powers.{absent-above, powers-in-range}
 use Rattle.fast_compare.specs.Map as map

@@ -1,6 +1,6 @@
 -- The length of an image is within document 01's bounds. Assumes nothing.
 use mathlib.Core.Path.{_≡_}
-use Prim.Native.Nat.{ℕ, zero, suc, _+_, _-_, _*_, _≤_}
+use Prim.Native.Nat.{ℕ, _+_, _-_, _*_, _≤_}
 use native.Mathlib.Omega.{arith}
 use native.Mathlib.Nat.{mul-le-mul, add-mul, mul-add, mul-comm}
 use Rattle.fast_compare.specs.Layout as labels

@@ -1,7 +1,5 @@
 use Rattle.words.proofs.Laws.{length-words}
 use native.Mathlib.Omega.{arith}
-use Rattle.words.specs.Words.{words}
-use Rattle.monomial.specs.Monomial.{first}
 use Rattle.index_image.proofs.Places.{entry-room}
 use Rattle.index_image.proofs.Reading.{lm-read}
 use Rattle.index_walk.proofs.Testing.{no-powers, no-labels, too-low, by-label}
@@ -38,7 +36,6 @@ powers-below-requires c κs =
 -- src/lib.rt:77:9
 returns : tie.Need-returns
 returns c =
-    let start = c .before .before .before .before .before .before in
     let entry-at = c .before .before .before .entry-at in
     let monomial-from = c .before .before .monomial-from in
     let powers-below = c .before .powers-below in
@@ -47,7 +44,6 @@ returns c =
 -- src/lib.rt:80:9
 returns-2 : tie.Need-returns-2
 returns-2 c =
-    let start = c .before .before .before .before .before .before .before .before in
     let entry-at = c .before .before .before .before .before .entry-at in
     let monomial-from = c .before .before .before .before .monomial-from in
     let powers-below = c .before .before .before .powers-below in

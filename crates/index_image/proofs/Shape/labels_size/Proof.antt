@@ -1,5 +1,5 @@
 use native.Mathlib.Omega.{arith}
-use Rattle.index_image.proofs.Bounds.{width-small, entries-small, rows-small, labels-small, nodes-small}
+use Rattle.index_image.proofs.Bounds.{rows-small, labels-small}
 use borrow.Author.Needs.{needs}
 use Rattle.index_image.proofs.Shape.labels_size.Statement.{statement}
 use Rattle.index_image.proofs.Shape.labels_size.Tie as tie

@@ -1,6 +1,4 @@
-use native.Mathlib.Omega.{arith}
 use borrow.Author.Tests.{eq-eqb, ne-eqb}
-use borrow.Author.Needs.{needs}
 use Rattle.index_image.proofs.entries.agrees.Statement.{statement}
 use Rattle.index_image.proofs.entries.agrees.Tie as tie
 use Rattle.index_image.proofs.entries.agrees.Reads as reads

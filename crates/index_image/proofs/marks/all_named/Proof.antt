@@ -1,5 +1,3 @@
-use mathlib.Core.Path.{_≡_, refl, sym, ap, _∙_}
-use lib.ListN.{length, getD}
 use Rattle.index_image.proofs.Marking.{blank-array, named-marked}
 use borrow.Author.Needs.{needs}
 use Rattle.index_image.proofs.marks.all_named.Statement.{statement}

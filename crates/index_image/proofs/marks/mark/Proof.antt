@@ -1,11 +1,10 @@
 use native.Mathlib.Omega.{arith}
 use borrow.Author.Needs.{needs}
-use mathlib.Core.Path.{_≡_, refl, sym, _∙_}
-use Prim.Native.Nat.{ℕ, _+_, _-_, _*_, _<_, _≤_}
-use native.Mathlib.Numerals.{add-one}
+use mathlib.Core.Path.{_≡_, refl}
+use Prim.Native.Nat.{_-_, _≤_}
 use lib.ListN.{length, length-set}
 use Rattle.words.specs.Words.{words}
-use Rattle.index_image.specs.Marks.{nameAt, Marked}
+use Rattle.index_image.specs.Marks.{Marked}
 use Rattle.index_image.proofs.Bounds.{times}
 use Rattle.index_image.proofs.Marking.{none-marked, one-more}
 use Rattle.index_image.proofs.marks.mark.Statement.{statement}

@@ -1,7 +1,6 @@
 use native.Mathlib.Omega.{arith}
 use Rattle.words.specs.Words.{words}
-use Rattle.index_image.proofs.Bounds.{ratio-width, spots}
-use Rattle.index_image.proofs.Places.{entry-room, label-room}
+use Rattle.index_image.proofs.Bounds.{Spots, spots}
 use Rattle.index_image.proofs.Reading.{label-at}
 use borrow.Author.Needs.{needs}
 use Rattle.index_image.proofs.stored.label_in.Statement.{statement}
@@ -11,6 +10,21 @@ use Rattle.index_image.proofs.stored.label_in.Lts as lts
 use Rattle.index_image.proofs.Shape.entry_at.Reads as entry-at-reads
 use Rattle.index_image.proofs.Shape.labels_at.Reads as labels-at-reads
 use Rattle.words.proofs.get.Reads as get-reads
+
+-- helpers
+-- the words of the entry, and of the label map's row that it names, lie within the image
+entry-here : (a : tie.Start) → Spots (a .args .s) (a .pre .0) (a .args .e) 0
+entry-here a = spots (a .args .s) (a .pre .0) (a .pre .1 .1 .0 .0) (a .args .e) 0 (a .pre .1 .1 .0 .1) (a .pre .0 .cap-from)
+
+row-here : (c : tie.After-get)
+    → let start = c .before .before .before in
+    Spots (start .args .s) (start .pre .0) (start .args .e) (c .get .result)
+row-here c =
+    let start = c .before .before .before in
+    spots (start .args .s) (start .pre .0) (start .pre .1 .1 .0 .0) (start .args .e) (c .get .result) (start .pre .1 .1 .0 .1)
+    (rw (c .get .ensures, c .before .entry-at .ensures) (start .pre .1 .1 .1))
+
+-- end of helpers
 
 -- src/stored.rt:64:31
 entry-at-requires : tie.Need-entry-at-requires
@@ -26,19 +40,11 @@ add-get c = search needs
 
 -- src/stored.rt:64:31
 add-get-2 : tie.Need-add-get-2
-add-get-2 c =
-    let start = c .before .before in
-    let at = spots (start .args .s) (start .pre .0) (start .pre .1 .1 .0 .0) (start .args .e) 0 (start .pre .1 .1 .0 .1)
-    (start .pre .0 .cap-from) in
-    omega (arith, at .entry, at .small, c .entry-at .ensures, start .pre .1 .0)
+add-get-2 c = omega (arith, entry-here (c .before .before), c .entry-at .ensures, c .before .before .pre .1 .0)
 
 -- src/stored.rt:64:13
 get-requires : tie.Need-get-requires
-get-requires c κs =
-    let start = c .before .before in
-    let at = spots (start .args .s) (start .pre .0) (start .pre .1 .1 .0 .0) (start .args .e) 0 (start .pre .1 .1 .0 .1)
-    (start .pre .0 .cap-from) in
-    omega (arith, at .entry, at .small, c .entry-at .ensures, start .pre .1 .0)
+get-requires c κs = omega (arith, entry-here (c .before .before), c .entry-at .ensures, c .before .before .pre .1 .0)
 
 -- src/stored.rt:64:13
 cast-r : tie.Need-cast-r
@@ -54,25 +60,11 @@ add-get-3 c = search needs
 
 -- src/stored.rt:65:44
 mul-get-2 : tie.Need-mul-get-2
-mul-get-2 c =
-    let start = c .before .before .before .before in
-    let get = c .before .get in
-    omega (
-      arith,
-      spots (start .args .s) (start .pre .0) (start .pre .1 .1 .0 .0) (start .args .e) (get .result) (start .pre .1 .1 .0 .1)
-          (rw (get .ensures, c .before .before .entry-at .ensures) (start .pre .1 .1 .1)) .row-small,
-    )
+mul-get-2 c = omega (arith, row-here (c .before) .row-small)
 
 -- src/stored.rt:65:40
 add-get-4 : tie.Need-add-get-4
-add-get-4 c =
-    let start = c .before .before .before .before in
-    let get = c .before .get in
-    omega (
-      arith,
-      spots (start .args .s) (start .pre .0) (start .pre .1 .1 .0 .0) (start .args .e) (get .result) (start .pre .1 .1 .0 .1)
-          (rw (get .ensures, c .before .before .entry-at .ensures) (start .pre .1 .1 .1)) .row-small,
-    )
+add-get-4 c = omega (arith, row-here (c .before) .row-small)
 
 -- src/stored.rt:65:59
 add-get-5 : tie.Need-add-get-5
@@ -80,35 +72,15 @@ add-get-5 c = search needs
 
 -- src/stored.rt:65:40
 add-get-6 : tie.Need-add-get-6
-add-get-6 c =
-    let start = c .before .before .before .before in
-    let get = c .before .get in
-    omega (
-      arith,
-      spots (start .args .s) (start .pre .0) (start .pre .1 .1 .0 .0) (start .args .e) (get .result) (start .pre .1 .1 .0 .1)
-          (rw (get .ensures, c .before .before .entry-at .ensures) (start .pre .1 .1 .1)) .row-small,
-      start .pre .0 .vars-to,
-    )
+add-get-6 c = omega (arith, row-here (c .before) .row-small, c .before .before .before .before .pre .0 .vars-to)
 
 -- src/stored.rt:65:23
 add-get-7 : tie.Need-add-get-7
-add-get-7 c =
-    let start = c .before .before .before .before in
-    let entry-at = c .before .before .entry-at in
-    let get = c .before .get in
-    let at = spots (start .args .s) (start .pre .0) (start .pre .1 .1 .0 .0) (start .args .e) (get .result) (start .pre .1 .1 .0 .1)
-    (rw (get .ensures, entry-at .ensures) (start .pre .1 .1 .1)) in
-    omega (arith, at .row, at .small, c .labels-at .ensures)
+add-get-7 c = omega (arith, row-here (c .before), c .labels-at .ensures, c .before .before .before .before .pre .1 .0)
 
 -- src/stored.rt:65:5
 get-requires-2 : tie.Need-get-requires-2
-get-requires-2 c κs =
-    let start = c .before .before .before .before in
-    let entry-at = c .before .before .entry-at in
-    let get = c .before .get in
-    let at = spots (start .args .s) (start .pre .0) (start .pre .1 .1 .0 .0) (start .args .e) (get .result) (start .pre .1 .1 .0 .1)
-    (rw (get .ensures, entry-at .ensures) (start .pre .1 .1 .1)) in
-    omega (arith, at .row, at .small, c .labels-at .ensures, start .pre .1 .0)
+get-requires-2 c κs = omega (arith, row-here (c .before), c .labels-at .ensures, c .before .before .before .before .pre .1 .0)
 
 -- src/stored.rt:65:5
 cast-result : tie.Need-cast-result

@@ -1,9 +1,9 @@
 use mathlib.Core.List.{List}
 use native.Mathlib.Omega.{arith}
 use Rattle.monomial.specs.Monomial.{first}
-use mathlib.Core.Path.{sym, ap, _∙_}
-use Prim.Native.Nat.{ℕ, _*_}
-use lib.ListN.{take}
+use mathlib.Core.Path.{_≡_, sym, ap, _∙_}
+use Prim.Native.Nat.{ℕ, _*_, _≤_}
+use lib.ListN.{length, take}
 use lib.Seq.{length-take-le}
 use Rattle.words.specs.Words.{words, pasteW}
 use Rattle.words.specs.Tables.{part}
@@ -18,6 +18,37 @@ use Rattle.index_image.proofs.stored.make_gcd.Reads as reads
 use Rattle.index_image.proofs.stored.make_gcd.Lts as lts
 use Rattle.monomial.proofs.gcd.Reads as gcd-reads
 use Rattle.words.proofs.runs.paste.Reads as paste-reads
+
+-- helpers
+-- the monomial in front of the buffer, and the other one
+abbrev held : tie.Start → List ℕ
+held a = part (words (a .args .acc .now)) 0 (a .args .n)
+
+abbrev other : tie.Start → List ℕ
+other a = first 1 (words (a .args .other .now))
+
+fits : (a : tie.Start) → length (result Gcd (held a) (other a)) ≤ 65
+fits a = gcd-fits (held a) (other a) (a .pre .1 .1 .0) (a .pre .1 .1 .1 .1)
+
+-- what the call made of them
+made-length : (c : tie.After-gcd) → c .gcd .result ≡ length (result Gcd (held (c .before .before .before .before .before)) (other (c .before .before .before .before .before)))
+made-length c =
+    let start = c .before .before .before .before .before in
+    rw (front-words (start .args .acc .now) (start .args .n), first-whole (start .pre .1 .1 .0)) at (c .gcd .ensures .0)
+
+made : (c : tie.After-gcd) → words (take (4 * c .gcd .result) (c .gcd .last .1 .1 .0)) ≡ result Gcd (held (c .before .before .before .before .before)) (other (c .before .before .before .before .before))
+made c =
+    let start = c .before .before .before .before .before in
+    let written = rw (front-words (start .args .acc .now) (start .args .n), first-whole (start .pre .1 .1 .0)) at (c .gcd .ensures .1) in
+    ap (λ (l : List ℕ). words (take (4 * c .gcd .result) l)) written
+    ∙ front-pasted _ (result Gcd (held start) (other start)) (c .gcd .result)
+    (gcd-small (held start) (other start) (start .pre .1 .1 .0) (start .pre .1 .1 .1 .1)) (made-length c)
+
+-- it has room
+room : (c : tie.After-gcd) → 4 * c .gcd .result ≤ length (c .gcd .last .1 .1 .0)
+room c = omega (arith, fits (c .before .before .before .before .before), made-length c, c .gcd .kept .1 .1 .0)
+
+-- end of helpers
 
 -- src/stored.rt:118:13
 mul-e : tie.Need-mul-e
@@ -42,79 +73,30 @@ gcd-requires : tie.Need-gcd-requires
 gcd-requires c κs =
     let start = c .before .before .before .before in
     let ca = start .pre .1 .1 .0 in
-    let sb = start .pre .1 .1 .1 .0 in
-    let cb = start .pre .1 .1 .1 .1 in
-    rw (front-words (start .args .acc .now) (start .args .n)) (
-      starts-wide (starts-whole ca),
-      (
-        sb,
-        rw (first-whole ca)
-            (omega (
-              arith,
-              gcd-fits (part (words (start .args .acc .now)) 0 (start .args .n)) (first 1 (words (start .args .other .now))) ca cb,
-            )),
-      ),
-    )
+    rw (front-words (start .args .acc .now) (start .args .n))
+    (starts-wide (starts-whole ca), (start .pre .1 .1 .1 .0, rw (first-whole ca) (omega (arith, fits start))))
 
 -- src/stored.rt:120:13
 mul-f : tie.Need-mul-f
-mul-f c =
-    let start = c .before .before .before .before .before .before in
-    omega (
-      arith,
-      gcd-fits (part (words (start .args .acc .now)) 0 (start .args .n)) (first 1 (words (start .args .other .now))) (start .pre .1 .1 .0)
-          (start .pre .1 .1 .1 .1),
-      rw (front-words (start .args .acc .now) (start .args .n), first-whole (start .pre .1 .1 .0)) at (c .before .gcd .ensures .0),
-    )
+mul-f c = omega (arith, fits (c .before .before .before .before .before .before), made-length (c .before))
 
 -- src/stored.rt:121:32
 array-share-prefix-made : tie.Need-array-share-prefix-made
-array-share-prefix-made c =
-    let start = c .before .before .before .before .before .before .before in
-    let gcd = c .before .before .gcd in
-    omega (
-      arith,
-      gcd-fits (part (words (start .args .acc .now)) 0 (start .args .n)) (first 1 (words (start .args .other .now))) (start .pre .1 .1 .0)
-          (start .pre .1 .1 .1 .1),
-      rw (front-words (start .args .acc .now) (start .args .n), first-whole (start .pre .1 .1 .0)) at (gcd .ensures .0),
-      gcd .kept .1 .1 .0,
-    )
+array-share-prefix-made c = omega (arith, room (c .before .before))
 
 -- src/stored.rt:121:32
 slice-aggregate-paste : tie.Need-slice-aggregate-paste
 slice-aggregate-paste c =
-    let start = c .before .before .before .before .before .before .before .before in
     let gcd = c .before .before .before .gcd in
-    sym
-    (length-take-le (4 * gcd .result) (gcd .last .1 .1 .0)
-    (omega (
-      arith,
-      gcd-fits (part (words (start .args .acc .now)) 0 (start .args .n)) (first 1 (words (start .args .other .now)))
-          (start .pre .1 .1 .0) (start .pre .1 .1 .1 .1),
-      rw (front-words (start .args .acc .now) (start .args .n), first-whole (start .pre .1 .1 .0)) at (gcd .ensures .0),
-      gcd .kept .1 .1 .0,
-    )))
+    sym (length-take-le (4 * gcd .result) (gcd .last .1 .1 .0) (room (c .before .before .before)))
 
 -- src/stored.rt:121:5
 paste-requires : tie.Need-paste-requires
 paste-requires c κs =
     let start = c .before .before .before .before .before .before .before .before in
     let gcd = c .before .before .before .gcd in
-    let k = gcd-fits (part (words (start .args .acc .now)) 0 (start .args .n)) (first 1 (words (start .args .other .now))) (start .pre .1 .1 .0)
-    (start .pre .1 .1 .1 .1) in
-    omega (
-      arith,
-      length-take-le (4 * gcd .result) (gcd .last .1 .1 .0)
-          (omega (
-            arith,
-            k,
-            rw (front-words (start .args .acc .now) (start .args .n), first-whole (start .pre .1 .1 .0)) at (gcd .ensures .0),
-            gcd .kept .1 .1 .0,
-          )),
-      k,
-      rw (front-words (start .args .acc .now) (start .args .n), first-whole (start .pre .1 .1 .0)) at (gcd .ensures .0),
-      start .pre .0,
-    )
+    let cut = length-take-le (4 * gcd .result) (gcd .last .1 .1 .0) (room (c .before .before .before)) in
+    omega (arith, cut, fits start, made-length (c .before .before .before), start .pre .0)
 
 -- src/stored.rt:109:1
 same-length : tie.Need-same-length
@@ -124,19 +106,8 @@ same-length c = search needs
 returns : tie.Need-returns
 returns c =
     let start = c .before .before .before .before .before .before .before .before .before .before .before in
-    let gcd = c .before .before .before .before .before .before .gcd in
-    let k = front-words (start .args .acc .now) (start .args .n) in
-    let k2 = first-whole (start .pre .1 .1 .0) in (
-      rw (k, k2) at (gcd .ensures .0),
-      c .before .before .paste .ensures
-          ∙ ap (pasteW (start .args .acc .now) 0)
-          (ap (λ (l : List ℕ). words (take (4 * gcd .result) l)) (rw (k, k2) at (gcd .ensures .1))
-          ∙ front-pasted _ (result Gcd (part (words (start .args .acc .now)) 0 (start .args .n)) (first 1 (words (start .args .other .now))))
-          (gcd .result)
-          (gcd-small (part (words (start .args .acc .now)) 0 (start .args .n)) (first 1 (words (start .args .other .now)))
-          (start .pre .1 .1 .0) (start .pre .1 .1 .1 .1))
-          (rw (k, k2) at (gcd .ensures .0))),
-    )
+    let gcd = c .before .before .before .before .before .before in
+    (made-length gcd, c .before .before .paste .ensures ∙ ap (pasteW (start .args .acc .now) 0) (made gcd))
 
 pub make-gcd-spec : {M : Type 1} → statement M
 make-gcd-spec =
