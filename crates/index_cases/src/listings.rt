@@ -68,6 +68,7 @@ fn refused() {
     listing(b"listing of nothing", &image, 0);
     held(&mut image, 1, b"");
     listing(b"listing of a ratio index", &image, 2048);
+    listing(b"listing of a ratio index, no room", &image, 0);
 }
 
 // Writes an insert of a power of x0.

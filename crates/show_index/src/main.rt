@@ -27,7 +27,8 @@ fn element(index: u8, sign: Powers, lm: Powers) -> Element {
 
 const ONE: Powers = Powers(0, 0, 0, 0);
 
-// A linkage of two cranks and a rod. Of x3^2 + x2^2 - 1, x1^2 + x0^2 - 1 and x3 x1 + x2 x0 - c the signature basis begins with these.
+// Two cranks on one axle, a rod between their ends at (x3, x2) and (x1, x0): x3^2 + x2^2 - 1, x1^2 + x0^2 - 1 and x3 x1 + x2 x0 - c. These
+// are the first six elements of its signature basis; the index has no room for the last.
 fn inserts(list: &mut [u8; 16384]) -> usize
     ensures { λ r. ⌜ r ≤ 4096 ⌝ }
 {
@@ -50,10 +51,11 @@ fn inserts(list: &mut [u8; 16384]) -> usize
         list,
         at,
         INSERT,
-        element(2, Powers(1, 1, 0, 0), Powers(0, 3, 0, 0)),
+        element(2, Powers(0, 1, 1, 0), Powers(1, 1, 0, 0)),
     )
 }
 
+// Searches as the solver makes them for an element: reducers of its leading monomial, base divisors, and whether it is singular.
 fn searches(list: &mut [u8; 16384], start: usize) -> usize
     requires { ⌜ start ≤ 4096 ⌝ }
     ensures { λ r. ⌜ r ≤ 4096 ⌝ }

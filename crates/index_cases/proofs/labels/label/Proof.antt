@@ -44,7 +44,10 @@ add-word-4 c = omega (arith, few (c .before .before .args .s) (c .before .before
 
 -- src/labels.rt:70:9
 add-word-5 : tie.Need-add-word-5
-add-word-5 c = omega (arith, c .labels-at .ensures, size-small (c .before .before .args .s) (c .before .before .pre .0), few (c .before .before .args .s) (c .before .before .pre .0) (c .before .before .args .r) (c .before .before .pre .1), c .before .before .pre .0 .vars-to)
+add-word-5 c =
+    let s = c .before .before in
+    let range = s .pre .0 in
+    omega (arith, c .labels-at .ensures, size-small (s .args .s) range, few (s .args .s) range (s .args .r) (s .pre .1), range .vars-to)
 
 -- src/labels.rt:68:12
 word-requires : tie.Need-word-requires

@@ -1,5 +1,3 @@
-use Rattle.words.specs.Words.{words}
-use lib.ListN.{length}
 use Rattle.index_sound.proofs.Steps.{head-is}
 use borrow.Author.Needs.{needs}
 use Rattle.index_cases.proofs.labels.labels.Statement.{statement}
@@ -20,7 +18,7 @@ enum-known-s c = search needs
 
 -- src/labels.rt:90:27
 three-labels-requires : tie.Need-three-labels-requires
-three-labels-requires c κs = let h = head-is (words (c .before .before .before .before .before .before .args .image .now)) (length (c .before .before .before .before .before .before .args .image .now)) _ (c .before .before .s .given .0 .0) (c .before .before .s .given .1) (c .before .before .before .before .read .ensures) in (h .range, c .before .before .before .before .before .before .pre)
+three-labels-requires c κs = (head-is _ _ _ _ (c .before .before .s .given .1) (c .before .before .before .before .read .ensures) .range, c .before .before .before .before .before .before .pre)
 
 -- src/labels.rt:91:22
 enum-told : tie.Need-enum-told
