@@ -55,8 +55,8 @@ fn inserts(list: &mut [u8; 16384]) -> usize
     )
 }
 
-// Searches as the solver makes them for an element: reducers of its leading monomial, base divisors, and whether it is singular.
-fn searches(list: &mut [u8; 16384], start: usize) -> usize
+// Searches as the solver makes them for an element: reducers of its leading monomial,
+fn reducers(list: &mut [u8; 16384], start: usize) -> usize
     requires { ⌜ start ≤ 4096 ⌝ }
     ensures { λ r. ⌜ r ≤ 4096 ⌝ }
 {
@@ -72,15 +72,22 @@ fn searches(list: &mut [u8; 16384], start: usize) -> usize
         REDUCER,
         element(2, Powers(1, 1, 0, 0), Powers(0, 3, 1, 0)),
     );
-    at = put_call(
+    put_call(
         list,
         at,
         REDUCER,
         element(2, Powers(1, 1, 0, 0), Powers(0, 3, 0, 0)),
-    );
-    at = put_call(
+    )
+}
+
+// base divisors, and whether it is singular.
+fn criteria(list: &mut [u8; 16384], start: usize) -> usize
+    requires { ⌜ start ≤ 4096 ⌝ }
+    ensures { λ r. ⌜ r ≤ 4096 ⌝ }
+{
+    let mut at = put_call(
         list,
-        at,
+        start,
         HIGH,
         element(1, Powers(1, 0, 0, 0), Powers(1, 2, 1, 0)),
     );
@@ -167,8 +174,9 @@ fn linkage() {
     let mut image = [0u8; 65536];
     let mut list = [0u8; 16384];
     open(5, &mut image);
-    let start = inserts(&mut list);
-    let n = searches(&mut list, start);
+    let inserted = inserts(&mut list);
+    let reduced = reducers(&mut list, inserted);
+    let n = criteria(&mut list, reduced);
     show_run(&mut image, &list, n);
     show_labels(&image);
     show_tree(&image);
