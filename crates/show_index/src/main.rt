@@ -27,7 +27,8 @@ fn element(index: u8, sign: Powers, lm: Powers) -> Element {
 
 const ONE: Powers = Powers(0, 0, 0, 0);
 
-// A linkage of two cranks and a rod. Of x3^2 + x2^2 - 1, x1^2 + x0^2 - 1 and x3 x1 + x2 x0 - c the signature basis begins with these.
+// Two cranks on one axle, a rod between their ends at (x3, x2) and (x1, x0): x3^2 + x2^2 - 1, x1^2 + x0^2 - 1 and x3 x1 + x2 x0 - c. These
+// are the first six elements of its signature basis; the index has no room for the last.
 fn inserts(list: &mut [u8; 16384]) -> usize
     ensures { λ r. ⌜ r ≤ 4096 ⌝ }
 {
@@ -50,11 +51,12 @@ fn inserts(list: &mut [u8; 16384]) -> usize
         list,
         at,
         INSERT,
-        element(2, Powers(1, 1, 0, 0), Powers(0, 3, 0, 0)),
+        element(2, Powers(0, 1, 1, 0), Powers(1, 1, 0, 0)),
     )
 }
 
-fn searches(list: &mut [u8; 16384], start: usize) -> usize
+// Searches as the solver makes them for an element: reducers of its leading monomial,
+fn reducers(list: &mut [u8; 16384], start: usize) -> usize
     requires { ⌜ start ≤ 4096 ⌝ }
     ensures { λ r. ⌜ r ≤ 4096 ⌝ }
 {
@@ -70,15 +72,22 @@ fn searches(list: &mut [u8; 16384], start: usize) -> usize
         REDUCER,
         element(2, Powers(1, 1, 0, 0), Powers(0, 3, 1, 0)),
     );
-    at = put_call(
+    put_call(
         list,
         at,
         REDUCER,
         element(2, Powers(1, 1, 0, 0), Powers(0, 3, 0, 0)),
-    );
-    at = put_call(
+    )
+}
+
+// base divisors, and whether it is singular.
+fn criteria(list: &mut [u8; 16384], start: usize) -> usize
+    requires { ⌜ start ≤ 4096 ⌝ }
+    ensures { λ r. ⌜ r ≤ 4096 ⌝ }
+{
+    let mut at = put_call(
         list,
-        at,
+        start,
         HIGH,
         element(1, Powers(1, 0, 0, 0), Powers(1, 2, 1, 0)),
     );
@@ -165,8 +174,9 @@ fn linkage() {
     let mut image = [0u8; 65536];
     let mut list = [0u8; 16384];
     open(5, &mut image);
-    let start = inserts(&mut list);
-    let n = searches(&mut list, start);
+    let inserted = inserts(&mut list);
+    let reduced = reducers(&mut list, inserted);
+    let n = criteria(&mut list, reduced);
     show_run(&mut image, &list, n);
     show_labels(&image);
     show_tree(&image);

@@ -1,5 +1,3 @@
-use Rattle.words.specs.Words.{words}
-use lib.ListN.{length}
 use Rattle.index_sound.proofs.Steps.{head-is}
 use borrow.Author.Needs.{needs}
 use Rattle.show_index.proofs.show_tree.Statement.{statement}
@@ -28,7 +26,7 @@ enum-known-s c = search needs
 
 -- src/main.rt:151:27
 tree-requires : tie.Need-tree-requires
-tree-requires c κs = head-is (words (c .before .before .before .before .before .before .before .before .args .image .now)) (length (c .before .before .before .before .before .before .before .before .args .image .now)) _ (c .before .before .s .given .0 .0) (c .before .before .s .given .1) (c .before .before .before .before .read .ensures) .range
+tree-requires c κs = head-is _ _ _ _ (c .before .before .s .given .1) (c .before .before .before .before .read .ensures) .range
 
 -- src/main.rt:152:27
 enum-told : tie.Need-enum-told

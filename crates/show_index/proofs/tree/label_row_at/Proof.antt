@@ -25,11 +25,15 @@ add-result-2 c = omega (arith, row-near (c .before .before .args .s) (c .before 
 
 -- src/tree.rt:24:5
 add-result-3 : tie.Need-add-result-3
-add-result-3 c = omega (arith, c .before .labels-at .ensures, labels-near (c .before .before .args .s) (c .before .before .pre), row-near (c .before .before .args .s) (c .before .before .pre) (c .before .before .args .r) (omega arith))
+add-result-3 c =
+    let s = c .before .before in
+    omega (arith, c .before .labels-at .ensures, labels-near (s .args .s) (s .pre), row-near (s .args .s) (s .pre) (s .args .r) (omega arith))
 
 -- src/tree.rt:20:1
 returns : tie.Need-returns
-returns c = omega (arith, c .before .labels-at .ensures, labels-near (c .before .before .args .s) (c .before .before .pre), row-near (c .before .before .args .s) (c .before .before .pre) (c .before .before .args .r) (omega arith))
+returns c =
+    let s = c .before .before in
+    omega (arith, c .before .labels-at .ensures, labels-near (s .args .s) (s .pre), row-near (s .args .s) (s .pre) (s .args .r) (omega arith))
 
 pub label-row-at-spec : {M : Type 1} → statement M
 label-row-at-spec =

@@ -26,7 +26,9 @@ add-word c = search needs
 
 -- src/tree.rt:34:17
 add-word-2 : tie.Need-add-word-2
-add-word-2 c = omega (arith, c .before .entry-at .ensures, entry-near (c .before .before .before .before .before .args .s) (c .before .before .before .before .before .pre) (c .before .before .before .before .before .args .e) (omega arith), c .before .before .before .before .before .pre .vars-to)
+add-word-2 c =
+    let s = c .before .before .before .before .before in
+    omega (arith, c .before .entry-at .ensures, entry-near (s .args .s) (s .pre) (s .args .e) (omega arith), s .pre .vars-to)
 
 -- src/tree.rt:34:5
 word-requires : tie.Need-word-requires

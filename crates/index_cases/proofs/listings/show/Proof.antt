@@ -1,0 +1,66 @@
+use Prim.Native.Nat.{_≤_, _-_}
+use borrow.Author.Needs.{needs}
+use Rattle.index_cases.proofs.listings.show.Statement.{statement}
+use Rattle.index_cases.proofs.listings.show.Tie as tie
+use Rattle.index_cases.proofs.listings.show.Reads as reads
+use Rattle.index_cases.proofs.listings.show.Lts as lts
+use Rattle.index_cases.proofs.listings.word.Reads as word-reads
+use Rattle.words.proofs.get.Reads as get-reads
+
+abbrev Inv-loop : tie.InvT-loop
+Inv-loop out at n i₀ i = i ≤ n
+
+abbrev μ-loop : tie.MeasureT-loop
+μ-loop out at n i₀ i = n - i
+
+-- src/listings.rt:17:5
+loop-holds : tie.Need-loop-holds Inv-loop μ-loop
+loop-holds c = search needs
+
+-- src/listings.rt:18:30
+add-get : tie.Need-add-get Inv-loop μ-loop
+add-get c = search needs
+
+-- src/listings.rt:18:14
+get-requires : tie.Need-get-requires Inv-loop μ-loop
+get-requires c κs = search needs
+
+-- src/listings.rt:18:14
+cast-word : tie.Need-cast-word Inv-loop μ-loop
+cast-word c = search needs
+
+-- src/listings.rt:18:9
+word-requires : tie.Need-word-requires Inv-loop μ-loop
+word-requires c κs = search needs
+
+-- src/listings.rt:19:9
+add-i : tie.Need-add-i Inv-loop μ-loop
+add-i c = search needs
+
+-- src/listings.rt:17:5
+loop-less : tie.Need-loop-less Inv-loop μ-loop
+loop-less c = search needs
+
+-- src/listings.rt:17:5
+loop-again : tie.Need-loop-again Inv-loop μ-loop
+loop-again c = search needs
+
+-- src/listings.rt:13:1
+returns : tie.Need-returns Inv-loop μ-loop
+returns c = search needs
+
+pub show-spec : {M : Type 1} → statement M
+show-spec =
+    tie.close
+    (tie.spec
+    Inv-loop
+    μ-loop
+    loop-holds
+    add-get
+    get-requires
+    cast-word
+    word-requires
+    add-i
+    loop-less
+    loop-again
+    returns)
