@@ -8,8 +8,11 @@
 //!
 //! [`doors`] has the index too: opening, call lists and the listing.
 
+#![deny(missing_docs, unsafe_code)]
+
 mod answer;
 pub mod divmask;
+#[allow(unsafe_code)]
 pub mod doors;
 pub mod fast_compare;
 pub mod image;
@@ -17,4 +20,11 @@ pub mod monomial;
 pub mod ratio;
 mod refusal;
 
-pub use refusal::Refusal;
+pub use refusal::{Refusal, UnknownNumber};
+
+/// The stack in bytes that any call of this crate may need, 1 MiB.
+///
+/// It is the tree in the image that decides: one as deep as its 4,096 entries
+/// takes 976 KiB, a balanced one 16 KiB. Rust's threads have 2 MiB, if nothing
+/// else is asked for.
+pub const STACK: usize = 1 << 20;
