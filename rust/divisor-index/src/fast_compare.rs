@@ -7,11 +7,7 @@ use crate::{
 
 /// The length in bytes of a map's image.
 pub fn length(variables: u32, capacity: u32) -> Result<usize, Refusal> {
-    let length = doors::divisor_index_fast_compare_length(variables, capacity);
-    if length <= 16 {
-        Refusal::check(length)?;
-    }
-    Ok(length as usize)
+    Refusal::or_length(doors::divisor_index_fast_compare_length(variables, capacity))
 }
 
 /// Maps values, which are a signature index and a ratio, to numbers in the same

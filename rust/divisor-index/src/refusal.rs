@@ -64,6 +64,14 @@ impl Refusal {
         Ok(number as u32)
     }
 
+    /// The same for a door that returns a length, which is above 16.
+    pub(crate) fn or_length(number: u32) -> Result<usize, Refusal> {
+        if number <= 16 {
+            Self::check(number)?;
+        }
+        Ok(number as usize)
+    }
+
     /// Its number in document 01.
     pub fn number(self) -> u32 {
         self as u32
