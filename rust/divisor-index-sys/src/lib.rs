@@ -13,6 +13,7 @@
 //! demand.
 
 #![no_std]
+#![deny(missing_docs)]
 
 #[cfg(not(all(target_arch = "x86_64", target_os = "linux")))]
 compile_error!("the archives of `rt staticlib` are for Linux on x86-64");

@@ -44,6 +44,11 @@
 //! order, each on what the earlier ones left. docs/DECISIONS.md has the
 //! measurements.
 //!
+//! # Code written for the original
+//!
+//! [`compat`] has both indexes with the original's signatures, over the solver's
+//! own elements.
+//!
 //! # The parts on words
 //!
 //! The functions of [`monomial`], [`ratio`], [`divmask`], [`fast_compare`] and
@@ -53,6 +58,7 @@
 #![deny(missing_docs, unsafe_code)]
 
 mod answer;
+pub mod compat;
 pub mod divmask;
 #[allow(unsafe_code)]
 pub mod doors;

@@ -115,6 +115,7 @@ fn singular_criterion() {
 fn entries_of_a_ratio_index() {
     let index = five();
     assert_eq!(index.len(), 5);
+    assert!(format!("{index:?}").ends_with("len: 5, .. }"));
     let last = index.entries().last().unwrap();
     assert_eq!(last.index.get(), 2);
     assert_eq!(last.signature.to_vec(), [(3, 1)]);

@@ -53,11 +53,22 @@ impl<'a> Layout<'a> {
         }
     }
 
+    /// The numbers of the entries in the order of the leaves.
+    pub fn leaf_order(self) -> impl Iterator<Item = usize> + 'a {
+        let first = self.entry(self.capacity());
+        (0..self.entries()).map(move |place| self.word(first + place) as usize)
+    }
+
     fn variables(self) -> usize {
         self.word(2) as usize
     }
 
-    /// The place of an entry's first word.
+    fn capacity(self) -> usize {
+        self.word(3) as usize
+    }
+
+    /// The place of an entry's first word. Behind the last, at the capacity, the
+    /// permutation begins.
     fn entry(self, number: usize) -> usize {
         let variables = self.variables();
         let width = match self.kind() {

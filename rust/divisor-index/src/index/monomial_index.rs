@@ -1,3 +1,5 @@
+use std::fmt;
+
 use super::{
     batch::{Answers, MonomialBatch},
     config::Kind,
@@ -11,8 +13,8 @@ use crate::{doors, Refusal};
 /// or lent. The solver keeps the signatures of its syzygies in one.
 ///
 /// Each call judges the whole image first, so many calls are best made as a
-/// [batch](MonomialBatch): see [Cost](crate#cost). Each call needs up to
-/// [`STACK`](crate::STACK) bytes of stack.
+/// [batch](MonomialBatch): see [Cost](crate#cost). Each, and each of `from_image`,
+/// `to_vec` and `reopened`, needs up to [`STACK`](crate::STACK) bytes of stack.
 ///
 /// ```
 /// use divisor_index::{Config, MonomialIndex, Refusal};
@@ -27,7 +29,7 @@ use crate::{doors, Refusal};
 /// assert_eq!(index.to_vec()?, [[(0, 2)]]);
 /// # Ok::<(), Refusal>(())
 /// ```
-#[derive(Debug, Clone)]
+#[derive(Clone)]
 pub struct MonomialIndex<B = Vec<u8>>(Store<B>);
 
 impl MonomialIndex {
@@ -130,6 +132,11 @@ impl<B: AsRef<[u8]> + AsMut<[u8]>> MonomialIndex<B> {
         (0..layout.entries()).map(move |number| layout.lm(number))
     }
 
+    /// The numbers of the monomials in the order of the tree.
+    pub(crate) fn leaf_order(&self) -> impl Iterator<Item = usize> + '_ {
+        self.0.layout().leaf_order()
+    }
+
     /// A new index of another capacity, or with masks by other maxima, which holds
     /// the same monomials under the same numbers. They are read from the image.
     /// Its tree is built anew, so it may list them in another order.
@@ -146,6 +153,12 @@ impl<B: AsRef<[u8]> + AsMut<[u8]>> MonomialIndex<B> {
             answers.get(ticket)?;
         }
         Ok(reopened)
+    }
+}
+
+impl<B: AsRef<[u8]> + AsMut<[u8]>> fmt::Debug for MonomialIndex<B> {
+    fn fmt(&self, f: &mut fmt::Formatter<'_>) -> fmt::Result {
+        self.0.show("MonomialIndex", f)
     }
 }
 

@@ -1,3 +1,5 @@
+use std::fmt;
+
 use super::{
     batch::{Answers, RatioBatch},
     config::Kind,
@@ -12,8 +14,8 @@ use crate::Refusal;
 ///
 /// Ratios compare by index, then by monomial in the graded reverse lexicographic
 /// order. Each call judges the whole image first, so many calls are best made as
-/// a [batch](RatioBatch): see [Cost](crate#cost). Each call needs up to
-/// [`STACK`](crate::STACK) bytes of stack.
+/// a [batch](RatioBatch): see [Cost](crate#cost). Each, and each of `from_image`
+/// and `reopened`, needs up to [`STACK`](crate::STACK) bytes of stack.
 ///
 /// ```
 /// use divisor_index::{Config, Ratio, RatioMonomialIndex, ReducerKind, Refusal, Signature};
@@ -39,7 +41,7 @@ use crate::Refusal;
 /// assert!(index.test_singular_criterion(Signature::new(1, &[(1, 2)]), &[(1, 5)])?);
 /// # Ok::<(), Refusal>(())
 /// ```
-#[derive(Debug, Clone)]
+#[derive(Clone)]
 pub struct RatioMonomialIndex<B = Vec<u8>>(Store<B>);
 
 impl RatioMonomialIndex {
@@ -223,5 +225,11 @@ impl<B: AsRef<[u8]> + AsMut<[u8]>> RatioMonomialIndex<B> {
             answers.get(ticket)?;
         }
         Ok(reopened)
+    }
+}
+
+impl<B: AsRef<[u8]> + AsMut<[u8]>> fmt::Debug for RatioMonomialIndex<B> {
+    fn fmt(&self, f: &mut fmt::Formatter<'_>) -> fmt::Result {
+        self.0.show("RatioMonomialIndex", f)
     }
 }

@@ -44,7 +44,7 @@ impl<B> From<Refused<B>> for Refusal {
     }
 }
 
-#[derive(Debug, Clone)]
+#[derive(Clone)]
 pub struct Store<B> {
     buffer: B,
     /// How many of the buffer's bytes are the image.
@@ -85,6 +85,15 @@ impl<B: AsRef<[u8]> + AsMut<[u8]>> Store<B> {
 
     pub fn image(&self) -> &[u8] {
         &self.buffer.as_ref()[..self.length]
+    }
+
+    /// Shows an index of this name, without its bytes, which may be many.
+    pub fn show(&self, name: &str, f: &mut fmt::Formatter<'_>) -> fmt::Result {
+        let layout = self.layout();
+        f.debug_struct(name)
+            .field("config", &layout.config())
+            .field("len", &layout.entries())
+            .finish_non_exhaustive()
     }
 
     pub fn layout(&self) -> Layout<'_> {
