@@ -165,6 +165,43 @@ fn unsound_images_are_given_back() {
     assert_eq!(empty.refusal, Refusal::Unsound);
 }
 
+/// A buffer that loses a bit behind the back of its index, before its third use.
+struct Damaged {
+    bytes: Vec<u8>,
+    uses: usize,
+}
+
+impl AsRef<[u8]> for Damaged {
+    fn as_ref(&self) -> &[u8] {
+        &self.bytes
+    }
+}
+
+impl AsMut<[u8]> for Damaged {
+    fn as_mut(&mut self) -> &mut [u8] {
+        self.uses += 1;
+        if self.uses == 3 {
+            self.bytes[0] ^= 1;
+        }
+        &mut self.bytes
+    }
+}
+
+#[test]
+fn calls_on_a_damaged_image_are_refused() {
+    let config = config(1, 2);
+    let bytes = vec![0; MonomialIndex::length(&config)];
+    let mut index = MonomialIndex::open_in(&config, Damaged { bytes, uses: 0 }).unwrap();
+    index.insert(&[(0, 1)]).unwrap();
+    let mut damaged = index.image().to_vec();
+    damaged[0] ^= 1;
+    assert_eq!(index.insert(&[(0, 2)]), Err(Refusal::Unsound));
+    assert_eq!(index.contains_divisor(ONE), Err(Refusal::Unsound));
+    assert!(index.run(&MonomialBatch::new()).is_err());
+    assert_eq!(index.to_vec(), Err(Refusal::Unsound));
+    assert_eq!(index.image(), damaged);
+}
+
 #[test]
 fn images_of_the_other_kind_are_given_back() {
     let image = five().into_image();

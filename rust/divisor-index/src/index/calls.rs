@@ -136,3 +136,62 @@ fn variable(kind: u32, id: u16, power: i32) -> u32 {
         Err(_) => NO_WORD,
     }
 }
+
+#[cfg(test)]
+mod tests {
+    use super::*;
+
+    /// The words of a list.
+    fn words(write: impl FnOnce(&mut CallList)) -> Vec<u32> {
+        let mut calls = CallList::default();
+        write(&mut calls);
+        let words = calls.bytes().chunks_exact(4);
+        words
+            .map(|word| u32::from_le_bytes(word.try_into().unwrap()))
+            .collect()
+    }
+
+    /// Document 01's list: insert x0^2; contained x0^3; contained x1.
+    #[test]
+    fn monomial_calls() {
+        let list = words(|calls| {
+            calls.insert_monomial(&[(0, 2)]);
+            calls.contains_divisor(&[(0, 3)]);
+            calls.contains_divisor(&[(1, 1)]);
+        });
+        let insert = [0x6000_0000, 0x1000_0002, 1];
+        let contained = [0x6000_0001, 0x1000_0003, 1, 0x6000_0001, 0x1001_0001, 1];
+        assert_eq!(list, [&insert[..], &contained].concat());
+    }
+
+    /// Index 5, signature x1^2, lm x3^2 · x0, ratio x0^-1.
+    #[test]
+    fn ratio_calls() {
+        let (signature, ratio) = (Signature::new(5, &[(1, 2)]), Ratio::new(5, &[(0, -1)]));
+        let lm = &[(3, 2), (0, 1)];
+        let (index, lm_words) = ([0x3000_0005], [0x1003_0002, 0x1000_0001, 2]);
+        let signed = [&index[..], &[0x1001_0002, 1]].concat();
+        let below = [&index[..], &[0x2000_7FFF, 1]].concat();
+
+        let list = words(|calls| calls.insert(signature, lm));
+        assert_eq!(list, [&[0x6000_0002], &signed[..], &lm_words].concat());
+        let list = words(|calls| calls.find_a_reducer(ratio, lm));
+        assert_eq!(list, [&[0x6000_0003], &below[..], &lm_words].concat());
+        let list = words(|calls| calls.find_high_base_divisor(ratio, lm));
+        assert_eq!(list, [&[0x6000_0004], &below[..], &lm_words].concat());
+        let list = words(|calls| calls.find_low_base_divisor(signature));
+        assert_eq!(list, [&[0x6000_0005], &signed[..]].concat());
+        let list = words(|calls| calls.test_singular_criterion(signature, lm));
+        assert_eq!(list, [&[0x6000_0006], &signed[..], &lm_words].concat());
+    }
+
+    #[test]
+    fn what_no_word_holds() {
+        assert_eq!(variable(VARIABLE, 4095, 0xFFFF), 0x1FFF_FFFF);
+        assert_eq!(variable(VARIABLE, 4096, 1), NO_WORD);
+        assert_eq!(variable(VARIABLE, 0, 0x1_0000), NO_WORD);
+        assert_eq!(variable(VARIABLE, 0, -1), NO_WORD);
+        assert_eq!(word(INDEX, 0x0FFF_FFFF), 0x3FFF_FFFF);
+        assert_eq!(word(INDEX, 0x3000_0000), NO_WORD);
+    }
+}

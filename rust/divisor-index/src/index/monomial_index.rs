@@ -16,6 +16,10 @@ use crate::{doors, Refusal};
 /// [batch](MonomialBatch): see [Cost](crate#cost). Each, and each of `from_image`,
 /// `to_vec` and `reopened`, needs up to [`STACK`](crate::STACK) bytes of stack.
 ///
+/// A lent buffer is the index's own while it is lent. If its bytes change all the
+/// same, calls are refused with [`Refusal::Unsound`], and methods that only read
+/// the image may panic.
+///
 /// ```
 /// use divisor_index::{Config, MonomialIndex, Refusal};
 ///
@@ -120,8 +124,8 @@ impl<B: AsRef<[u8]> + AsMut<[u8]>> MonomialIndex<B> {
     /// The monomials in the order of the tree, as (id, power), ids falling: of
     /// each branch the less side before the other side.
     pub fn to_vec(&self) -> Result<Vec<Vec<(u16, i32)>>, Refusal> {
-        let most = 4 * (self.config().variables() as usize + 1);
-        let mut words = vec![0; self.len() * most];
+        // The image has the same monomials among others.
+        let mut words = vec![0; self.image().len()];
         Refusal::check(doors::divisor_index_list(self.image(), &mut words))?;
         Ok(split(&words, self.len()))
     }

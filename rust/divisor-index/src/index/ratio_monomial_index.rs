@@ -17,6 +17,10 @@ use crate::Refusal;
 /// a [batch](RatioBatch): see [Cost](crate#cost). Each, and each of `from_image`
 /// and `reopened`, needs up to [`STACK`](crate::STACK) bytes of stack.
 ///
+/// A lent buffer is the index's own while it is lent. If its bytes change all the
+/// same, calls are refused with [`Refusal::Unsound`], and methods that only read
+/// the image may panic.
+///
 /// ```
 /// use divisor_index::{Config, Ratio, RatioMonomialIndex, ReducerKind, Refusal, Signature};
 ///
