@@ -142,6 +142,15 @@ fn ratio_indexes_grow() {
     }
 }
 
+/// Doubled, a capacity of 2,049 would be one too large.
+#[test]
+fn any_number_grows_to_4096() {
+    let one = || monomial(&[]);
+    let mut index = compat::MonomialIndex::new(1, (), (0..2049).map(|_| one()).collect());
+    index.insert(one());
+    assert_eq!(index.len(), 2050);
+}
+
 #[test]
 #[should_panic(expected = "the index refuses: capacity reached")]
 fn the_4097th_is_refused() {

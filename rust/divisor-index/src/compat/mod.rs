@@ -76,7 +76,8 @@ impl Maxima {
         }
     }
 
-    /// With room for so many elements and some more.
+    /// With room for so many elements, and a power of two, so that doubling it comes
+    /// to 4,096.
     fn config(self, elements: usize) -> Config {
         let capacity = elements.next_power_of_two().max(64);
         let (variables, capacity) = (self.0.len() as u32, capacity.try_into().unwrap_or(u32::MAX));
