@@ -1,7 +1,8 @@
 //! Links the archives that `rt staticlib` writes, one a crate.
 //!
-//! They are looked for in the folder named by DIVISOR_INDEX_LIB, else in the
-//! repository's target/staticlib.
+//! They are looked for in the folder named by DIVISOR_INDEX_LIB, which starts at
+//! this package's folder if it is relative, else in the repository's
+//! target/staticlib.
 
 use std::{
     env,
@@ -28,7 +29,7 @@ fn link(folder: &Path, name: &str) {
     let archive = folder.join(format!("lib{name}.a"));
     assert!(
         archive.exists(),
-        "{} is not there: run `rt staticlib {name}` in the repository",
+        "{} is not there: run `rt staticlib {name}` in the repository, or name its folder by DIVISOR_INDEX_LIB",
         archive.display()
     );
     println!("cargo:rerun-if-changed={}", archive.display());

@@ -68,7 +68,7 @@ uint32_t divisor_index_check(const uint8_t *image, size_t image_len);
  * returns the image's length in bytes, which is above 16, or 1; the others 0 or a
  * refusal, which changes no byte. divisor_index_run writes one answer word a call,
  * divisor_index_list the monomials of a monomial index. On the deepest tree a list
- * needs at most 1 MiB of stack, the listing 1,096 KiB. */
+ * and the listing need 976 KiB of stack, as divisor_index_check does. */
 uint32_t divisor_index_length(uint32_t kind, uint32_t variables, uint32_t capacity, const uint8_t *maxima, size_t maxima_len);
 uint32_t divisor_index_open(uint32_t kind, uint32_t variables, uint32_t capacity, const uint8_t *maxima, size_t maxima_len, uint8_t *image, size_t image_len);
 uint32_t divisor_index_run(uint8_t *image, size_t image_len, const uint8_t *list, size_t list_len, uint8_t *answers, size_t answers_len);

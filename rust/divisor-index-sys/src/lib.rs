@@ -13,6 +13,7 @@
 //! demand.
 
 #![no_std]
+#![deny(missing_docs)]
 
 #[cfg(not(all(target_arch = "x86_64", target_os = "linux")))]
 compile_error!("the archives of `rt staticlib` are for Linux on x86-64");
@@ -109,8 +110,7 @@ extern "C" {
 // crates/fast_compare. Refusals: 1 variables and capacity, 2 buffer, 3 image, 7
 // words, 8 capacity reached, 10 no label.
 extern "C" {
-    /// The length in bytes of a label map's image. A refusal stands in the upper
-    /// 32 bits.
+    /// The length in bytes of a label map's image, which is above 16, or 1.
     pub fn divisor_index_fast_compare_length(variables: u32, capacity: u32) -> u32;
 
     /// Writes an empty label map.
@@ -143,7 +143,8 @@ extern "C" {
 }
 
 // crates/divisor_index. Refusals: 1 kind, variables, capacity and maxima, 2 buffer, 3 image, 4 list, 6 no
-// monomial index, 5 room. Inside a list a refusal (6, 7, 8) is a kind 5 word in its call's place.
+// monomial index, 5 room. Inside a list a refusal (6, 7, 8) is a kind 5 word in its call's place. On the
+// deepest tree the check, a list and the listing need 976 KiB of stack.
 extern "C" {
     /// The length in bytes of an index's image, which is above 16, or 1.
     pub fn divisor_index_length(

@@ -1,14 +1,14 @@
-//! Words lent to the doors, and answers taken from them.
+//! Answers of the doors of the monomial and mask work.
 
-use std::{cmp::Ordering, slice};
+use std::cmp::Ordering;
 
-use crate::Refusal;
+use crate::{doors::bytes_mut, Refusal};
 
 /// A bare word, or a kind 4 word.
 pub type Word = Answer<1>;
 
 /// A monomial or ratio, in room for 64 variables and an end word.
-pub type Product = Answer<65>;
+pub type Words = Answer<65>;
 
 /// What a door wrote.
 pub struct Answer<const ROOM: usize>([u32; ROOM]);
@@ -38,7 +38,7 @@ impl Word {
     }
 }
 
-impl Product {
+impl Words {
     /// The words up to the end word.
     pub fn words(&self) -> Vec<u32> {
         let variables = self.0.iter().take_while(|word| kind(**word) != 0).count();
@@ -51,22 +51,12 @@ impl Product {
     }
 }
 
-fn kind(word: u32) -> u32 {
+/// The top 4 bits of a word.
+pub fn kind(word: u32) -> u32 {
     word >> 28
 }
 
-fn payload(word: u32) -> u32 {
+/// The other 28 bits.
+pub fn payload(word: u32) -> u32 {
     word & 0x0FFF_FFFF
-}
-
-/// The bytes of words. The doors are for x86-64, where words stand low byte
-/// first in memory.
-pub fn bytes(words: &[u32]) -> &[u8] {
-    // SAFETY: the same memory, and a byte has no alignment and no bad values.
-    unsafe { slice::from_raw_parts(words.as_ptr().cast(), size_of_val(words)) }
-}
-
-pub fn bytes_mut(words: &mut [u32]) -> &mut [u8] {
-    // SAFETY: as in `bytes`, and all bytes make good words.
-    unsafe { slice::from_raw_parts_mut(words.as_mut_ptr().cast(), size_of_val(words)) }
 }

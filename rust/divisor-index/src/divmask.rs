@@ -1,8 +1,9 @@
 //! Divmasks, with the original's names.
 
 use crate::{
-    answer::{bytes, bytes_mut, Word},
-    doors, Refusal,
+    answer::Word,
+    doors::{self, bytes, bytes_mut},
+    Refusal,
 };
 
 /// Makes masks by the maxima that it was made from.
@@ -12,12 +13,14 @@ pub struct DivMap {
 }
 
 impl DivMap {
+    /// The map of the present maxima.
     pub fn new(tracker: &MaximumExponentsTracker) -> Self {
         DivMap {
             maxima: tracker.max_exponents.clone(),
         }
     }
 
+    /// The mask of a monomial.
     pub fn map(&self, monomial: &[u32]) -> Result<DivMask, Refusal> {
         let variables = self.maxima.len() as u32;
         let made = Word::of(|out| {
@@ -29,9 +32,13 @@ impl DivMap {
 
 /// Masks are comparable if they were made by the same map.
 #[derive(Debug, Clone, Copy, PartialEq, Eq)]
-pub struct DivMask(pub u32);
+pub struct DivMask(
+    /// Its bits, variable 0 lowest.
+    pub u32,
+);
 
 impl DivMask {
+    /// What the masks say of whether the one monomial divides the other.
     pub fn divides(&self, other: &DivMask) -> DivMaskTestResult {
         match doors::divisor_index_divmask_divides(self.0, other.0) {
             0 => DivMaskTestResult::NotDivisible,
@@ -40,9 +47,12 @@ impl DivMask {
     }
 }
 
+/// What two masks say.
 #[derive(Debug, Clone, Copy, PartialEq, Eq)]
 pub enum DivMaskTestResult {
+    /// The one does not divide the other.
     NotDivisible,
+    /// The monomials themselves have to be asked.
     Unsure,
 }
 
@@ -66,6 +76,7 @@ impl MaximumExponentsTracker {
         self.max_exponents.len()
     }
 
+    /// Whether there is no variable.
     pub fn is_empty(&self) -> bool {
         self.max_exponents.is_empty()
     }
@@ -83,6 +94,7 @@ impl MaximumExponentsTracker {
         Refusal::check(doors::divisor_index_divmask_update(variables, maxima, bytes(monomial)))
     }
 
+    /// Whether the growth is above a percentage of the present total.
     pub fn has_grown_beyond_percentage(&self, percentage: u8) -> Result<bool, Refusal> {
         let variables = self.len() as u32;
         let maxima = bytes(&self.max_exponents);

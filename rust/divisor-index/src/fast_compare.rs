@@ -1,14 +1,13 @@
 //! The label map, with the original's names.
 
-use crate::{answer::bytes, doors, Refusal};
+use crate::{
+    doors::{self, bytes},
+    Refusal,
+};
 
 /// The length in bytes of a map's image.
 pub fn length(variables: u32, capacity: u32) -> Result<usize, Refusal> {
-    let length = doors::divisor_index_fast_compare_length(variables, capacity);
-    if length <= 16 {
-        Refusal::check(length)?;
-    }
-    Ok(length as usize)
+    Refusal::or_length(doors::divisor_index_fast_compare_length(variables, capacity))
 }
 
 /// Maps values, which are a signature index and a ratio, to numbers in the same
@@ -38,10 +37,12 @@ impl<I: AsRef<[u8]> + AsMut<[u8]>> ComparerMap<I> {
         ComparerMap { image }
     }
 
+    /// The bytes of the map.
     pub fn image(&self) -> &[u8] {
         self.image.as_ref()
     }
 
+    /// The bytes that the map was opened in.
     pub fn into_image(self) -> I {
         self.image
     }

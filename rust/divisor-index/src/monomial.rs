@@ -3,32 +3,34 @@
 use std::cmp::Ordering;
 
 use crate::{
-    answer::{bytes, Product, Word},
-    doors, Refusal,
+    answer::{Words, Word},
+    doors::{self, bytes},
+    Refusal,
 };
 
+/// The greatest common divisor of a and b.
 pub fn gcd(variables: u32, a: &[u32], b: &[u32]) -> Result<Vec<u32>, Refusal> {
-    let made = Product::of(|out| doors::divisor_index_monomial_gcd(variables, bytes(a), bytes(b), out))?;
+    let made = Words::of(|out| doors::divisor_index_monomial_gcd(variables, bytes(a), bytes(b), out))?;
     Ok(made.words())
 }
 
 /// The product of a and b.
 pub fn mul(variables: u32, a: &[u32], b: &[u32]) -> Result<Vec<u32>, Refusal> {
-    let made = Product::of(|out| doors::divisor_index_monomial_mul(variables, bytes(a), bytes(b), out))?;
+    let made = Words::of(|out| doors::divisor_index_monomial_mul(variables, bytes(a), bytes(b), out))?;
     Ok(made.words())
 }
 
 /// a / b, or none where b does not divide a.
 pub fn whole_division(variables: u32, a: &[u32], b: &[u32]) -> Result<Option<Vec<u32>>, Refusal> {
     let made =
-        Product::of(|out| doors::divisor_index_monomial_whole_division(variables, bytes(a), bytes(b), out))?;
+        Words::of(|out| doors::divisor_index_monomial_whole_division(variables, bytes(a), bytes(b), out))?;
     Ok(made.quotient())
 }
 
 /// The ratio a / b.
 pub fn fraction_division(variables: u32, a: &[u32], b: &[u32]) -> Result<Vec<u32>, Refusal> {
     let made =
-        Product::of(|out| doors::divisor_index_monomial_fraction_division(variables, bytes(a), bytes(b), out))?;
+        Words::of(|out| doors::divisor_index_monomial_fraction_division(variables, bytes(a), bytes(b), out))?;
     Ok(made.words())
 }
 
@@ -38,6 +40,7 @@ pub fn divides(variables: u32, a: &[u32], b: &[u32]) -> Result<bool, Refusal> {
     Ok(made.yes())
 }
 
+/// Whether a and b are the same.
 pub fn eq(variables: u32, a: &[u32], b: &[u32]) -> Result<bool, Refusal> {
     let made = Word::of(|out| doors::divisor_index_monomial_eq(variables, bytes(a), bytes(b), out))?;
     Ok(made.yes())

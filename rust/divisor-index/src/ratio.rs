@@ -3,10 +3,12 @@
 use std::cmp::Ordering;
 
 use crate::{
-    answer::{bytes, Word},
-    doors, Refusal,
+    answer::Word,
+    doors::{self, bytes},
+    Refusal,
 };
 
+/// Whether a and b are the same.
 pub fn eq(variables: u32, a: &[u32], b: &[u32]) -> Result<bool, Refusal> {
     let made = Word::of(|out| doors::divisor_index_ratio_eq(variables, bytes(a), bytes(b), out))?;
     Ok(made.yes())

@@ -27,6 +27,7 @@ pub enum Refusal {
 }
 
 impl Refusal {
+    /// All of them, by number.
     pub const ALL: [Refusal; 10] = [
         Refusal::Parameters,
         Refusal::Buffer,
@@ -48,7 +49,7 @@ impl Refusal {
     pub fn check(number: u32) -> Result<(), Refusal> {
         match number {
             0 => Ok(()),
-            _ => Err(Self::ALL[number as usize - 1]),
+            _ => Err(Refusal::try_from(number).expect("a number that a door returns")),
         }
     }
 
@@ -63,6 +64,15 @@ impl Refusal {
         Ok(number as u32)
     }
 
+    /// The same for a door that returns a length, which is above 16.
+    pub(crate) fn or_length(number: u32) -> Result<usize, Refusal> {
+        if number <= 16 {
+            Self::check(number)?;
+        }
+        Ok(number as usize)
+    }
+
+    /// Its number in document 01.
     pub fn number(self) -> u32 {
         self as u32
     }
@@ -86,3 +96,27 @@ impl fmt::Display for Refusal {
 }
 
 impl error::Error for Refusal {}
+
+impl TryFrom<u32> for Refusal {
+    type Error = UnknownNumber;
+
+    fn try_from(number: u32) -> Result<Self, UnknownNumber> {
+        let known = Self::ALL.into_iter().find(|refusal| refusal.number() == number);
+        known.ok_or(UnknownNumber(number))
+    }
+}
+
+/// A number that is no refusal's.
+#[derive(Debug, Clone, Copy, PartialEq, Eq)]
+pub struct UnknownNumber(
+    /// The number.
+    pub u32,
+);
+
+impl fmt::Display for UnknownNumber {
+    fn fmt(&self, f: &mut fmt::Formatter<'_>) -> fmt::Result {
+        write!(f, "{} is no refusal", self.0)
+    }
+}
+
+impl error::Error for UnknownNumber {}

@@ -6,7 +6,7 @@ use std::cmp::Ordering;
 use divisor_index::{
     divmask::{DivMap, DivMaskTestResult, MaximumExponentsTracker},
     fast_compare::{self, ComparerMap},
-    image, monomial, ratio, Refusal,
+    image, monomial, ratio, Refusal, UnknownNumber,
 };
 
 /// x3^2 · x0.
@@ -65,6 +65,10 @@ fn refusals() {
     );
     for refusal in Refusal::ALL {
         assert_eq!(Refusal::check(refusal.number()), Err(refusal));
+        assert_eq!(Refusal::try_from(refusal.number()), Ok(refusal));
+    }
+    for number in [0, 11, u32::MAX] {
+        assert_eq!(Refusal::try_from(number), Err(UnknownNumber(number)));
     }
 }
 

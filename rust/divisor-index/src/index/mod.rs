@@ -1,0 +1,20 @@
+//! The two indexes, typed.
+
+mod batch;
+mod calls;
+mod config;
+mod layout;
+mod monomial_index;
+mod product;
+mod ratio_monomial_index;
+mod reply;
+mod store;
+
+pub use batch::{Answers, MonomialBatch, RatioBatch, Ticket};
+pub use config::Config;
+pub use layout::{StoredEntry, StoredMonomial};
+pub use monomial_index::MonomialIndex;
+pub use product::{Product, Ratio, Signature};
+pub use ratio_monomial_index::RatioMonomialIndex;
+pub use reply::{EntryNumber, Reducer, ReducerKind, SignatureIndex};
+pub use store::Refused;
