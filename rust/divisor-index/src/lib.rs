@@ -6,8 +6,9 @@
 //! by the trait [`Product`], and answer with numbers of entries: keep what
 //! belongs to an entry in a `Vec`, in the order of the inserts.
 //!
-//! Nothing is decided on this side: every question is asked by the proved code,
-//! and what it refuses is a [`Refusal`], which leaves everything as it was.
+//! Every question is asked by the proved code, and what it refuses is a
+//! [`Refusal`], which leaves everything as it was. Only the kind of an image that
+//! `from_image` takes over is compared on this side.
 //!
 //! ```
 //! use divisor_index::{Config, Ratio, RatioMonomialIndex, Refusal, Signature};
