@@ -1,4 +1,3 @@
 pub mod Running
 pub mod Openings
 pub mod Replying
-pub mod Theorems

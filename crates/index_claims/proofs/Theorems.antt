@@ -38,11 +38,11 @@ use Rattle.index_image.proofs.Lengths.{valid-fits}
 use Rattle.index_image.proofs.Pasted.{pasted}
 use Rattle.index_image.proofs.Unique.{state-unique}
 use Rattle.call_list.specs.Bodies.{IsList}
 use Rattle.divisor_index.specs.Ran.{indexKind, Ran}
 use Rattle.divisor_index.specs.Doors.{openingGood, RunIs}
-use Rattle.divisor_index.specs.Claims.{OpeningLeaves, OpeningServed, ranCalls, RunLeaves, SoundKept, Right, EveryAnswer, Queried, Demand3Bytes}
+use Rattle.index_claims.specs.Claims.{OpeningLeaves, OpeningServed, ranCalls, RunLeaves, SoundKept, Right, EveryAnswer, Queried, Demand3Bytes}
 use Rattle.divisor_index.proofs.Running.{after-is, list-calls}
 use Rattle.divisor_index.proofs.Replying as replying
 
 -- ---- an opening
 opening-size : (k m c : ℕ) (xs : List ℕ) → k ≤ 1 → at.size (shapeOf (opened (indexKind k) m c xs)) ≡ at.size (size.emptyShape k m c)
