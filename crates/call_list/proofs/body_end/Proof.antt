@@ -21,19 +21,15 @@ Inv-loop list at end i₀ i = (at ≤ i) × ((i ≤ end) × (at + length (bodyOf
 abbrev μ-loop : tie.MeasureT-loop
 μ-loop list at end i₀ i = end - i
 
--- src/lib.rt:67:5
 loop-holds : tie.Need-loop-holds Inv-loop μ-loop
 loop-holds c = (omega arith, (omega (arith, length-words (c .before .args .list .now), c .before .pre), refl))
 
--- src/lib.rt:68:24
 get-requires : tie.Need-get-requires Inv-loop μ-loop
 get-requires c κs = omega (arith, length-words (c .before .before .before .args .list .now), c .loop-test .taken)
 
--- src/lib.rt:68:12
 kind-requires : tie.Need-kind-requires Inv-loop μ-loop
 kind-requires c κs = search needs
 
--- src/lib.rt:69:13
 returns : tie.Need-returns Inv-loop μ-loop
 returns c =
     let b = c .before .before .before in
@@ -46,15 +42,12 @@ returns c =
           (omega (arith, length-words (a .args .list .now), b .loop-test .taken)) (c .before .before .get .ensures) (omega (arith, c .before .kind .ensures, c .if1 .taken)),
     )
 
--- src/lib.rt:71:9
 add-i : tie.Need-add-i Inv-loop μ-loop
 add-i c = omega (arith, c .before .before .before .loop-test .taken)
 
--- src/lib.rt:67:5
 loop-less : tie.Need-loop-less Inv-loop μ-loop
 loop-less c = omega (arith, c .before .before .before .loop-test .taken)
 
--- src/lib.rt:67:5
 loop-again : tie.Need-loop-again Inv-loop μ-loop
 loop-again c =
     let b = c .before .before .before in
@@ -72,7 +65,6 @@ loop-again c =
       ),
     )
 
--- src/lib.rt:61:1
 returns-2 : tie.Need-returns-2 Inv-loop μ-loop
 returns-2 c =
     let a = c .before .before .before in

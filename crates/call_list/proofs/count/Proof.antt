@@ -21,31 +21,24 @@ Inv-loop list end n₀ i₀ n i = (n ≤ i) × ((i ≤ end) × (length (calls (w
 abbrev μ-loop : tie.MeasureT-loop
 μ-loop list end n₀ i₀ n i = end - i
 
--- src/lib.rt:60:5
 loop-holds : tie.Need-loop-holds Inv-loop μ-loop
 loop-holds c = (omega arith, (omega arith, omega arith))
 
--- src/lib.rt:61:22
 get-requires : tie.Need-get-requires Inv-loop μ-loop
 get-requires c κs = omega (arith, length-words (c .before .before .before .args .list .now), c .loop-test .taken)
 
--- src/lib.rt:61:14
 is-call-requires : tie.Need-is-call-requires Inv-loop μ-loop
 is-call-requires c κs = search needs
 
--- src/lib.rt:61:9
 add-n : tie.Need-add-n Inv-loop μ-loop
 add-n c = omega (arith, c .before .before .before .loop .inv .0, c .before .before .loop-test .taken, c .is-call .ensures, one-call (c .before .get .result))
 
--- src/lib.rt:62:9
 add-i : tie.Need-add-i Inv-loop μ-loop
 add-i c = omega (arith, c .before .before .loop-test .taken)
 
--- src/lib.rt:60:5
 loop-less : tie.Need-loop-less Inv-loop μ-loop
 loop-less c = omega (arith, c .before .before .loop-test .taken)
 
--- src/lib.rt:60:5
 loop-again : tie.Need-loop-again Inv-loop μ-loop
 loop-again c =
     let l = c .before .before .before in
@@ -63,7 +56,6 @@ loop-again c =
       ),
     )
 
--- src/lib.rt:54:1
 returns : tie.Need-returns Inv-loop μ-loop
 returns c =
     let a = c .before .before .before in

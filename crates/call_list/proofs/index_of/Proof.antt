@@ -14,30 +14,24 @@ use Rattle.words.proofs.get.Reads as get-reads
 use Rattle.words.proofs.kind.Reads as kind-reads
 use Rattle.words.proofs.payload.Reads as payload-reads
 
--- src/lib.rt:99:9
 no-body-requires : tie.Need-no-body-requires
 no-body-requires c κs = search needs
 
--- src/lib.rt:99:9
 returns : tie.Need-returns
 returns c = rw (c .no-body .ensures) (leads-none _ _ _ (c .before .before .before .pre .0) (c .before .before .before .pre .1) (c .before .if1 .taken))
 
--- src/lib.rt:101:9
 get-requires : tie.Need-get-requires
 get-requires c κs =
     let a = c .before .before in
     let L = words (a .args .list .now) in
     omega (arith, c .if1 .left, a .pre .1, body-most (drop (a .args .at) L), length-drop (a .args .at) L, length-words (a .args .list .now))
 
--- src/lib.rt:102:8
 kind-requires : tie.Need-kind-requires
 kind-requires c κs = search needs
 
--- src/lib.rt:103:9
 no-body-requires-2 : tie.Need-no-body-requires-2
 no-body-requires-2 c κs = search needs
 
--- src/lib.rt:103:9
 returns-2 : tie.Need-returns-2
 returns-2 c =
     let b = c .before .before .before in
@@ -45,11 +39,9 @@ returns-2 c =
     let a = d .before .before in
     rw (c .no-body2 .ensures) (leads-other _ _ _ (a .pre .0) (a .pre .1) _ (b .get .ensures) (omega (arith, d .if1 .left)) (λ z. (c .before .if2 .taken) (c .before .before .kind .ensures ∙ z)))
 
--- src/lib.rt:107:16
 payload-requires : tie.Need-payload-requires
 payload-requires c κs = search needs
 
--- src/lib.rt:93:1
 returns-3 : tie.Need-returns-3
 returns-3 c =
     let b = c .before .before .before in

@@ -7,15 +7,12 @@ use Rattle.call_list.proofs.is_call.Reads as reads
 use Rattle.call_list.proofs.is_call.Lts as lts
 use Rattle.words.proofs.kind.Reads as kind-reads
 
--- src/lib.rt:50:8
 kind-requires : tie.Need-kind-requires
 kind-requires c κs = search needs
 
--- src/lib.rt:47:1
 returns : tie.Need-returns
 returns c = is-one (c .before .kind .result) (c .before .before .args .w) (c .before .kind .ensures) (omega (arith, c .if1 .taken))
 
--- src/lib.rt:47:1
 returns-2 : tie.Need-returns-2
 returns-2 c = is-none (c .before .kind .result) (c .before .before .args .w) (c .before .kind .ensures) (λ z. omega (arith, c .if1 .left, z))
 

@@ -10,23 +10,18 @@ use Rattle.call_list.proofs.is_list.Lts as lts
 use Rattle.words.proofs.get.Reads as get-reads
 use Rattle.words.proofs.kind.Reads as kind-reads
 
--- src/lib.rt:36:9
 returns : tie.Need-returns
 returns c = refuse (λ l. omega (arith, l .whole, c .if1 .taken))
 
--- src/lib.rt:39:9
 returns-2 : tie.Need-returns-2
 returns-2 c = accept (list-empty (c .before .before .before .args .list .now) (omega (arith, c .if2 .taken)))
 
--- src/lib.rt:41:17
 get-requires : tie.Need-get-requires
 get-requires c κs = search needs
 
--- src/lib.rt:41:5
 kind-requires : tie.Need-kind-requires
 kind-requires c κs = search needs
 
--- src/lib.rt:32:1
 returns-3 : tie.Need-returns-3
 returns-3 c =
     let b = c .before .before .before in

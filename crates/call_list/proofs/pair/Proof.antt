@@ -10,23 +10,19 @@ use Rattle.call_list.proofs.pair.Lts as lts
 use Rattle.call_list.proofs.index_of.Reads as index-of-reads
 use Rattle.call_list.proofs.single.Reads as single-reads
 
--- src/lib.rt:117:9
 index-of-requires : tie.Need-index-of-requires
 index-of-requires c κs = search needs
 
--- src/lib.rt:119:9
 returns : tie.Need-returns
 returns c =
     let a = c .before .before .before .before .before in
     λ m e. paired-none _ _ _ (a .pre .0) (a .pre .1) _ (c .before .before .index-of .ensures) m _ (not-true _ (c .if1 .taken))
 
--- src/lib.rt:122:28
 add-single : tie.Need-add-single
 add-single c =
     let a = c .before .before .before .before .before in
     omega (arith, a .good, a .pre .0, length-words (a .args .list .now))
 
--- src/lib.rt:122:15
 single-requires : tie.Need-single-requires
 single-requires c κs =
     let a = c .before .before .before .before .before in (
@@ -34,7 +30,6 @@ single-requires c κs =
       rest-ends _ _ _ (a .pre .0) (a .pre .1) _ (c .before .before .index-of .ensures) (not-false _ (c .if1 .left)),
     )
 
--- src/lib.rt:112:1
 returns-2 : tie.Need-returns-2
 returns-2 c =
     let b = c .before .before .before in

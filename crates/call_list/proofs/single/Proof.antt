@@ -7,15 +7,12 @@ use Rattle.call_list.proofs.single.Tie as tie
 use Rattle.call_list.proofs.single.Reads as reads
 use Rattle.call_list.proofs.single.Lts as lts
 
--- src/lib.rt:87:9
 returns : tie.Need-returns
 returns c = λ m e. single-bad _ _ _ (c .before .pre .0) (c .before .pre .1) m _ e (c .if1 .taken)
 
--- src/lib.rt:89:5
 add-result : tie.Need-add-result
 add-result c = omega (arith, c .before .good, c .before .pre .0, length-words (c .before .args .list .now))
 
--- src/lib.rt:81:1
 returns-2 : tie.Need-returns-2
 returns-2 c = λ m e. single-good _ _ _ (c .before .pre .0) (c .before .pre .1) m _ e (c .if1 .left) _ (λ t. eqb-true _ _ t) (λ t. eqb-false _ _ t)
 

@@ -10,21 +10,17 @@ use Rattle.call_list.proofs.triple.Lts as lts
 use Rattle.call_list.proofs.index_of.Reads as index-of-reads
 use Rattle.call_list.proofs.no_body.Reads as no-body-reads
 
--- src/lib.rt:133:9
 index-of-requires : tie.Need-index-of-requires
 index-of-requires c κs = search needs
 
--- src/lib.rt:135:9
 returns : tie.Need-returns
 returns c =
     let a = c .before .before .before .before .before .before in
     λ k m pos few ex ey. tripled-none _ _ _ (a .pre .0) (a .pre .1) _ (c .before .before .index-of .ensures) k m _ _ (not-true _ (c .if1 .taken))
 
--- src/lib.rt:138:9
 no-body-requires : tie.Need-no-body-requires
 no-body-requires c κs = search needs
 
--- src/lib.rt:138:9
 returns-2 : tie.Need-returns-2
 returns-2 c =
     let b = c .before .before .before .before in
@@ -32,11 +28,9 @@ returns-2 c =
     λ k m pos few ex ey. rw (c .no-body .ensures) (no-first _ _ _ (a .pre .0) (a .pre .1) _ (b .index-of .ensures) (not-false _ (c .before .before .if1 .left)) k m
     (a .args .x .now) (a .args .y .now) pos few ex (c .before .if2 .taken))
 
--- src/lib.rt:141:9
 no-body-requires-2 : tie.Need-no-body-requires-2
 no-body-requires-2 c κs = search needs
 
--- src/lib.rt:141:9
 returns-3 : tie.Need-returns-3
 returns-3 c =
     let b = c .before .before .before in
@@ -45,25 +39,21 @@ returns-3 c =
     λ k m pos few ex ey. rw (c .no-body2 .ensures) (no-second _ _ _ (a .pre .0) (a .pre .1) _ (d .index-of .ensures) (not-false _ (b .if1 .left)) k m (a .args .x .now)
     (a .args .y .now) pos few ex (c .before .before .if2 .left) ey (c .before .if3 .taken))
 
--- src/lib.rt:144:15
 add-t8 : tie.Need-add-t8
 add-t8 c =
     let a = c .before .before .before .before .before .before .before .before in
     omega (arith, a .good, a .pre .0, length-words (a .args .list .now))
 
--- src/lib.rt:144:15
 add-t11 : tie.Need-add-t11
 add-t11 c =
     let a = c .before .before .before .before .before .before .before .before in
     omega (arith, a .good, a .pre .0, length-words (a .args .list .now))
 
--- src/lib.rt:144:15
 add-t14 : tie.Need-add-t14
 add-t14 c =
     let a = c .before .before .before .before .before .before .before .before in
     omega (arith, a .good, a .pre .0, length-words (a .args .list .now))
 
--- src/lib.rt:128:1
 returns-4 : tie.Need-returns-4
 returns-4 c =
     let b = c .before .before in

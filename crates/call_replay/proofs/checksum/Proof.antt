@@ -13,31 +13,24 @@ Inv-loop image n r₀ i₀ r i = i ≤ n
 abbrev μ-loop : tie.MeasureT-loop
 μ-loop image n r₀ i₀ r i = n - i
 
--- src/main.rt:38:5
 loop-holds : tie.Need-loop-holds Inv-loop μ-loop
 loop-holds c = search needs
 
--- src/main.rt:39:23
 get-requires : tie.Need-get-requires Inv-loop μ-loop
 get-requires c κs = search needs
 
--- src/main.rt:39:9
 summed-requires : tie.Need-summed-requires Inv-loop μ-loop
 summed-requires c κs = search needs
 
--- src/main.rt:40:9
 add-i : tie.Need-add-i Inv-loop μ-loop
 add-i c = search needs
 
--- src/main.rt:38:5
 loop-less : tie.Need-loop-less Inv-loop μ-loop
 loop-less c = search needs
 
--- src/main.rt:38:5
 loop-again : tie.Need-loop-again Inv-loop μ-loop
 loop-again c = search needs
 
--- src/main.rt:34:1
 returns : tie.Need-returns Inv-loop μ-loop
 returns c = search needs
 

@@ -12,71 +12,54 @@ use Rattle.call_replay.proofs.lists.Reads as lists-reads
 use Rattle.divisor_index.proofs.divisor_index_open.Reads as divisor-index-open-reads
 use Rattle.words.proofs.get.Reads as get-reads
 
--- src/main.rt:137:9
 differs-requires : tie.Need-differs-requires
 differs-requires c κs = search needs
 
--- src/main.rt:137:9
 returns : tie.Need-returns
 returns c = search needs
 
--- src/main.rt:139:9
 get-requires : tie.Need-get-requires
 get-requires c κs = search needs
 
--- src/main.rt:140:9
 get-requires-2 : tie.Need-get-requires-2
 get-requires-2 c κs = search needs
 
--- src/main.rt:141:9
 get-requires-3 : tie.Need-get-requires-3
 get-requires-3 c κs = search needs
 
--- src/main.rt:142:8
 divisor-index-open-requires : tie.Need-divisor-index-open-requires
 divisor-index-open-requires c κs = search needs
 
--- src/main.rt:143:9
 differs-requires-2 : tie.Need-differs-requires-2
 differs-requires-2 c κs = search needs
 
--- src/main.rt:143:9
 same-length : tie.Need-same-length
 same-length c = search needs
 
--- src/main.rt:143:9
 returns-2 : tie.Need-returns-2
 returns-2 c = search needs
 
--- src/main.rt:145:9
 lists-requires : tie.Need-lists-requires
 lists-requires c κs = search needs
 
--- src/main.rt:146:27
 slice-reshare-prefix-checksum : tie.Need-slice-reshare-prefix-checksum
 slice-reshare-prefix-checksum c = search needs
 
--- src/main.rt:146:27
 slice-aggregate-checksum : tie.Need-slice-aggregate-checksum
 slice-aggregate-checksum c = sym (length-take-le _ _ (omega arith))
 
--- src/main.rt:146:18
 checksum-requires : tie.Need-checksum-requires
 checksum-requires c κs = search needs
 
--- src/main.rt:146:43
 get-requires-4 : tie.Need-get-requires-4
 get-requires-4 c κs = search needs
 
--- src/main.rt:146:5
 differs-requires-3 : tie.Need-differs-requires-3
 differs-requires-3 c κs = search needs
 
--- src/main.rt:133:1
 same-length-2 : tie.Need-same-length-2
 same-length-2 c = search needs
 
--- src/main.rt:133:1
 returns-3 : tie.Need-returns-3
 returns-3 c = search needs
 

@@ -16,63 +16,48 @@ Inv-loop image₀ s t₀ at₀ image t at = (at ≤ length s) × (length image �
 abbrev μ-loop : tie.MeasureT-loop
 μ-loop image₀ s t₀ at₀ image t at = length s - at
 
--- src/main.rt:121:5
 loop-holds : tie.Need-loop-holds Inv-loop μ-loop
 loop-holds c = search needs
 
--- src/main.rt:122:29
 sub-list-length : tie.Need-sub-list-length Inv-loop μ-loop
 sub-list-length c = search needs
 
--- src/main.rt:122:29
 part-list-length-start : tie.Need-part-list-length-start Inv-loop μ-loop
 part-list-length-start c = search needs
 
--- src/main.rt:122:29
 part-list-length-end : tie.Need-part-list-length-end Inv-loop μ-loop
 part-list-length-end c = search needs
 
--- src/main.rt:122:13
 list-length-requires : tie.Need-list-length-requires Inv-loop μ-loop
 list-length-requires c κs = search needs
 
--- src/main.rt:124:13
 differs-requires : tie.Need-differs-requires Inv-loop μ-loop
 differs-requires c κs = search needs
 
--- src/main.rt:124:13
 same-length : tie.Need-same-length Inv-loop μ-loop
 same-length c = search needs
 
--- src/main.rt:124:13
 returns : tie.Need-returns Inv-loop μ-loop
 returns c = search needs
 
--- src/main.rt:126:17
 add-e : tie.Need-add-e Inv-loop μ-loop
 add-e c = search needs
 
--- src/main.rt:127:28
 sub-list : tie.Need-sub-list Inv-loop μ-loop
 sub-list c = search needs
 
--- src/main.rt:127:28
 part-list-start : tie.Need-part-list-start Inv-loop μ-loop
 part-list-start c = search needs
 
--- src/main.rt:127:28
 part-list-end : tie.Need-part-list-end Inv-loop μ-loop
 part-list-end c = search needs
 
--- src/main.rt:127:9
 list-requires : tie.Need-list-requires Inv-loop μ-loop
 list-requires c κs = search needs
 
--- src/main.rt:121:5
 loop-less : tie.Need-loop-less Inv-loop μ-loop
 loop-less c = search needs
 
--- src/main.rt:121:5
 loop-again : tie.Need-loop-again Inv-loop μ-loop
 loop-again c = search needs
 

@@ -15,59 +15,45 @@ Inv-loop image₀ s mode t₀ at₀ image t at = (at ≤ length s) × (length im
 abbrev μ-loop : tie.MeasureT-loop
 μ-loop image₀ s mode t₀ at₀ image t at = length s - at
 
--- src/main.rt:201:5
 loop-holds : tie.Need-loop-holds Inv-loop μ-loop
 loop-holds c = search needs
 
--- src/main.rt:202:24
 sub-record : tie.Need-sub-record Inv-loop μ-loop
 sub-record c = search needs
 
--- src/main.rt:202:24
 part-record-start : tie.Need-part-record-start Inv-loop μ-loop
 part-record-start c = search needs
 
--- src/main.rt:202:24
 part-record-end : tie.Need-part-record-end Inv-loop μ-loop
 part-record-end c = search needs
 
--- src/main.rt:202:13
 record-requires : tie.Need-record-requires Inv-loop μ-loop
 record-requires c κs = search needs
 
--- src/main.rt:204:13
 same-length : tie.Need-same-length Inv-loop μ-loop
 same-length c = search needs
 
--- src/main.rt:204:13
 returns : tie.Need-returns Inv-loop μ-loop
 returns c = search needs
 
--- src/main.rt:206:17
 add-e : tie.Need-add-e Inv-loop μ-loop
 add-e c = search needs
 
--- src/main.rt:207:34
 sub-counted-if : tie.Need-sub-counted-if Inv-loop μ-loop
 sub-counted-if c = search needs
 
--- src/main.rt:207:34
 part-counted-if-start : tie.Need-part-counted-if-start Inv-loop μ-loop
 part-counted-if-start c = search needs
 
--- src/main.rt:207:34
 part-counted-if-end : tie.Need-part-counted-if-end Inv-loop μ-loop
 part-counted-if-end c = search needs
 
--- src/main.rt:207:9
 counted-if-requires : tie.Need-counted-if-requires Inv-loop μ-loop
 counted-if-requires c κs = search needs
 
--- src/main.rt:201:5
 loop-less : tie.Need-loop-less Inv-loop μ-loop
 loop-less c = search needs
 
--- src/main.rt:201:5
 loop-again : tie.Need-loop-again Inv-loop μ-loop
 loop-again c = search needs
 

@@ -10,39 +10,30 @@ use Rattle.call_replay.proofs.run.Lts as lts
 use Rattle.call_replay.proofs.differing.Reads as differing-reads
 use Rattle.divisor_index.proofs.divisor_index_run.Reads as divisor-index-run-reads
 
--- src/main.rt:64:9
 returns : tie.Need-returns
 returns c = search needs
 
--- src/main.rt:66:54
 array-borrow-prefix-answers : tie.Need-array-borrow-prefix-answers
 array-borrow-prefix-answers c = search needs
 
--- src/main.rt:66:54
 slice-aggregate-divisor-index-run : tie.Need-slice-aggregate-divisor-index-run
 slice-aggregate-divisor-index-run c = sym (length-take-le (length (c .before .before .before .before .before .before .args .expected .now)) _ (omega arith))
 
--- src/main.rt:66:8
 divisor-index-run-requires : tie.Need-divisor-index-run-requires
 divisor-index-run-requires c κs = search needs
 
--- src/main.rt:67:9
 same-length : tie.Need-same-length
 same-length c = search needs
 
--- src/main.rt:67:9
 returns-2 : tie.Need-returns-2
 returns-2 c = search needs
 
--- src/main.rt:69:5
 differing-requires : tie.Need-differing-requires
 differing-requires c κs = search needs
 
--- src/main.rt:60:1
 same-length-2 : tie.Need-same-length-2
 same-length-2 c = search needs
 
--- src/main.rt:60:1
 returns-3 : tie.Need-returns-3
 returns-3 c = search needs
 

@@ -13,43 +13,33 @@ Inv-loop s at₀ at = at ≤ length s
 abbrev μ-loop : tie.MeasureT-loop
 μ-loop s at₀ at = length s - at
 
--- src/main.rt:215:5
 loop-holds : tie.Need-loop-holds Inv-loop μ-loop
 loop-holds c = search needs
 
--- src/main.rt:216:24
 sub-record : tie.Need-sub-record Inv-loop μ-loop
 sub-record c = search needs
 
--- src/main.rt:216:24
 part-record-start : tie.Need-part-record-start Inv-loop μ-loop
 part-record-start c = search needs
 
--- src/main.rt:216:24
 part-record-end : tie.Need-part-record-end Inv-loop μ-loop
 part-record-end c = search needs
 
--- src/main.rt:216:13
 record-requires : tie.Need-record-requires Inv-loop μ-loop
 record-requires c κs = search needs
 
--- src/main.rt:218:20
 sub-result : tie.Need-sub-result Inv-loop μ-loop
 sub-result c = search needs
 
--- src/main.rt:218:13
 returns : tie.Need-returns Inv-loop μ-loop
 returns c = search needs
 
--- src/main.rt:220:9
 add-at : tie.Need-add-at Inv-loop μ-loop
 add-at c = search needs
 
--- src/main.rt:215:5
 loop-less : tie.Need-loop-less Inv-loop μ-loop
 loop-less c = search needs
 
--- src/main.rt:215:5
 loop-again : tie.Need-loop-again Inv-loop μ-loop
 loop-again c = search needs
 

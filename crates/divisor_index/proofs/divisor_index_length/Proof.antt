@@ -10,23 +10,18 @@ use Rattle.divisor_index.proofs.divisor_index_length.Lts as lts
 use Rattle.divisor_index.proofs.opening_good.Reads as opening-good-reads
 use Rattle.index_image.proofs.length.Reads as length-reads
 
--- src/lib.rt:36:9
 opening-good-requires : tie.Need-opening-good-requires
 opening-good-requires c κs = search needs
 
--- src/lib.rt:37:9
 returns : tie.Need-returns
 returns c = length-refused _ _ _ _ (sym (c .before .opening-good .ensures) ∙ not-true _ (c .if1 .taken))
 
--- src/lib.rt:39:5
 length-requires : tie.Need-length-requires
 length-requires c κs = (one-kind _ _ _ _ (sym (c .before .opening-good .ensures) ∙ not-false _ (c .if1 .left)), sizes _ _ _ _ (sym (c .before .opening-good .ensures) ∙ not-false _ (c .if1 .left)))
 
--- src/lib.rt:39:5
 cast-result : tie.Need-cast-result
 cast-result c = omega (arith, c .length .ensures .0, length-small _ _ _ _ (sym (c .before .before .opening-good .ensures) ∙ not-false _ (c .before .if1 .left)))
 
--- src/lib.rt:27:1
 returns-2 : tie.Need-returns-2
 returns-2 c = length-is _ _ _ _ (sym (c .before .before .opening-good .ensures) ∙ not-false _ (c .before .if1 .left)) _ (c .length .ensures .0)
 

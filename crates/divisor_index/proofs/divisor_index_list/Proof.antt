@@ -10,34 +10,27 @@ use Rattle.indices.proofs.shape.Reads as shape-reads
 use Rattle.listing.proofs.listing_words.Reads as listing-words-reads
 use Rattle.listing.proofs.to_vec.Reads as to-vec-reads
 
--- src/lib.rt:94:9
 sound-requires : tie.Need-sound-requires
 sound-requires c κs = search needs
 
--- src/lib.rt:95:9
 returns : tie.Need-returns
 returns c = listing-three _ _ (λ S. clash _ (not-true _ (c .if1 .taken)) (c .before .sound .ensures .1 S))
 
--- src/lib.rt:97:9
 shape-requires : tie.Need-shape-requires
 shape-requires c κs = (c .before .sound .ensures .0 (not-false _ (c .if1 .left)))
 
--- src/lib.rt:99:9
 returns-2 : tie.Need-returns-2
 returns-2 c = listing-six _ _ _ (c .before .before .shape .ensures) (c .if2 .taken)
 
--- src/lib.rt:101:28
 listing-words-requires : tie.Need-listing-words-requires
 listing-words-requires c κs = search needs
 
--- src/lib.rt:102:9
 returns-3 : tie.Need-returns-3
 returns-3 c =
     let b = c .before .before .before .before in
     let a = b .before .before .before .before .before in
     listing-five (a .args .image .now) (a .args .answers .now) _ (b .shape .ensures) _ (c .before .listing-words .ensures) (c .before .before .if2 .left) (c .if3 .taken)
 
--- src/lib.rt:104:5
 to-vec-requires : tie.Need-to-vec-requires
 to-vec-requires c κs =
     let b = c .before .before .before in
@@ -45,11 +38,9 @@ to-vec-requires c κs =
     let a = d .before .before .before .before .before in
     (d .shape .ensures, listing-room (a .args .image .now) (a .args .answers .now) _ (d .shape .ensures) _ (c .before .before .listing-words .ensures) (b .if2 .left) (c .before .if3 .left))
 
--- src/lib.rt:90:1
 same-length : tie.Need-same-length
 same-length c = search needs
 
--- src/lib.rt:90:1
 returns-4 : tie.Need-returns-4
 returns-4 c =
     let b = c .before .before .before .before in

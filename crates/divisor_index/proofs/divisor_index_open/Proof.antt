@@ -12,23 +12,18 @@ use Rattle.divisor_index.proofs.opening_good.Reads as opening-good-read
 use Rattle.divisor_index.proofs.opening.open_tables.Reads as open-tables-reads
 use Rattle.index_image.proofs.length.Reads as length-reads
 
--- src/lib.rt:54:9
 opening-good-requires : tie.Need-opening-good-requires
 opening-good-requires c κs = search needs
 
--- src/lib.rt:55:9
 returns : tie.Need-returns
 returns c = open-one _ _ _ _ _ (sym (c .before .opening-good .ensures) ∙ not-true _ (c .if1 .taken))
 
--- src/lib.rt:64:22
 length-requires : tie.Need-length-requires
 length-requires c κs = (one-kind _ _ _ _ (sym (c .before .opening-good .ensures) ∙ not-false _ (c .if1 .left)), sizes _ _ _ _ (sym (c .before .opening-good .ensures) ∙ not-false _ (c .if1 .left)))
 
--- src/lib.rt:65:9
 returns-2 : tie.Need-returns-2
 returns-2 c = open-two _ _ _ _ (sym (c .before .before .before .opening-good .ensures) ∙ not-false _ (c .before .before .if1 .left)) _ (omega (arith, c .if2 .taken, c .before .length .ensures .0))
 
--- src/lib.rt:67:5
 open-tables-requires : tie.Need-open-tables-requires
 open-tables-requires c κs =
     let b = c .before .before .before in
@@ -41,11 +36,9 @@ open-tables-requires c κs =
       ),
     )
 
--- src/lib.rt:43:1
 same-length : tie.Need-same-length
 same-length c = search needs
 
--- src/lib.rt:43:1
 returns-3 : tie.Need-returns-3
 returns-3 c =
     let b = c .before .before .before .before in

@@ -11,39 +11,30 @@ use Rattle.call_list.proofs.is_list.Reads as is-list-reads
 use Rattle.divisor_index.proofs.run.run.Reads as run-reads
 use Rattle.index_sound.proofs.sound.Reads as sound-reads
 
--- src/lib.rt:76:9
 sound-requires : tie.Need-sound-requires
 sound-requires c κs = search needs
 
--- src/lib.rt:77:9
 same-length : tie.Need-same-length
 same-length c = search needs
 
--- src/lib.rt:77:9
 returns : tie.Need-returns
 returns c = run-three _ _ _ (λ S. clash _ (not-true _ (c .if1 .taken)) (c .before .sound .ensures .1 S))
 
--- src/lib.rt:79:9
 is-list-requires : tie.Need-is-list-requires
 is-list-requires c κs = search needs
 
--- src/lib.rt:80:9
 same-length-2 : tie.Need-same-length-2
 same-length-2 c = search needs
 
--- src/lib.rt:80:9
 returns-2 : tie.Need-returns-2
 returns-2 c = run-four _ _ _ (c .before .before .before .sound .ensures .0 (not-false _ (c .before .before .if1 .left))) (λ l. clash _ (not-true _ (c .if2 .taken)) (c .before .is-list .ensures .1 l))
 
--- src/lib.rt:82:28
 count-requires : tie.Need-count-requires
 count-requires c κs = search needs
 
--- src/lib.rt:83:9
 same-length-3 : tie.Need-same-length-3
 same-length-3 c = search needs
 
--- src/lib.rt:83:9
 returns-3 : tie.Need-returns-3
 returns-3 c =
     let b = c .before .before .before in
@@ -51,7 +42,6 @@ returns-3 c =
     let f = d .before in
     run-five _ _ _ (f .sound .ensures .0 (not-false _ (d .if1 .left))) (b .is-list .ensures .0 (not-false _ (c .before .before .if2 .left))) (omega (arith, c .if3 .taken, c .before .count .ensures))
 
--- src/lib.rt:85:5
 run-requires : tie.Need-run-requires
 run-requires c κs =
     let b = c .before .before .before in
@@ -61,15 +51,12 @@ run-requires c κs =
     let h = g .before in
     ((h .sound .ensures .0 (not-false _ (g .if1 .left))), ((f .is-list .ensures .0 (not-false _ (d .if2 .left))), omega (arith, c .before .before .if3 .left, b .count .ensures)))
 
--- src/lib.rt:72:1
 same-length-4 : tie.Need-same-length-4
 same-length-4 c = search needs
 
--- src/lib.rt:72:1
 same-length-5 : tie.Need-same-length-5
 same-length-5 c = search needs
 
--- src/lib.rt:72:1
 returns-4 : tie.Need-returns-4
 returns-4 c =
     let b = c .before .before .before .before in

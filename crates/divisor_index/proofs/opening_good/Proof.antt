@@ -9,23 +9,18 @@ use Rattle.divisor_index.proofs.opening_good.Lts as lts
 use Rattle.divmask.proofs.tracker.maxima_good.Reads as maxima-good-reads
 use Rattle.monomial.proofs.sizes.sizes_fit.Reads as sizes-fit-reads
 
--- src/lib.rt:15:9
 returns : tie.Need-returns
 returns c = bad-kind _ _ _ _ (c .if1 .taken)
 
--- src/lib.rt:17:9
 sizes-fit-requires : tie.Need-sizes-fit-requires
 sizes-fit-requires c κs = search needs
 
--- src/lib.rt:18:9
 returns-2 : tie.Need-returns-2
 returns-2 c = bad-sizes _ _ _ _ (sym (c .before .sizes-fit .ensures) ∙ not-true _ (c .if2 .taken))
 
--- src/lib.rt:20:5
 maxima-good-requires : tie.Need-maxima-good-requires
 maxima-good-requires c κs = search needs
 
--- src/lib.rt:11:1
 returns-3 : tie.Need-returns-3
 returns-3 c = good-is _ _ _ _ _ (c .before .before .before .if1 .left) (sym (c .before .before .sizes-fit .ensures) ∙ not-false _ (c .before .if2 .left)) (c .maxima-good .ensures)
 

@@ -6,15 +6,12 @@ use Rattle.divmask.proofs.bits_of.Tie as tie
 use Rattle.divmask.proofs.bits_of.Reads as reads
 use Rattle.divmask.proofs.bits_of.Lts as lts
 
--- src/lib.rt:26:20
 add-result : tie.Need-add-result
 add-result c = search needs
 
--- src/lib.rt:22:1
 returns : tie.Need-returns
 returns c = rw (lt-ltb (c .before .args .v) (c .before .args .extra) (omega arith))
 
--- src/lib.rt:22:1
 returns-2 : tie.Need-returns-2
 returns-2 c = rw (le-ltb (c .before .args .v) (c .before .args .extra) (omega arith)) (omega arith)
 

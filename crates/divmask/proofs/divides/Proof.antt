@@ -5,11 +5,9 @@ use Rattle.divmask.proofs.divides.Tie as tie
 use Rattle.divmask.proofs.divides.Reads as reads
 use Rattle.divmask.proofs.divides.Lts as lts
 
--- src/lib.rt:71:1
 returns : tie.Need-returns
 returns c = tested-and (c .before .args .a) (c .before .args .b) (omega arith) (c .if1 .taken)
 
--- src/lib.rt:71:1
 returns-2 : tie.Need-returns-2
 returns-2 c = tested-not-and (c .before .args .a) (c .before .args .b) (omega arith) (c .if1 .left)
 

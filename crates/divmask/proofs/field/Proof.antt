@@ -28,41 +28,32 @@ counted c =
 
 -- end of helpers
 
--- src/lib.rt:45:24
 add-top : tie.Need-add-top
 add-top c = search needs
 
--- src/lib.rt:45:15
 mul-top : tie.Need-mul-top
 mul-top c = let l : (c .args .bits) + 1 ≤ 33 = omega arith in let h : (c .args .power) * ((c .args .bits) + 1) ≤ 32767 * 33 = mul-le-mul (c .pre .1 .1) l in omega arith
 
--- src/lib.rt:45:15
 sub-top : tie.Need-sub-top
 sub-top c = let l : 1 ≤ (c .args .bits) + 1 = omega arith in let h : 1 * 1 ≤ (c .args .power) * ((c .args .bits) + 1) = mul-le-mul (c .pre .1 .0) l in omega arith
 
--- src/lib.rt:46:16
 mul-most : tie.Need-mul-most
 mul-most c = let h : (c .args .bits) * (c .args .maximum) ≤ 32 * 32767 = mul-le-mul (c .pre .0 .0) (c .pre .0 .1 .1) in omega arith
 
--- src/lib.rt:48:15
 div-result : tie.Need-div-result
 div-result c = omega (arith, c .before .before .pre .0 .1 .0)
 
--- src/lib.rt:48:15
 cast-result : tie.Need-cast-result
 cast-result c = omega (arith, counted c, c .before .before .pre .0 .0)
 
--- src/lib.rt:48:6
 shl-result : tie.Need-shl-result
 shl-result c = omega (arith, counted c, c .before .before .pre .0 .0)
 
--- src/lib.rt:48:5
 sub-result : tie.Need-sub-result
 sub-result c =
     let start = c .before .before in
     omega (arith, ones ((c .before .if1 .least) / (start .args .maximum)) (omega (arith, counted c)), pow-pos ((c .before .if1 .least) / (start .args .maximum)))
 
--- src/lib.rt:40:1
 returns : tie.Need-returns
 returns c =
     let start = c .before .before in

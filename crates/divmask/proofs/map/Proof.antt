@@ -63,27 +63,21 @@ stepped-at c =
 
 -- end of helpers
 
--- src/lib.rt:57:17
 div-whole : tie.Need-div-whole Inv-loop μ-loop
 div-whole c = omega (arith, c .before .before .pre .0 .some)
 
--- src/lib.rt:58:17
 rem-extra : tie.Need-rem-extra Inv-loop μ-loop
 rem-extra c = omega (arith, c .before .before .pre .0 .some)
 
--- src/lib.rt:61:5
 loop-holds : tie.Need-loop-holds Inv-loop μ-loop
 loop-holds c = begin (words (c .before .before .args .maxima .now)) (c .before .before .pre .0 .few) (first-canonical (omega arith) (c .before .before .pre .1))
 
--- src/lib.rt:62:13
 get-requires : tie.Need-get-requires Inv-loop μ-loop
 get-requires c κs = omega (arith, first-bytes 1 (c .before .before .before .args .monomial .now), within (c .loop .inv .ra))
 
--- src/lib.rt:63:12
 is-end-requires : tie.Need-is-end-requires Inv-loop μ-loop
 is-end-requires c κs = search needs
 
--- src/lib.rt:64:20
 cast-result : tie.Need-cast-result Inv-loop μ-loop
 cast-result c =
     let loop = c .before .before .before .loop in
@@ -91,36 +85,29 @@ cast-result c =
     let e = mapped (loop .inv) (seen _ (loop .inv .ra) (c .before .before .get .ensures)) (is-end-true _ (c .before .is-end .ensures) (c .if1 .taken)) in
     omega (arith, mask-small (start .args .variables) (words (start .args .maxima .now)) (pow 1 (first 1 (words (start .args .monomial .now)))))
 
--- src/lib.rt:64:13
 returns : tie.Need-returns Inv-loop μ-loop
 returns c =
     let loop = c .before .before .before .loop in
     mapped (loop .inv) (seen _ (loop .inv .ra) (c .before .before .get .ensures)) (is-end-true _ (c .before .is-end .ensures) (c .if1 .taken))
 
--- src/lib.rt:66:13
 id-requires : tie.Need-id-requires Inv-loop μ-loop
 id-requires c κs = search needs
 
--- src/lib.rt:67:36
 cast-get : tie.Need-cast-get Inv-loop μ-loop
 cast-get c = omega arith
 
--- src/lib.rt:67:13
 get-requires-2 : tie.Need-get-requires-2 Inv-loop μ-loop
 get-requires-2 c κs =
     let start = c .before .before .before .before .before .before .before in
     let k = variable (c .before) in
     omega (arith, c .id .ensures, k .known, length-words (start .args .maxima .now), start .pre .0 .one-each)
 
--- src/lib.rt:68:23
 bits-of-requires : tie.Need-bits-of-requires Inv-loop μ-loop
 bits-of-requires c κs = div-le-self 32 (c .before .before .before .before .before .before .before .before .args .variables)
 
--- src/lib.rt:68:52
 power-requires : tie.Need-power-requires Inv-loop μ-loop
 power-requires c κs = search needs
 
--- src/lib.rt:68:13
 field-requires : tie.Need-field-requires Inv-loop μ-loop
 field-requires c κs =
     let get2 = c .before .before .get2 in
@@ -140,7 +127,6 @@ field-requires c κs =
       (omega (arith, c .power .ensures, k .low), omega (arith, c .power .ensures, k .high)),
     )
 
--- src/lib.rt:69:22
 first-bit-requires : tie.Need-first-bit-requires Inv-loop μ-loop
 first-bit-requires c κs =
     let before = c .before .before .before .before .before in
@@ -149,30 +135,24 @@ first-bit-requires c κs =
     let k = variable before in
     (div-le-self 32 (start .args .variables), omega (arith, id .ensures, k .known, start .pre .0 .few))
 
--- src/lib.rt:69:22
 cast-mask : tie.Need-cast-mask Inv-loop μ-loop
 cast-mask c = omega arith
 
--- src/lib.rt:69:17
 shl-mask : tie.Need-shl-mask Inv-loop μ-loop
 shl-mask c = omega (arith, stepped-at (c) .shift)
 
--- src/lib.rt:69:9
 add-mask : tie.Need-add-mask Inv-loop μ-loop
 add-mask c = omega (arith, stepped-at (c) .fits)
 
--- src/lib.rt:70:9
 add-i : tie.Need-add-i Inv-loop μ-loop
 add-i c =
     let b9 = c .before .before .before .before .before .before .before .before .before in
     let start = b9 .before .before .before in
     omega (arith, first-bytes 1 (start .args .monomial .now), within (b9 .loop .inv .ra))
 
--- src/lib.rt:61:5
 loop-less : tie.Need-loop-less Inv-loop μ-loop
 loop-less c = omega (arith, within (c .before .before .before .before .before .before .before .before .before .loop .inv .ra))
 
--- src/lib.rt:61:5
 loop-again : tie.Need-loop-again Inv-loop μ-loop
 loop-again c = stepped-at (c) .rest
 

@@ -16,31 +16,24 @@ Inv-loop maxima₀ x i₀ maxima i = length maxima ≡ 260
 abbrev μ-loop : tie.MeasureT-loop
 μ-loop maxima₀ x i₀ maxima i = 65 - i
 
--- src/main.rt:55:5
 loop-holds : tie.Need-loop-holds Inv-loop μ-loop
 loop-holds c = c .before .pre
 
--- src/main.rt:56:9
 put-requires : tie.Need-put-requires Inv-loop μ-loop
 put-requires c κs = omega (arith, c .before .before .loop .inv)
 
--- src/main.rt:57:9
 add-i : tie.Need-add-i Inv-loop μ-loop
 add-i c = omega arith
 
--- src/main.rt:55:5
 loop-less : tie.Need-loop-less Inv-loop μ-loop
 loop-less c = omega arith
 
--- src/main.rt:55:5
 loop-again : tie.Need-loop-again Inv-loop μ-loop
 loop-again c = ap length (c .before .before .put .ensures) ∙ length-putW (c .before .before .before .before .before .loop .maxima) (c .before .before .before .before .before .loop .i) (c .before .before .before .before .before .before .before .args .x) ∙ c .before .before .before .before .before .loop .inv
 
--- src/main.rt:50:1
 same-length : tie.Need-same-length Inv-loop μ-loop
 same-length c = search needs
 
--- src/main.rt:50:1
 returns : tie.Need-returns Inv-loop μ-loop
 returns c = c .before .loop .inv
 

@@ -11,55 +11,42 @@ use Rattle.words.proofs.end_word.Reads as end-word-reads
 use Rattle.words.proofs.put.Reads as put-reads
 use Rattle.words.proofs.variable_word.Reads as variable-word-reads
 
--- src/main.rt:66:10
 slice-aggregate-fill : tie.Need-slice-aggregate-fill
 slice-aggregate-fill c = search needs
 
--- src/main.rt:66:5
 fill-requires : tie.Need-fill-requires
 fill-requires c κs = search needs
 
--- src/main.rt:68:16
 slice-aggregate-put : tie.Need-slice-aggregate-put
 slice-aggregate-put c = search needs
 
--- src/main.rt:68:34
 variable-word-requires : tie.Need-variable-word-requires
 variable-word-requires c κs = search needs
 
--- src/main.rt:68:5
 put-requires : tie.Need-put-requires
 put-requires c κs = search needs
 
--- src/main.rt:69:16
 slice-aggregate-put-2 : tie.Need-slice-aggregate-put-2
 slice-aggregate-put-2 c = search needs
 
--- src/main.rt:69:34
 end-word-requires : tie.Need-end-word-requires
 end-word-requires c κs = search needs
 
--- src/main.rt:69:5
 put-requires-2 : tie.Need-put-requires-2
 put-requires-2 c κs = search needs
 
--- src/main.rt:70:27
 array-share-prefix-maxima : tie.Need-array-share-prefix-maxima
 array-share-prefix-maxima c = search needs
 
--- src/main.rt:70:27
 slice-aggregate-mask : tie.Need-slice-aggregate-mask
 slice-aggregate-mask c = simp length-take (omega (arith, c .before .before .before .before .before .before .before .before .before .before .fill .ensures))
 
--- src/main.rt:70:45
 slice-aggregate-mask-2 : tie.Need-slice-aggregate-mask-2
 slice-aggregate-mask-2 c = search needs
 
--- src/main.rt:70:5
 mask-requires : tie.Need-mask-requires
 mask-requires c κs = search needs
 
--- src/main.rt:62:1
 returns : tie.Need-returns
 returns c = search needs
 

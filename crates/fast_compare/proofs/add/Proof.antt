@@ -15,23 +15,18 @@ use Rattle.fast_compare.proofs.lowest.Reads as lowest-reads
 use Rattle.fast_compare.proofs.store.Reads as store-reads
 use Rattle.words.proofs.get.Reads as get-reads
 
--- src/lib.rt:180:8
 get-requires : tie.Need-get-requires
 get-requires c κs = omega (arith, head (c .before .before .before .args .map .now) (c .before .before .before .pre .0) .room)
 
--- src/lib.rt:180:8
 cast-if1 : tie.Need-cast-if1
 cast-if1 c = search needs
 
--- src/lib.rt:180:39
 count-requires : tie.Need-count-requires
 count-requires c κs = c .before .before .before .before .before .pre .0
 
--- src/lib.rt:181:9
 same-length : tie.Need-same-length
 same-length c = search needs
 
--- src/lib.rt:181:9
 returns : tie.Need-returns
 returns c =
     let slice-known = c .before .before .before .before .before .before .slice-known in
@@ -39,23 +34,19 @@ returns c =
     λ st i e. gave-full (start .args .map .now) st (valueOf (start .args .index) (words (start .args .ratio .now))) (λ j. (slice-known .given) j .fits) i
     (start .args .p) e (omega (arith, c .before .before .before .get .ensures, (c .before .count .ensures .1) st i, cap-of (start .args .map .now) st i))
 
--- src/lib.rt:183:9
 lowest-requires : tie.Need-lowest-requires
 lowest-requires c κs =
     let start = c .before .before .before .before .before .before .before .before in
     (start .pre .0, start .pre .1 .1)
 
--- src/lib.rt:184:9
 highest-requires : tie.Need-highest-requires
 highest-requires c κs =
     let start = c .before .before .before .before .before .before .before .before .before .before in
     (start .pre .0, start .pre .1 .1)
 
--- src/lib.rt:186:9
 same-length-2 : tie.Need-same-length-2
 same-length-2 c = search needs
 
--- src/lib.rt:186:9
 returns-2 : tie.Need-returns-2
 returns-2 c =
     let lowest = c .before .before .before .lowest in
@@ -69,19 +60,15 @@ returns-2 c =
     ((lowest .ensures .1) st i (valueOf (start .args .index) (words (start .args .ratio .now))) (z .place-is))
     ((c .before .highest .ensures .1) st i (valueOf (start .args .index) (words (start .args .ratio .now))) (z .place-is) (z .is)) (c .if2 .taken)
 
--- src/lib.rt:188:19
 add-label : tie.Need-add-label
 add-label c = search needs
 
--- src/lib.rt:188:19
 sub-label : tie.Need-sub-label
 sub-label c = search needs
 
--- src/lib.rt:188:17
 cast-label : tie.Need-cast-label
 cast-label c = search needs
 
--- src/lib.rt:189:5
 store-requires : tie.Need-store-requires
 store-requires c κs =
     let b7 = c .before .before .before .before .before .before .before in
@@ -89,11 +76,9 @@ store-requires c κs =
     let start = b7 .before .before .before .before .before .before in
     (start .pre .0, (start .pre .1 .0, (start .pre .1 .1, omega (arith, get .ensures, b7 .count .ensures .0))))
 
--- src/lib.rt:174:1
 same-length-3 : tie.Need-same-length-3
 same-length-3 c = search needs
 
--- src/lib.rt:174:1
 returns-3 : tie.Need-returns-3
 returns-3 c =
     let store = c .before .before .store in

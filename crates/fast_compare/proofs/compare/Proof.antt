@@ -33,39 +33,30 @@ fits s v e = rw e (row-fits (s .args .map .now) _ (has-ratio (s .args .map .now)
 
 -- end of helpers
 
--- src/lib.rt:92:21
 get-requires : tie.Need-get-requires
 get-requires c κs = search needs
 
--- src/lib.rt:92:21
 cast-variables : tie.Need-cast-variables
 cast-variables c = search needs
 
--- src/lib.rt:93:25
 add-at : tie.Need-add-at
 add-at c = search needs
 
--- src/lib.rt:93:18
 mul-at : tie.Need-mul-at
 mul-at c = omega (arith, facts (c .before .before .before) (c .get .result) (c .get .ensures))
 
--- src/lib.rt:93:14
 add-at-2 : tie.Need-add-at-2
 add-at-2 c = omega (arith, facts (c .before .before .before) (c .get .result) (c .get .ensures))
 
--- src/lib.rt:94:28
 get-requires-2 : tie.Need-get-requires-2
 get-requires-2 c κs = omega (arith, fits (c .before .before .before) (c .get .result) (c .get .ensures))
 
--- src/lib.rt:94:9
 payload-requires : tie.Need-payload-requires
 payload-requires c κs = search needs
 
--- src/lib.rt:96:9
 cmp-requires : tie.Need-cmp-requires
 cmp-requires c κs = search needs
 
--- src/lib.rt:96:9
 returns : tie.Need-returns
 returns c = let start = (c .before .before .before .before .before .before .before) in
     λ st i. let l : (start .args .row) < length (st .rows) = omega (arith, start .pre .1 .0, count-of (start .args .map .now) st i) in
@@ -75,19 +66,16 @@ returns c = let start = (c .before .before .before .before .before .before .befo
     let x : (c .before .before .payload .result) ≡ valueAt W m (rowAt m (start .args .row)) .index = c .before .before .payload .ensures ∙ ap payload (rw (c .before .before .before .before .get .ensures) at (c .before .before .before .get2 .ensures)) ∙ sym (value-index W m (rowAt m (start .args .row))) in
     (c .cmp .ensures) ∙ rw x (cmp-index (valueAt W m (rowAt m (start .args .row))) q (λ e. c .before .if1 .taken (x ∙ e))) ∙ ap (λ (y : Value). cmp y q) (value-of (start .args .map .now) st i (start .args .row) l)
 
--- src/lib.rt:98:9
 total-at-requires : tie.Need-total-at-requires
 total-at-requires c κs = let start = (c .before .before .before .before .before .before) in
     rw (c .before .before .before .get .ensures) (has-ratio (start .args .map .now) (start .pre .0) (start .args .row) (start .pre .1 .0))
 
--- src/lib.rt:99:5
 compare-at-requires : tie.Need-compare-at-requires
 compare-at-requires c κs = let start = (c .before .before .before .before .before .before .before) in (
   rw (c .before .before .before .before .get .ensures) (has-ratio (start .args .map .now) (start .pre .0) (start .args .row) (start .pre .1 .0)),
   (c .total-at .ensures, (starts-whole (start .pre .1 .1 .0), rw (first-whole (start .pre .1 .1 .0)) (start .pre .1 .1 .1))),
 )
 
--- src/lib.rt:85:1
 returns-2 : tie.Need-returns-2
 returns-2 c = let start = (c .before .before .before .before .before .before .before .before) in
     λ st i. let l : (start .args .row) < length (st .rows) = omega (arith, start .pre .1 .0, count-of (start .args .map .now) st i) in

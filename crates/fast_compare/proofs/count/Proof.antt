@@ -7,15 +7,12 @@ use Rattle.fast_compare.proofs.count.Reads as reads
 use Rattle.fast_compare.proofs.count.Lts as lts
 use Rattle.words.proofs.get.Reads as get-reads
 
--- src/lib.rt:62:5
 get-requires : tie.Need-get-requires
 get-requires c κs = search needs
 
--- src/lib.rt:62:5
 cast-result : tie.Need-cast-result
 cast-result c = search needs
 
--- src/lib.rt:57:1
 returns : tie.Need-returns
 returns c = (c .get .ensures, λ st i. (c .get .ensures) ∙ count-of (c .before .before .args .map .now) st i)
 

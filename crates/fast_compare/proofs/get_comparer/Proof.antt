@@ -18,15 +18,12 @@ use Rattle.fast_compare.proofs.label.Reads as label-reads
 use Rattle.fast_compare.proofs.row_at.Reads as row-at-reads
 use Rattle.fast_compare.proofs.search.Reads as search-reads
 
--- src/lib.rt:199:9
 search-requires : tie.Need-search-requires
 search-requires c κs = (c .before .before .before .pre .0, canonical-wide (c .before .before .before .pre .1 .canonical))
 
--- src/lib.rt:201:19
 enum-known-place : tie.Need-enum-known-place
 enum-known-place c = search needs
 
--- src/lib.rt:202:17
 row-at-requires : tie.Need-row-at-requires
 row-at-requires c κs =
     let place = c .before .before .place in
@@ -42,7 +39,6 @@ row-at-requires c κs =
       ),
     )
 
--- src/lib.rt:203:29
 label-requires : tie.Need-label-requires
 label-requires c κs =
     let start = c .before .before .before .before .before .before .before .before .before .before in (
@@ -54,11 +50,9 @@ label-requires c κs =
       ),
     )
 
--- src/lib.rt:205:23
 enum-known-place-2 : tie.Need-enum-known-place-2
 enum-known-place-2 c = search needs
 
--- src/lib.rt:205:29
 add-requires : tie.Need-add-requires
 add-requires c κs =
     let place2 = c .before .before .place2 in
@@ -77,11 +71,9 @@ add-requires c κs =
       ),
     )
 
--- src/lib.rt:194:1
 same-length : tie.Need-same-length
 same-length c = search needs
 
--- src/lib.rt:194:1
 returns : tie.Need-returns
 returns c =
     let place = c .before .before .before .before .before .place in
@@ -92,11 +84,9 @@ returns c =
     (place .given .0 .0) (c .label .result) (sym (place .given .1) ∙ (b7 .search .ensures) st i)
     ((c .label .ensures) st i ∙ ap (Map.label (st .rows)) ((c .before .before .row-at .ensures) st i .1))
 
--- src/lib.rt:194:1
 same-length-2 : tie.Need-same-length-2
 same-length-2 c = search needs
 
--- src/lib.rt:194:1
 returns-2 : tie.Need-returns-2
 returns-2 c =
     let place2 = c .before .before .before .before .before .place2 in

@@ -13,19 +13,15 @@ use Rattle.fast_compare.proofs.count.Reads as count-reads
 use Rattle.fast_compare.proofs.label.Reads as label-reads
 use Rattle.fast_compare.proofs.row_at.Reads as row-at-reads
 
--- src/lib.rt:147:13
 count-requires : tie.Need-count-requires
 count-requires c κs = c .before .pre .0
 
--- src/lib.rt:148:9
 returns : tie.Need-returns
 returns c = (omega arith, λ st i q e k. highest-none st q (i .valid) k (sym ((c .before .count .ensures .1) st i) ∙ sym (c .if1 .taken) ∙ e))
 
--- src/lib.rt:150:9
 row-at-requires : tie.Need-row-at-requires
 row-at-requires c κs = (c .before .before .before .pre .0, omega (arith, c .before .count .ensures .0))
 
--- src/lib.rt:151:5
 label-requires : tie.Need-label-requires
 label-requires c κs =
     let start = c .before .before .before .before in (
@@ -37,11 +33,9 @@ label-requires c κs =
       ),
     )
 
--- src/lib.rt:151:5
 cast-result : tie.Need-cast-result
 cast-result c = search needs
 
--- src/lib.rt:141:1
 returns-2 : tie.Need-returns-2
 returns-2 c =
     let start = c .before .before .before .before .before in (

@@ -10,35 +10,27 @@ use Rattle.fast_compare.proofs.index_of.Lts as lts
 use Rattle.words.proofs.get.Reads as get-reads
 use Rattle.words.proofs.payload.Reads as payload-reads
 
--- src/lib.rt:95:21
 get-requires : tie.Need-get-requires
 get-requires c κs = search needs
 
--- src/lib.rt:95:21
 cast-variables : tie.Need-cast-variables
 cast-variables c = search needs
 
--- src/lib.rt:96:47
 add-get : tie.Need-add-get
 add-get c = search needs
 
--- src/lib.rt:96:40
 mul-get : tie.Need-mul-get
 mul-get c = omega (arith, row-room (c .before .before .args .map .now) (c .before .before .pre .0) (c .before .before .args .row) (c .get .result) (c .before .before .pre .1) (c .get .ensures))
 
--- src/lib.rt:96:36
 add-get-2 : tie.Need-add-get-2
 add-get-2 c = omega (arith, row-room (c .before .before .args .map .now) (c .before .before .pre .0) (c .before .before .args .row) (c .get .result) (c .before .before .pre .1) (c .get .ensures))
 
--- src/lib.rt:96:20
 get-requires-2 : tie.Need-get-requires-2
 get-requires-2 c κs = omega (arith, row-room (c .before .before .args .map .now) (c .before .before .pre .0) (c .before .before .args .row) (c .get .result) (c .before .before .pre .1) (c .get .ensures))
 
--- src/lib.rt:96:5
 payload-requires : tie.Need-payload-requires
 payload-requires c κs = search needs
 
--- src/lib.rt:90:1
 returns : tie.Need-returns
 returns c = λ st i. (c .payload .ensures) ∙ rw (c .before .get2 .ensures, c .before .before .get .ensures) (index-of (c .before .before .before .before .args .map .now) st i (c .before .before .before .before .args .row) (omega (arith, c .before .before .before .before .pre .1, count-of (c .before .before .before .before .args .map .now) st i)))
 

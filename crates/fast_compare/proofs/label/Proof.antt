@@ -9,39 +9,30 @@ use Rattle.fast_compare.proofs.label.Reads as reads
 use Rattle.fast_compare.proofs.label.Lts as lts
 use Rattle.words.proofs.get.Reads as get-reads
 
--- src/lib.rt:82:21
 get-requires : tie.Need-get-requires
 get-requires c κs = search needs
 
--- src/lib.rt:82:21
 cast-variables : tie.Need-cast-variables
 cast-variables c = search needs
 
--- src/lib.rt:83:32
 add-get : tie.Need-add-get
 add-get c = omega (arith, row-room (c .before .before .args .map .now) (c .before .before .pre .0) (c .before .before .args .row) (c .get .result) (c .before .before .pre .1) (c .get .ensures))
 
--- src/lib.rt:83:25
 mul-get : tie.Need-mul-get
 mul-get c = omega (arith, row-room (c .before .before .args .map .now) (c .before .before .pre .0) (c .before .before .args .row) (c .get .result) (c .before .before .pre .1) (c .get .ensures))
 
--- src/lib.rt:83:21
 add-get-2 : tie.Need-add-get-2
 add-get-2 c = omega (arith, row-room (c .before .before .args .map .now) (c .before .before .pre .0) (c .before .before .args .row) (c .get .result) (c .before .before .pre .1) (c .get .ensures))
 
--- src/lib.rt:83:50
 add-get-3 : tie.Need-add-get-3
 add-get-3 c = omega (arith, row-room (c .before .before .args .map .now) (c .before .before .pre .0) (c .before .before .args .row) (c .get .result) (c .before .before .pre .1) (c .get .ensures))
 
--- src/lib.rt:83:21
 add-get-4 : tie.Need-add-get-4
 add-get-4 c = omega (arith, row-room (c .before .before .args .map .now) (c .before .before .pre .0) (c .before .before .args .row) (c .get .result) (c .before .before .pre .1) (c .get .ensures))
 
--- src/lib.rt:83:5
 get-requires-2 : tie.Need-get-requires-2
 get-requires-2 c κs = omega (arith, row-room (c .before .before .args .map .now) (c .before .before .pre .0) (c .before .before .args .row) (c .get .result) (c .before .before .pre .1) (c .get .ensures))
 
--- src/lib.rt:77:1
 returns : tie.Need-returns
 returns c =
     let start = c .before .before .before in

@@ -6,27 +6,21 @@ use Rattle.fast_compare.proofs.length.Tie as tie
 use Rattle.fast_compare.proofs.length.Reads as reads
 use Rattle.fast_compare.proofs.length.Lts as lts
 
--- src/lib.rt:47:26
 add-result : tie.Need-add-result
 add-result c = search needs
 
--- src/lib.rt:47:14
 mul-result : tie.Need-mul-result
 mul-result c = omega (arith, rows-small (c .args .variables) (c .args .capacity) (omega arith) (omega arith))
 
--- src/lib.rt:47:10
 add-result-2 : tie.Need-add-result-2
 add-result-2 c = omega (arith, rows-small (c .args .variables) (c .args .capacity) (omega arith) (omega arith))
 
--- src/lib.rt:47:10
 add-result-3 : tie.Need-add-result-3
 add-result-3 c = omega (arith, rows-small (c .args .variables) (c .args .capacity) (omega arith) (omega arith))
 
--- src/lib.rt:47:5
 mul-result-2 : tie.Need-mul-result-2
 mul-result-2 c = omega (arith, rows-small (c .args .variables) (c .args .capacity) (omega arith) (omega arith))
 
--- src/lib.rt:43:1
 returns : tie.Need-returns
 returns c = search needs
 

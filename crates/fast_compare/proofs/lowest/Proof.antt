@@ -12,19 +12,15 @@ use Rattle.fast_compare.proofs.lowest.Lts as lts
 use Rattle.fast_compare.proofs.label.Reads as label-reads
 use Rattle.fast_compare.proofs.row_at.Reads as row-at-reads
 
--- src/lib.rt:134:9
 returns : tie.Need-returns
 returns c = (omega arith, λ st i q e. lowest-none st q (i .valid) (sym (c .if1 .taken) ∙ e))
 
--- src/lib.rt:136:27
 sub-row-at : tie.Need-sub-row-at
 sub-row-at c = search needs
 
--- src/lib.rt:136:9
 row-at-requires : tie.Need-row-at-requires
 row-at-requires c κs = (c .before .before .pre .0, omega arith)
 
--- src/lib.rt:137:5
 label-requires : tie.Need-label-requires
 label-requires c κs =
     let start = c .before .before .before in (
@@ -36,15 +32,12 @@ label-requires c κs =
       ),
     )
 
--- src/lib.rt:137:5
 cast-result : tie.Need-cast-result
 cast-result c = search needs
 
--- src/lib.rt:137:5
 add-result : tie.Need-add-result
 add-result c = search needs
 
--- src/lib.rt:127:1
 returns-2 : tie.Need-returns-2
 returns-2 c =
     let start = c .before .before .before .before in (

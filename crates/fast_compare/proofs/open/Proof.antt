@@ -7,51 +7,39 @@ use Rattle.fast_compare.proofs.open.Lts as lts
 use Rattle.words.proofs.put.Reads as put-reads
 use Rattle.words.proofs.runs.clear.Reads as clear-reads
 
--- src/lib.rt:241:5
 put-requires : tie.Need-put-requires
 put-requires c κs = search needs
 
--- src/lib.rt:242:24
 cast-put : tie.Need-cast-put
 cast-put c = search needs
 
--- src/lib.rt:242:5
 put-requires-2 : tie.Need-put-requires-2
 put-requires-2 c κs = search needs
 
--- src/lib.rt:243:24
 cast-put-2 : tie.Need-cast-put-2
 cast-put-2 c = search needs
 
--- src/lib.rt:243:5
 put-requires-3 : tie.Need-put-requires-3
 put-requires-3 c κs = search needs
 
--- src/lib.rt:244:48
 add-clear : tie.Need-add-clear
 add-clear c = search needs
 
--- src/lib.rt:244:36
 mul-clear : tie.Need-mul-clear
 mul-clear c = search needs
 
--- src/lib.rt:244:32
 add-clear-2 : tie.Need-add-clear-2
 add-clear-2 c = search needs
 
--- src/lib.rt:244:32
 add-clear-3 : tie.Need-add-clear-3
 add-clear-3 c = search needs
 
--- src/lib.rt:244:5
 clear-requires : tie.Need-clear-requires
 clear-requires c κs = search needs
 
--- src/lib.rt:236:1
 same-length : tie.Need-same-length
 same-length c = search needs
 
--- src/lib.rt:236:1
 returns : tie.Need-returns
 returns c =
     let clear = c .before .before .clear in

@@ -49,104 +49,80 @@ spot-at c =
 
 -- end of helpers
 
--- src/lib.rt:222:21
 get-requires : tie.Need-get-requires Inv-loop μ-loop
 get-requires c κs = omega (arith, head (c .before .before .args .map .now) (c .before .before .pre) .room)
 
--- src/lib.rt:222:21
 cast-variables : tie.Need-cast-variables Inv-loop μ-loop
 cast-variables c = search needs
 
--- src/lib.rt:223:20
 get-requires-2 : tie.Need-get-requires-2 Inv-loop μ-loop
 get-requires-2 c κs = omega (arith, head (c .before .before .before .before .args .map .now) (c .before .before .before .before .pre) .room)
 
--- src/lib.rt:223:20
 cast-capacity : tie.Need-cast-capacity Inv-loop μ-loop
 cast-capacity c = search needs
 
--- src/lib.rt:224:13
 get-requires-3 : tie.Need-get-requires-3 Inv-loop μ-loop
 get-requires-3 c κs =
     let start = c .before .before .before .before .before .before in
     omega (arith, head (start .args .map .now) (start .pre) .room)
 
--- src/lib.rt:224:13
 cast-n : tie.Need-cast-n Inv-loop μ-loop
 cast-n c = search needs
 
--- src/lib.rt:225:33
 add-order : tie.Need-add-order Inv-loop μ-loop
 add-order c = search needs
 
--- src/lib.rt:225:21
 mul-order : tie.Need-mul-order Inv-loop μ-loop
 mul-order c = let f = fit-at (c) in omega (arith, f .rows)
 
--- src/lib.rt:225:17
 add-order-2 : tie.Need-add-order-2 Inv-loop μ-loop
 add-order-2 c = let f = fit-at (c) in omega (arith, f .rows)
 
--- src/lib.rt:227:5
 loop-holds : tie.Need-loop-holds Inv-loop μ-loop
 loop-holds c =
     let slice-known = c .before .before .before .before .before .before .slice-known in
     let start = c .before .before .before .before .before .before .before in
     respace-start (start .args .map .now) (λ j. (slice-known .given) j .fits)
 
--- src/lib.rt:228:35
 add-get : tie.Need-add-get Inv-loop μ-loop
 add-get c = let f = fit-at (c .before .before .before) in omega (arith, f .rows, f .few, f .cap)
 
--- src/lib.rt:228:19
 get-requires-4 : tie.Need-get-requires-4 Inv-loop μ-loop
 get-requires-4 c κs = let f = fit-at (c .before .before .before) in omega (arith, f .room, f .few, c .before .before .loop .inv .long)
 
--- src/lib.rt:228:19
 cast-row : tie.Need-cast-row Inv-loop μ-loop
 cast-row c = search needs
 
--- src/lib.rt:229:31
 add-spaced : tie.Need-add-spaced Inv-loop μ-loop
 add-spaced c = let f = fit-at (c .before .before .before .before) in omega (arith, f .few, f .cap)
 
--- src/lib.rt:229:13
 spaced-requires : tie.Need-spaced-requires Inv-loop μ-loop
 spaced-requires c κs = let f = fit-at (c .before .before .before .before) in (omega arith, omega (arith, f .few, f .cap))
 
--- src/lib.rt:230:36
 add-put : tie.Need-add-put Inv-loop μ-loop
 add-put c = search needs
 
--- src/lib.rt:230:29
 mul-put : tie.Need-mul-put Inv-loop μ-loop
 mul-put c = let s = spot-at (c .before .before) in omega (arith, s .below-c, s .rows)
 
--- src/lib.rt:230:25
 add-put-2 : tie.Need-add-put-2 Inv-loop μ-loop
 add-put-2 c = let s = spot-at (c .before .before) in omega (arith, s .below-c, s .rows, s .vars)
 
--- src/lib.rt:230:54
 add-put-3 : tie.Need-add-put-3 Inv-loop μ-loop
 add-put-3 c = let s = spot-at (c .before .before) in omega (arith, s .below-c, s .rows, s .vars)
 
--- src/lib.rt:230:25
 add-put-4 : tie.Need-add-put-4 Inv-loop μ-loop
 add-put-4 c = let s = spot-at (c .before .before) in omega (arith, s .below-c, s .rows, s .vars)
 
--- src/lib.rt:230:9
 put-requires : tie.Need-put-requires Inv-loop μ-loop
 put-requires c κs = let s = spot-at (c .before .before) in omega (arith, s .below-c, s .room, c .before .before .before .before .before .loop .inv .long)
 
--- src/lib.rt:231:9
 add-k : tie.Need-add-k Inv-loop μ-loop
 add-k c = let f = fit-at (c .before .before .before .before .before .before .before .before .before) in omega (arith, f .few, f .cap)
 
--- src/lib.rt:227:5
 loop-less : tie.Need-loop-less Inv-loop μ-loop
 loop-less c = search needs
 
--- src/lib.rt:227:5
 loop-again : tie.Need-loop-again Inv-loop μ-loop
 loop-again c =
     let put = c .before .before .put in
@@ -162,11 +138,9 @@ loop-again c =
     (get3 .result) (get4 .result) (get .ensures) (get2 .ensures) (get3 .ensures) (get4 .ensures) (put .last .0) (spaced .result) (spaced .ensures)
     (omega (arith, spaced .ensures, spaced-top (get3 .result) ((loop .k) + 1) (omega arith))) (put .ensures)
 
--- src/lib.rt:218:1
 same-length : tie.Need-same-length Inv-loop μ-loop
 same-length c = c .before .loop .inv .long
 
--- src/lib.rt:218:1
 returns : tie.Need-returns Inv-loop μ-loop
 returns c =
     let loop = c .before .loop in

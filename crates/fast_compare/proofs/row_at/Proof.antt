@@ -23,47 +23,36 @@ facts s v c e g =
 
 -- end of helpers
 
--- src/lib.rt:71:21
 get-requires : tie.Need-get-requires
 get-requires c κs = search needs
 
--- src/lib.rt:71:21
 cast-variables : tie.Need-cast-variables
 cast-variables c = search needs
 
--- src/lib.rt:72:20
 get-requires-2 : tie.Need-get-requires-2
 get-requires-2 c κs = search needs
 
--- src/lib.rt:72:20
 cast-capacity : tie.Need-cast-capacity
 cast-capacity c = search needs
 
--- src/lib.rt:73:37
 add-get : tie.Need-add-get
 add-get c = search needs
 
--- src/lib.rt:73:25
 mul-get : tie.Need-mul-get
 mul-get c = omega (arith, facts (c .before .before .before) (c .before .get .result) (c .get2 .result) (c .before .get .ensures) (c .get2 .ensures))
 
--- src/lib.rt:73:21
 add-get-2 : tie.Need-add-get-2
 add-get-2 c = omega (arith, facts (c .before .before .before) (c .before .get .result) (c .get2 .result) (c .before .get .ensures) (c .get2 .ensures))
 
--- src/lib.rt:73:21
 add-get-3 : tie.Need-add-get-3
 add-get-3 c = omega (arith, facts (c .before .before .before) (c .before .get .result) (c .get2 .result) (c .before .get .ensures) (c .get2 .ensures))
 
--- src/lib.rt:73:5
 get-requires-3 : tie.Need-get-requires-3
 get-requires-3 c κs = omega (arith, facts (c .before .before .before) (c .before .get .result) (c .get2 .result) (c .before .get .ensures) (c .get2 .ensures))
 
--- src/lib.rt:73:5
 cast-result : tie.Need-cast-result
 cast-result c = search needs
 
--- src/lib.rt:66:1
 returns : tie.Need-returns
 returns c =
     let start = c .before .before .before .before in

@@ -23,33 +23,26 @@ Inv-loop map index ratio t lo₀ hi₀ lo hi = (hi ≤ getD (words map) 3 0) × 
 abbrev μ-loop : tie.MeasureT-loop
 μ-loop map index ratio t lo₀ hi₀ lo hi = hi - lo
 
--- src/lib.rt:108:9
 total-of-requires : tie.Need-total-of-requires Inv-loop μ-loop
 total-of-requires c κs = ((omega arith, omega arith), starts-whole (c .before .before .pre .1))
 
--- src/lib.rt:110:9
 count-requires : tie.Need-count-requires Inv-loop μ-loop
 count-requires c κs = c .before .before .before .pre .0
 
--- src/lib.rt:111:5
 loop-holds : tie.Need-loop-holds Inv-loop μ-loop
 loop-holds c = let start = (c .before .before .before .before) in
     (omega (arith, c .count .ensures .0), λ st i. seek-start st (valueOf (start .args .index) (words (start .args .ratio .now))) (c .count .result) ((c .count .ensures .1) st i))
 
--- src/lib.rt:112:25
 sub-mid : tie.Need-sub-mid Inv-loop μ-loop
 sub-mid c = search needs
 
--- src/lib.rt:112:19
 add-mid : tie.Need-add-mid Inv-loop μ-loop
 add-mid c = let start = (c .before .before .before .before .before .before) in
     omega (arith, c .before .loop .inv .0, head (start .args .map .now) (start .pre .0) .few, head (start .args .map .now) (start .pre .0) .cap)
 
--- src/lib.rt:113:13
 row-at-requires : tie.Need-row-at-requires Inv-loop μ-loop
 row-at-requires c κs = (c .before .before .before .before .before .before .pre .0, omega (arith, c .before .loop .inv .0))
 
--- src/lib.rt:114:13
 compare-requires : tie.Need-compare-requires Inv-loop μ-loop
 compare-requires c κs = let start = (c .before .before .before .before .before .before .before) in (
   start .pre .0,
@@ -59,20 +52,16 @@ compare-requires c κs = let start = (c .before .before .before .before .before 
   ),
 )
 
--- src/lib.rt:117:22
 enum-told : tie.Need-enum-told Inv-loop μ-loop
 enum-told c = search needs
 
--- src/lib.rt:117:22
 add-lo : tie.Need-add-lo Inv-loop μ-loop
 add-lo c = let start = (c .before .before .before .before .before .before .before .before .before .before) in
     omega (arith, c .before .before .before .before .before .loop .inv .0, head (start .args .map .now) (start .pre .0) .few, head (start .args .map .now) (start .pre .0) .cap)
 
--- src/lib.rt:111:5
 loop-less : tie.Need-loop-less Inv-loop μ-loop
 loop-less c = search needs
 
--- src/lib.rt:111:5
 loop-again : tie.Need-loop-again Inv-loop μ-loop
 loop-again c = let loop = (c .before .before .before .before .before .loop) in
     let start = (c .before .before .before .before .before .before .before .before .before .before) in (
@@ -81,26 +70,21 @@ loop-again c = let loop = (c .before .before .before .before .before .loop) in
           (mid-high (loop .lo) (loop .hi) (c .before .before .before .before .loop-test .taken)) ((c .before .before .before .row-at .ensures) st i .1) (c .before .before .compare .result) ((c .before .before .compare .ensures) st i) (c .enum-told .given .1),
     )
 
--- src/lib.rt:120:17
 enum-told-2 : tie.Need-enum-told-2 Inv-loop μ-loop
 enum-told-2 c = search needs
 
--- src/lib.rt:120:17
 returns : tie.Need-returns Inv-loop μ-loop
 returns c = let loop = (c .before .before .before .before .before .loop) in
     let start = (c .before .before .before .before .before .before .before .before .before .before) in
     λ st i. seek-equal (start .args .map .now) st i (valueOf (start .args .index) (words (start .args .ratio .now))) (loop .lo) (loop .hi) (loop .lo + (loop .hi - loop .lo) / 2) (c .before .before .before .row-at .result) ((loop .inv .1) st i)
     (mid-high (loop .lo) (loop .hi) (c .before .before .before .before .loop-test .taken)) ((c .before .before .before .row-at .ensures) st i .1) (c .before .before .compare .result) ((c .before .before .compare .ensures) st i) (c .enum-told2 .given .1)
 
--- src/lib.rt:123:17
 enum-told-3 : tie.Need-enum-told-3 Inv-loop μ-loop
 enum-told-3 c = search needs
 
--- src/lib.rt:111:5
 loop-less-2 : tie.Need-loop-less-2 Inv-loop μ-loop
 loop-less-2 c = search needs
 
--- src/lib.rt:111:5
 loop-again-2 : tie.Need-loop-again-2 Inv-loop μ-loop
 loop-again-2 c = let loop = (c .before .before .before .before .before .loop) in
     let start = (c .before .before .before .before .before .before .before .before .before .before) in (
@@ -109,7 +93,6 @@ loop-again-2 c = let loop = (c .before .before .before .before .before .loop) in
           (mid-high (loop .lo) (loop .hi) (c .before .before .before .before .loop-test .taken)) ((c .before .before .before .row-at .ensures) st i .1) (c .before .before .compare .result) ((c .before .before .compare .ensures) st i) (c .enum-told3 .given .1),
     )
 
--- src/lib.rt:103:1
 returns-2 : tie.Need-returns-2 Inv-loop μ-loop
 returns-2 c = let loop = (c .before .loop) in
     let start = (c .before .before .before .before .before .before) in

@@ -6,23 +6,18 @@ use Rattle.fast_compare.proofs.spaced.Tie as tie
 use Rattle.fast_compare.proofs.spaced.Reads as reads
 use Rattle.fast_compare.proofs.spaced.Lts as lts
 
--- src/lib.rt:214:6
 mul-result : tie.Need-mul-result
 mul-result c = search needs
 
--- src/lib.rt:214:31
 add-result : tie.Need-add-result
 add-result c = search needs
 
--- src/lib.rt:214:6
 div-result : tie.Need-div-result
 div-result c = search needs
 
--- src/lib.rt:214:5
 cast-result : tie.Need-cast-result
 cast-result c = omega (arith, spaced-top (c .args .n) (c .args .k) (c .pre .0))
 
--- src/lib.rt:210:1
 returns : tie.Need-returns
 returns c = search needs
 

@@ -53,75 +53,57 @@ fit-at c =
 
 -- end of helpers
 
--- src/lib.rt:161:21
 get-requires : tie.Need-get-requires
 get-requires c κs = search needs
 
--- src/lib.rt:161:21
 cast-variables : tie.Need-cast-variables
 cast-variables c = search needs
 
--- src/lib.rt:162:20
 get-requires-2 : tie.Need-get-requires-2
 get-requires-2 c κs = search needs
 
--- src/lib.rt:162:20
 cast-capacity : tie.Need-cast-capacity
 cast-capacity c = search needs
 
--- src/lib.rt:163:13
 get-requires-3 : tie.Need-get-requires-3
 get-requires-3 c κs = search needs
 
--- src/lib.rt:163:13
 cast-n : tie.Need-cast-n
 cast-n c = search needs
 
--- src/lib.rt:164:33
 add-order : tie.Need-add-order
 add-order c = search needs
 
--- src/lib.rt:164:21
 mul-order : tie.Need-mul-order
 mul-order c = let f = fit-at (c) in omega (arith, f .vars, f .cap, f .less, f .rows, f .used)
 
--- src/lib.rt:164:17
 add-order-2 : tie.Need-add-order-2
 add-order-2 c = let f = fit-at (c) in omega (arith, f .vars, f .cap, f .less, f .place, f .rows, f .used)
 
--- src/lib.rt:165:23
 add-at : tie.Need-add-at
 add-at c = search needs
 
--- src/lib.rt:165:18
 mul-at : tie.Need-mul-at
 mul-at c = let f = fit-at (c) in omega (arith, f .vars, f .cap, f .less, f .rows, f .used)
 
--- src/lib.rt:165:14
 add-at-2 : tie.Need-add-at-2
 add-at-2 c = let f = fit-at (c) in omega (arith, f .vars, f .cap, f .less, f .place, f .rows, f .used)
 
--- src/lib.rt:166:30
 add-insert : tie.Need-add-insert
 add-insert c = let f = fit-at (c .before) in omega (arith, f .vars, f .cap, f .less, f .place, f .rows, f .used)
 
--- src/lib.rt:166:41
 add-insert-2 : tie.Need-add-insert-2
 add-insert-2 c = let f = fit-at (c .before) in omega (arith, f .vars, f .cap, f .less, f .place, f .rows, f .used)
 
--- src/lib.rt:166:52
 cast-insert : tie.Need-cast-insert
 cast-insert c = search needs
 
--- src/lib.rt:166:5
 insert-requires : tie.Need-insert-requires
 insert-requires c κs = let f = fit-at (c .before) in (omega (arith, f .place), omega (arith, f .less, f .room))
 
--- src/lib.rt:167:25
 index-word-requires : tie.Need-index-word-requires
 index-word-requires c κs = search needs
 
--- src/lib.rt:167:5
 put-requires : tie.Need-put-requires
 put-requires c κs =
     let insert = c .before .before .before .before .insert in
@@ -129,35 +111,30 @@ put-requires c κs =
     let f = fit-at before in
     omega (arith, f .used, f .room, insert .kept .0)
 
--- src/lib.rt:168:29
 add-paste : tie.Need-add-paste
 add-paste c =
     let b9 = c .before .before .before .before .before .before .before .before .before in
     let f = fit-at (b9 .before) in
     omega (arith, f .vars, f .cap, f .less, f .place, f .rows, f .used)
 
--- src/lib.rt:168:5
 paste-requires : tie.Need-paste-requires
 paste-requires c κs =
     let b8 = c .before .before .before .before .before .before .before .before in
     let f = fit-at (b8 .before .before) in
     omega (arith, f .used, f .room, f .ratio, b8 .insert .kept .0, c .before .before .before .put .kept .0)
 
--- src/lib.rt:169:27
 add-put : tie.Need-add-put
 add-put c =
     let b13 = c .before .before .before .before .before .before .before .before .before .before .before .before .before in
     let f = fit-at (b13 .before) in
     omega (arith, f .vars, f .cap, f .less, f .place, f .rows, f .used)
 
--- src/lib.rt:169:21
 add-put-2 : tie.Need-add-put-2
 add-put-2 c =
     let b13 = c .before .before .before .before .before .before .before .before .before .before .before .before .before in
     let f = fit-at (b13 .before) in
     omega (arith, f .vars, f .cap, f .less, f .place, f .rows, f .used)
 
--- src/lib.rt:169:5
 put-requires-2 : tie.Need-put-requires-2
 put-requires-2 c κs =
     let b7 = c .before .before .before .before .before .before .before in
@@ -166,18 +143,15 @@ put-requires-2 c κs =
     let f = fit-at before in
     omega (arith, f .used, f .room, insert .kept .0, b7 .put .kept .0, c .before .before .before .paste .kept .0)
 
--- src/lib.rt:170:24
 cast-put : tie.Need-cast-put
 cast-put c = search needs
 
--- src/lib.rt:170:24
 add-put-3 : tie.Need-add-put-3
 add-put-3 c =
     let b17 = c .before .before .before .before .before .before .before .before .before .before .before .before .before .before .before .before .before in
     let f = fit-at (b17 .before) in
     omega (arith, f .vars, f .cap, f .less, f .place, f .rows, f .used)
 
--- src/lib.rt:170:5
 put-requires-3 : tie.Need-put-requires-3
 put-requires-3 c κs =
     let b7 = c .before .before .before .before .before .before .before in
@@ -186,11 +160,9 @@ put-requires-3 c κs =
     let f = fit-at (b16 .before .before) in
     omega (arith, f .used, f .room, b16 .insert .kept .0, put .kept .0, b7 .paste .kept .0, c .before .before .before .put2 .kept .0)
 
--- src/lib.rt:155:1
 same-length : tie.Need-same-length
 same-length c = search needs
 
--- src/lib.rt:155:1
 returns : tie.Need-returns
 returns c =
     let put3 = c .before .before .put3 in

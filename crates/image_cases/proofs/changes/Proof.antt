@@ -14,31 +14,24 @@ Inv-loop image₀ n t₀ i₀ image t i = (i ≤ n) × (length image ≡ length 
 abbrev μ-loop : tie.MeasureT-loop
 μ-loop image₀ n t₀ i₀ image t i = n - i
 
--- src/main.rt:99:5
 loop-holds : tie.Need-loop-holds Inv-loop μ-loop
 loop-holds c = search needs
 
--- src/main.rt:100:9
 word-changes-requires : tie.Need-word-changes-requires Inv-loop μ-loop
 word-changes-requires c κs = search needs
 
--- src/main.rt:101:9
 add-i : tie.Need-add-i Inv-loop μ-loop
 add-i c = search needs
 
--- src/main.rt:99:5
 loop-less : tie.Need-loop-less Inv-loop μ-loop
 loop-less c = search needs
 
--- src/main.rt:99:5
 loop-again : tie.Need-loop-again Inv-loop μ-loop
 loop-again c = search needs
 
--- src/main.rt:91:1
 same-length : tie.Need-same-length Inv-loop μ-loop
 same-length c = search needs
 
--- src/main.rt:91:1
 returns : tie.Need-returns Inv-loop μ-loop
 returns c = search needs
 

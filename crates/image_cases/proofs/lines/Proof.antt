@@ -15,67 +15,51 @@ Inv-loop s₀ at₀ s at = (at ≤ length s) × (length s ≡ length s₀)
 abbrev μ-loop : tie.MeasureT-loop
 μ-loop s₀ at₀ s at = length s₀ - at
 
--- src/main.rt:153:5
 loop-holds : tie.Need-loop-holds Inv-loop μ-loop
 loop-holds c = search needs
 
--- src/main.rt:154:24
 sub-record : tie.Need-sub-record Inv-loop μ-loop
 sub-record c = search needs
 
--- src/main.rt:154:24
 part-record-start : tie.Need-part-record-start Inv-loop μ-loop
 part-record-start c = search needs
 
--- src/main.rt:154:24
 part-record-end : tie.Need-part-record-end Inv-loop μ-loop
 part-record-end c = search needs
 
--- src/main.rt:154:13
 record-requires : tie.Need-record-requires Inv-loop μ-loop
 record-requires c κs = search needs
 
--- src/main.rt:156:20
 sub-result : tie.Need-sub-result Inv-loop μ-loop
 sub-result c = search needs
 
--- src/main.rt:156:13
 same-length : tie.Need-same-length Inv-loop μ-loop
 same-length c = search needs
 
--- src/main.rt:156:13
 returns : tie.Need-returns Inv-loop μ-loop
 returns c = search needs
 
--- src/main.rt:158:17
 add-a : tie.Need-add-a Inv-loop μ-loop
 add-a c = search needs
 
--- src/main.rt:159:17
 add-e : tie.Need-add-e Inv-loop μ-loop
 add-e c = search needs
 
--- src/main.rt:160:14
 sub-line : tie.Need-sub-line Inv-loop μ-loop
 sub-line c = search needs
 
--- src/main.rt:160:14
 part-line-start : tie.Need-part-line-start Inv-loop μ-loop
 part-line-start c = search needs
 
--- src/main.rt:160:14
 part-line-end : tie.Need-part-line-end Inv-loop μ-loop
 part-line-end c = search needs
 
--- src/main.rt:160:9
 line-requires : tie.Need-line-requires Inv-loop μ-loop
 line-requires c κs = search needs
 
--- src/main.rt:153:5
 loop-less : tie.Need-loop-less Inv-loop μ-loop
 loop-less c = search needs
 
--- src/main.rt:153:5
 loop-again : tie.Need-loop-again Inv-loop μ-loop
 loop-again c = search needs
 

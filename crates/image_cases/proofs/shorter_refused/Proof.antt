@@ -18,39 +18,30 @@ Inv-loop image refused₀ n₀ refused n = n ≤ length image
 abbrev μ-loop : tie.MeasureT-loop
 μ-loop image refused₀ n₀ refused n = length image - n
 
--- src/main.rt:110:5
 loop-holds : tie.Need-loop-holds Inv-loop μ-loop
 loop-holds c = search needs
 
--- src/main.rt:111:82
 slice-aggregate-sound : tie.Need-slice-aggregate-sound Inv-loop μ-loop
 slice-aggregate-sound c = sym (length-take-le (c .before .before .loop .n) _ (omega (arith, c .before .before .loop .inv)))
 
--- src/main.rt:111:63
 sound-requires : tie.Need-sound-requires Inv-loop μ-loop
 sound-requires c κs = search needs
 
--- src/main.rt:111:55
 one-if-requires : tie.Need-one-if-requires Inv-loop μ-loop
 one-if-requires c κs = search needs
 
--- src/main.rt:111:9
 wrapping-add-u32-requires : tie.Need-wrapping-add-u32-requires Inv-loop μ-loop
 wrapping-add-u32-requires c κs = search needs
 
--- src/main.rt:112:9
 add-n : tie.Need-add-n Inv-loop μ-loop
 add-n c = search needs
 
--- src/main.rt:110:5
 loop-less : tie.Need-loop-less Inv-loop μ-loop
 loop-less c = search needs
 
--- src/main.rt:110:5
 loop-again : tie.Need-loop-again Inv-loop μ-loop
 loop-again c = search needs
 
--- src/main.rt:107:1
 returns : tie.Need-returns Inv-loop μ-loop
 returns c = search needs
 

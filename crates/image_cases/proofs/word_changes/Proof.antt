@@ -15,35 +15,27 @@ Inv-loop image₀ i t₀ c₀ image t c = (c ≤ 36) × (length image ≡ length
 abbrev μ-loop : tie.MeasureT-loop
 μ-loop image₀ i t₀ c₀ image t c = 36 - c
 
--- src/main.rt:84:5
 loop-holds : tie.Need-loop-holds Inv-loop μ-loop
 loop-holds c = search needs
 
--- src/main.rt:85:24
 asked-requires : tie.Need-asked-requires Inv-loop μ-loop
 asked-requires c κs = search needs
 
--- src/main.rt:85:9
 counted-requires : tie.Need-counted-requires Inv-loop μ-loop
 counted-requires c κs = search needs
 
--- src/main.rt:86:9
 add-c : tie.Need-add-c Inv-loop μ-loop
 add-c c = search needs
 
--- src/main.rt:84:5
 loop-less : tie.Need-loop-less Inv-loop μ-loop
 loop-less c = search needs
 
--- src/main.rt:84:5
 loop-again : tie.Need-loop-again Inv-loop μ-loop
 loop-again c = search needs
 
--- src/main.rt:79:1
 same-length : tie.Need-same-length Inv-loop μ-loop
 same-length c = search needs
 
--- src/main.rt:79:1
 returns : tie.Need-returns Inv-loop μ-loop
 returns c = search needs
 

@@ -7,15 +7,12 @@ use Rattle.index_image.proofs.length.Reads as reads
 use Rattle.index_image.proofs.length.Lts as lts
 use Rattle.index_image.proofs.Shape.size.Reads as size-reads
 
--- src/lib.rt:90:9
 size-requires : tie.Need-size-requires
 size-requires c κs = empty-range _ _ _ (c .pre .0) (c .pre .1)
 
--- src/lib.rt:90:5
 mul-result : tie.Need-mul-result
 mul-result c = omega (arith, c .size .ensures, size-small _ (empty-range _ _ _ (c .before .pre .0) (c .before .pre .1)))
 
--- src/lib.rt:79:1
 returns : tie.Need-returns
 returns c = is-length _ _ _ _ (c .before .pre .0) (c .before .pre .1) (c .size .ensures)
 

@@ -6,15 +6,12 @@ use Rattle.index_sound.proofs.divisor_index_check.Reads as reads
 use Rattle.index_sound.proofs.divisor_index_check.Lts as lts
 use Rattle.index_sound.proofs.sound.Reads as sound-reads
 
--- src/lib.rt:168:8
 sound-requires : tie.Need-sound-requires
 sound-requires c κs = search needs
 
--- src/lib.rt:164:1
 returns : tie.Need-returns
 returns c = judged-sound (c .before .before .before .args .image .now) _ (c .before .sound .ensures) (c .if1 .taken)
 
--- src/lib.rt:164:1
 returns-2 : tie.Need-returns-2
 returns-2 c = judged-unsound (c .before .before .before .args .image .now) _ (c .before .sound .ensures) (c .if1 .left)
 

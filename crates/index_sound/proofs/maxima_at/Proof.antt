@@ -6,39 +6,30 @@ use Rattle.index_sound.proofs.maxima_at.Reads as reads
 use Rattle.index_sound.proofs.maxima_at.Lts as lts
 use Rattle.divmask.proofs.tracker.maxima_good.Reads as maxima-good-reads
 
--- src/lib.rt:25:13
 mul-a : tie.Need-mul-a
 mul-a c = search needs
 
--- src/lib.rt:26:17
 mul-b : tie.Need-mul-b
 mul-b c = search needs
 
--- src/lib.rt:26:13
 add-b : tie.Need-add-b
 add-b c = search needs
 
--- src/lib.rt:27:35
 sub-maxima-good : tie.Need-sub-maxima-good
 sub-maxima-good c = search needs
 
--- src/lib.rt:27:35
 part-maxima-good-start : tie.Need-part-maxima-good-start
 part-maxima-good-start c = search needs
 
--- src/lib.rt:27:35
 part-maxima-good-end : tie.Need-part-maxima-good-end
 part-maxima-good-end c = search needs
 
--- src/lib.rt:27:49
 cast-maxima-good : tie.Need-cast-maxima-good
 cast-maxima-good c = search needs
 
--- src/lib.rt:27:5
 maxima-good-requires : tie.Need-maxima-good-requires
 maxima-good-requires c κs = search needs
 
--- src/lib.rt:21:1
 returns : tie.Need-returns
 returns c =
     maxima-is (c .before .before .before .args .image .now) (c .before .before .before .args .i) (c .before .before .before .args .variables) _

@@ -6,23 +6,18 @@ use Rattle.index_sound.proofs.maxima_ok.Reads as reads
 use Rattle.index_sound.proofs.maxima_ok.Lts as lts
 use Rattle.index_sound.proofs.maxima_at.Reads as maxima-at-reads
 
--- src/lib.rt:37:9
 maxima-at-requires : tie.Need-maxima-at-requires
 maxima-at-requires c κs = search needs
 
--- src/lib.rt:38:9
 returns : tie.Need-returns
 returns c = stop _ (c .before .maxima-at .ensures) (c .if1 .taken) (λ x. x .present)
 
--- src/lib.rt:40:25
 add-maxima-at : tie.Need-add-maxima-at
 add-maxima-at c = search needs
 
--- src/lib.rt:40:5
 maxima-at-requires-2 : tie.Need-maxima-at-requires-2
 maxima-at-requires-2 c κs = search needs
 
--- src/lib.rt:31:1
 returns-2 : tie.Need-returns-2
 returns-2 c =
     last _ (c .maxima-at2 .ensures) (λ x. record { present = passed _ (c .before .before .maxima-at .ensures) (c .before .if1 .left); map = x }) (λ x. x .map)

@@ -13,26 +13,21 @@ use Rattle.index_sound.proofs.tree_rows.Reads as tree-rows-reads
 use Rattle.words.proofs.get.Reads as get-reads
 use Rattle.words.proofs.runs.is_blank.Reads as is-blank-reads
 
--- src/lib.rt:119:26
 node-at-requires : tie.Need-node-at-requires
 node-at-requires c κs = search needs
 
--- src/lib.rt:119:26
 add-get : tie.Need-add-get
 add-get c =
     let start = c .before .before in
     let k = nodes-rest (start .args .image .now) (start .args .s) (start .pre) in
     omega (arith, k .first, c .node-at .ensures, k .small)
 
--- src/lib.rt:119:8
 get-requires : tie.Need-get-requires
 get-requires c κs = omega (arith, nodes-rest (c .before .before .args .image .now) (c .before .before .args .s) (c .before .before .pre) .first, c .node-at .ensures)
 
--- src/lib.rt:119:8
 cast-if1 : tie.Need-cast-if1
 cast-if1 c = search needs
 
--- src/lib.rt:120:9
 returns : tie.Need-returns
 returns c =
     let start = c .before .before .before .before .before in
@@ -40,47 +35,37 @@ returns c =
     no-tree (words (start .args .image .now)) (start .args .s) (start .pre) _ (c .before .before .get .ensures ∙ rw (node-at .ensures))
     (c .if1 .taken)
 
--- src/lib.rt:122:17
 mul-rest : tie.Need-mul-rest
 mul-rest c = search needs
 
--- src/lib.rt:122:17
 sub-rest : tie.Need-sub-rest
 sub-rest c = search needs
 
--- src/lib.rt:122:17
 sub-rest-2 : tie.Need-sub-rest-2
 sub-rest-2 c = search needs
 
--- src/lib.rt:122:50
 add-rest : tie.Need-add-rest
 add-rest c = search needs
 
--- src/lib.rt:122:16
 mul-rest-2 : tie.Need-mul-rest-2
 mul-rest-2 c =
     let start = c .before .before .before .before .before .before .before .before in
     omega (arith, nodes-rest (start .args .image .now) (start .args .s) (start .pre) .fits)
 
--- src/lib.rt:123:38
 node-at-requires-2 : tie.Need-node-at-requires-2
 node-at-requires-2 c κs = search needs
 
--- src/lib.rt:123:9
 is-blank-requires : tie.Need-is-blank-requires
 is-blank-requires c κs =
     let start = c .before .before .before .before .before .before .before .before .before in
     omega (arith, nodes-rest (start .args .image .now) (start .args .s) (start .pre) .room, c .node-at2 .ensures)
 
--- src/lib.rt:124:9
 returns-2 : tie.Need-returns-2
 returns-2 c = stop _ (rw (c .before .before .node-at2 .ensures) at (c .before .is-blank .ensures)) (c .if2 .taken) (λ n. n .rest)
 
--- src/lib.rt:126:5
 tree-rows-requires : tie.Need-tree-rows-requires
 tree-rows-requires c κs = search needs
 
--- src/lib.rt:115:1
 returns-3 : tie.Need-returns-3
 returns-3 c =
     let start = c .before .before .before .before .before .before .before .before .before .before .before .before .before in

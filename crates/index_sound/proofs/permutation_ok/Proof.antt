@@ -10,42 +10,33 @@ use Rattle.index_image.proofs.marks.all_named.Reads as all-named-reads
 use Rattle.index_image.proofs.marks.in_range.Reads as in-range-reads
 use Rattle.words.proofs.runs.is_blank.Reads as is-blank-reads
 
--- src/lib.rt:63:9
 permutation-at-requires : tie.Need-permutation-at-requires
 permutation-at-requires c κs = search needs
 
--- src/lib.rt:65:9
 in-range-requires : tie.Need-in-range-requires
 in-range-requires c κs = search needs
 
--- src/lib.rt:66:9
 returns : tie.Need-returns
 returns c = stop _ (rw (c .before .before .permutation-at .ensures) at (c .before .in-range .ensures)) (c .if1 .taken) (λ x. x .places)
 
--- src/lib.rt:68:9
 all-named-requires : tie.Need-all-named-requires
 all-named-requires c κs =
     let start = c .before .before .before .before in
     places-can (start .args .image .now) (start .args .s) (start .pre .0) (start .pre .1) _ (c .before .before .permutation-at .ensures)
     (passed _ (c .before .in-range .ensures) (c .if1 .left))
 
--- src/lib.rt:69:9
 returns-2 : tie.Need-returns-2
 returns-2 c = stop _ (rw (c .before .before .before .before .permutation-at .ensures) at (c .before .all-named .ensures)) (c .if2 .taken) (λ x. x .all)
 
--- src/lib.rt:71:34
 add-is-blank : tie.Need-add-is-blank
 add-is-blank c = search needs
 
--- src/lib.rt:71:41
 sub-is-blank : tie.Need-sub-is-blank
 sub-is-blank c = search needs
 
--- src/lib.rt:71:5
 is-blank-requires : tie.Need-is-blank-requires
 is-blank-requires c κs = search needs
 
--- src/lib.rt:58:1
 returns-3 : tie.Need-returns-3
 returns-3 c =
     let permutation-at = c .before .before .before .before .before .before .permutation-at in

@@ -12,47 +12,36 @@ use Rattle.index_image.proofs.Shape.labels_at.Reads as labels-at-reads
 use Rattle.index_image.proofs.marks.all_named.Reads as all-named-reads
 use Rattle.words.proofs.get.Reads as get-reads
 
--- src/lib.rt:83:9
 returns : tie.Need-returns
 returns c = monomial-holds (c .before .before .before .args .s) (c .if1 .taken)
 
--- src/lib.rt:85:13
 entry-at-requires : tie.Need-entry-at-requires
 entry-at-requires c κs = search needs
 
--- src/lib.rt:85:30
 mul-e : tie.Need-mul-e
 mul-e c = search needs
 
--- src/lib.rt:85:30
 add-e : tie.Need-add-e
 add-e c = search needs
 
--- src/lib.rt:85:13
 add-e-2 : tie.Need-add-e-2
 add-e-2 c = search needs
 
--- src/lib.rt:86:34
 labels-at-requires : tie.Need-labels-at-requires
 labels-at-requires c κs = search needs
 
--- src/lib.rt:86:34
 add-get : tie.Need-add-get
 add-get c = search needs
 
--- src/lib.rt:86:16
 get-requires : tie.Need-get-requires
 get-requires c κs = search needs
 
--- src/lib.rt:86:16
 cast-rows : tie.Need-cast-rows
 cast-rows c = search needs
 
--- src/lib.rt:87:45
 entry-width-requires : tie.Need-entry-width-requires
 entry-width-requires c κs = search needs
 
--- src/lib.rt:87:5
 all-named-requires : tie.Need-all-named-requires
 all-named-requires c κs =
     let start = c .before .before .before .before .before .before .before .before in
@@ -62,7 +51,6 @@ all-named-requires c κs =
     (is-ratio (start .args .s) (start .pre .0) (if1 .left)) (start .pre .1 .1 .0) (start .pre .1 .1 .1) _ _ _ (entry-at .ensures)
     (c .entry-width .ensures) (c .before .get .ensures ∙ rw (c .before .before .labels-at .ensures))
 
--- src/lib.rt:75:1
 returns-2 : tie.Need-returns-2
 returns-2 c =
     let start = c .before .before .before .before .before .before .before .before .before in

@@ -11,15 +11,12 @@ use Rattle.index_sound.proofs.sound.Lts as lts
 use Rattle.index_image.proofs.head.read.Reads as read-reads
 use Rattle.index_sound.proofs.tables_ok.Reads as tables-ok-reads
 
--- src/lib.rt:157:11
 read-requires : tie.Need-read-requires
 read-requires c κs = search needs
 
--- src/lib.rt:158:21
 enum-known-s : tie.Need-enum-known-s
 enum-known-s c = search needs
 
--- src/lib.rt:158:27
 tables-ok-requires : tie.Need-tables-ok-requires
 tables-ok-requires c κs =
     let start = c .before .before .before .before .before in
@@ -28,11 +25,9 @@ tables-ok-requires c κs =
     let h = head-is (words (start .args .image .now)) (length (start .args .image .now)) _ (s .given .0 .0) (s .given .1) (read .ensures) in
     (h .range, h .room)
 
--- src/lib.rt:159:22
 enum-told : tie.Need-enum-told
 enum-told c = search needs
 
--- src/lib.rt:154:1
 returns : tie.Need-returns
 returns c =
     let start = c .before .before .before .before .before .before in
@@ -42,7 +37,6 @@ returns c =
     (head-is (words (start .args .image .now)) (length (start .args .image .now)) _ (s .given .0 .0) (s .given .1) (read .ensures)) in
     last _ (c .tables-ok .ensures) (e .0) (e .1)
 
--- src/lib.rt:154:1
 returns-2 : tie.Need-returns-2
 returns-2 c = refuse (no-image (c .before .before .before .before .args .image .now) (rw (c .enum-told .given .1) at (c .before .before .read .ensures)))
 

@@ -12,23 +12,18 @@ use Rattle.index_sound.proofs.nodes_ok.Reads as nodes-ok-reads
 use Rattle.index_sound.proofs.permutation_ok.Reads as permutation-ok-reads
 use Rattle.index_sound.proofs.rows_named.Reads as rows-named-reads
 
--- src/lib.rt:135:9
 maxima-ok-requires : tie.Need-maxima-ok-requires
 maxima-ok-requires c κs = search needs
 
--- src/lib.rt:136:9
 returns : tie.Need-returns
 returns c = stop _ (c .before .maxima-ok .ensures) (c .if1 .taken) (λ x. x .maxima)
 
--- src/lib.rt:138:9
 labels-ok-requires : tie.Need-labels-ok-requires
 labels-ok-requires c κs = search needs
 
--- src/lib.rt:139:9
 returns-2 : tie.Need-returns-2
 returns-2 c = stop _ (c .before .labels-ok .ensures) (c .if2 .taken) (λ x. x .labels)
 
--- src/lib.rt:141:9
 entries-ok-requires : tie.Need-entries-ok-requires
 entries-ok-requires c κs =
     let start = c .before .before .before .before .before in
@@ -41,19 +36,15 @@ entries-ok-requires c κs =
       ),
     )
 
--- src/lib.rt:142:9
 returns-3 : tie.Need-returns-3
 returns-3 c = stop _ (c .before .entries-ok .ensures) (c .if3 .taken) (λ x. x .entries)
 
--- src/lib.rt:144:9
 permutation-ok-requires : tie.Need-permutation-ok-requires
 permutation-ok-requires c κs = search needs
 
--- src/lib.rt:145:9
 returns-4 : tie.Need-returns-4
 returns-4 c = stop _ (c .before .permutation-ok .ensures) (c .if4 .taken) (λ x. x .permutation)
 
--- src/lib.rt:147:9
 rows-named-requires : tie.Need-rows-named-requires
 rows-named-requires c κs =
     let start = c .before .before .before .before .before .before .before .before .before in
@@ -73,11 +64,9 @@ rows-named-requires c κs =
       ),
     )
 
--- src/lib.rt:148:9
 returns-5 : tie.Need-returns-5
 returns-5 c = stop _ (c .before .rows-named .ensures) (c .if5 .taken) (λ x. x .named)
 
--- src/lib.rt:150:5
 nodes-ok-requires : tie.Need-nodes-ok-requires
 nodes-ok-requires c κs =
     let start = c .before .before .before .before .before .before .before .before .before .before .before in
@@ -93,7 +82,6 @@ nodes-ok-requires c κs =
     (passed _ (labels-ok .ensures) (if2 .left)))
     (passed _ (entries-ok .ensures) (if3 .left)) (passed _ (permutation-ok .ensures) (c .before .before .if4 .left))
 
--- src/lib.rt:130:1
 returns-6 : tie.Need-returns-6
 returns-6 c =
     let maxima-ok = c .before .before .before .before .before .before .before .before .before .before .maxima-ok in

@@ -10,20 +10,16 @@ use Rattle.index_sound.proofs.tree_rows.Reads as reads
 use Rattle.index_sound.proofs.tree_rows.Lts as lts
 use Rattle.index_sound.proofs.walk_from_root.Reads as walk-from-root-reads
 
--- src/lib.rt:119:13
 mul-e : tie.Need-mul-e
 mul-e c = search needs
 
--- src/lib.rt:120:30
 array-borrow-prefix-hi : tie.Need-array-borrow-prefix-hi
 array-borrow-prefix-hi c = search needs
 
--- src/lib.rt:120:30
 slice-aggregate-walk-from-root : tie.Need-slice-aggregate-walk-from-root
 slice-aggregate-walk-from-root c =
     sym (length-take-le (4 * (c .before .before .before .args .s .variables)) (replicate 256 0) (omega (arith, c .before .before .before .pre .range .vars-to)))
 
--- src/lib.rt:120:5
 walk-from-root-requires : tie.Need-walk-from-root-requires
 walk-from-root-requires c κs = (
   c .before .before .before .pre,
@@ -31,7 +27,6 @@ walk-from-root-requires c κs = (
       (omega (arith, c .before .before .before .pre .range .vars-to)),
 )
 
--- src/lib.rt:114:1
 returns : tie.Need-returns
 returns c = search needs
 

@@ -17,34 +17,27 @@ Inv-loop hi₀ n i₀ hi i = (i ≤ n) × ((length hi ≡ length hi₀) × ((v :
 abbrev μ-loop : tie.MeasureT-loop
 μ-loop hi₀ n i₀ hi i = n - i
 
--- src/lib.rt:97:5
 loop-holds : tie.Need-loop-holds Inv-loop μ-loop
 loop-holds c = (omega arith, (refl, λ v h. absurd (omega arith)))
 
--- src/lib.rt:98:9
 put-requires : tie.Need-put-requires Inv-loop μ-loop
 put-requires c κs = omega arith
 
--- src/lib.rt:99:9
 add-i : tie.Need-add-i Inv-loop μ-loop
 add-i c = search needs
 
--- src/lib.rt:97:5
 loop-less : tie.Need-loop-less Inv-loop μ-loop
 loop-less c = omega arith
 
--- src/lib.rt:97:5
 loop-again : tie.Need-loop-again Inv-loop μ-loop
 loop-again c =
     let loop = c .before .before .before .before .before .loop in
     let put = c .before .before .put in
     (omega arith, (put .kept .0 ∙ loop .inv .1 .0, bound-more (loop .hi) _ (loop .i) (omega arith) (put .ensures) (loop .inv .1 .1)))
 
--- src/lib.rt:91:1
 same-length : tie.Need-same-length Inv-loop μ-loop
 same-length c = c .before .loop .inv .1 .0
 
--- src/lib.rt:91:1
 returns : tie.Need-returns Inv-loop μ-loop
 returns c = (c .before .loop .inv .1 .0, λ v h. (c .before .loop .inv .1 .1) v (omega arith))
 

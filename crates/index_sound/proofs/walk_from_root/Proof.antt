@@ -9,11 +9,9 @@ use Rattle.index_walk.proofs.one_row.Reads as one-row-reads
 use Rattle.index_walk.proofs.walk.Reads as walk-reads
 use Rattle.index_sound.proofs.unbounded.Reads as unbounded-reads
 
--- src/lib.rt:110:5
 unbounded-requires : tie.Need-unbounded-requires
 unbounded-requires c κs = search needs
 
--- src/lib.rt:112:9
 one-row-requires : tie.Need-one-row-requires
 one-row-requires c κs =
     let start = c .before .before .before .before .before .before .before .before .before in
@@ -25,11 +23,9 @@ one-row-requires c κs =
       ),
     )
 
--- src/lib.rt:112:9
 same-length : tie.Need-same-length
 same-length c = search needs
 
--- src/lib.rt:112:9
 returns : tie.Need-returns
 returns c =
     let start = c .before .before .before .before .before .before .before .before .before .before in
@@ -38,7 +34,6 @@ returns c =
     rooted (start .args .image .now) (start .args .s) (λ j. shared-slice-known .given j .fits) _
     (λ v h. unbounded .ensures .1 v (omega (arith, start .pre .1))) _ (c .one-row .ensures)
 
--- src/lib.rt:114:5
 walk-requires : tie.Need-walk-requires
 walk-requires c κs =
     let start = c .before .before .before .before .before .before .before .before .before in
@@ -50,11 +45,9 @@ walk-requires c κs =
       ),
     )
 
--- src/lib.rt:105:1
 same-length-2 : tie.Need-same-length-2
 same-length-2 c = search needs
 
--- src/lib.rt:105:1
 returns-2 : tie.Need-returns-2
 returns-2 c =
     let start = c .before .before .before .before .before .before .before .before .before .before .before .before in

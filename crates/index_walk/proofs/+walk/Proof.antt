@@ -215,41 +215,33 @@ module _ (t : ℕ) where
       two-is (start .pre .1 .0) (less first) (omega (arith, less-side .if6 .left)) (second .before .before .before .before .count-behind .ensures)
       (other (c .before .before .before)) (omega (arith, c .if8 .left))
 
--- src/lib.rt:425:9
 walk-returns : (t : ℕ) → walk-lts.Need-returns (claims t) (walk-at t) walk.Post
 walk-returns t c =
     let start = c .before .before .before .before in
     (no-row (start .pre .1 .0) (c .if1 .taken), refl)
 
--- src/lib.rt:427:9
 walk-node-at-requires : (t : ℕ) → walk-lts.Need-node-at-requires (claims t) (walk-at t) walk.Post
 walk-node-at-requires t c κs =
     let start = c .before .before .before .before in
     (start .pre .1 .0 .range, omega (arith, c .if1 .left, numbers t start))
 
--- src/lib.rt:428:31
 walk-add-get : (t : ℕ) → walk-lts.Need-add-get (claims t) (walk-at t) walk.Post
 walk-add-get t c = omega (arith, room t c)
 
--- src/lib.rt:428:13
 walk-get-requires : (t : ℕ) → walk-lts.Need-get-requires (claims t) (walk-at t) walk.Post
 walk-get-requires t c κs = omega (arith, room t c)
 
--- src/lib.rt:428:13
 walk-cast-c : (t : ℕ) → walk-lts.Need-cast-c (claims t) (walk-at t) walk.Post
 walk-cast-c t c = search needs
 
--- src/lib.rt:430:9
 walk-returns-2 : (t : ℕ) → walk-lts.Need-returns-2 (claims t) (walk-at t) walk.Post
 walk-returns-2 t c =
     let start = c .before .before .before .before .before .before .before in
     (too-many (start .pre .1 .0) (row t (c .before)) (c .if2 .taken), refl)
 
--- src/lib.rt:432:8
 walk-get-requires-2 : (t : ℕ) → walk-lts.Need-get-requires-2 (claims t) (walk-at t) walk.Post
 walk-get-requires-2 t c κs = omega (arith, room t (c .before .before))
 
--- src/lib.rt:433:12
 walk-leaf-ok-requires : (t : ℕ) → walk-lts.Need-leaf-ok-requires (claims t) (walk-at t) walk.Post
 walk-leaf-ok-requires t c κs =
     let start = c .before .before .before .before .before .before .before .before .before .before in (
@@ -260,11 +252,9 @@ walk-leaf-ok-requires t c κs =
       ),
     )
 
--- src/lib.rt:434:13
 walk-same-length : (t : ℕ) → walk-lts.Need-same-length (claims t) (walk-at t) walk.Post
 walk-same-length t c = search needs
 
--- src/lib.rt:434:13
 walk-returns-3 : (t : ℕ) → walk-lts.Need-returns-3 (claims t) (walk-at t) walk.Post
 walk-returns-3 t c =
     let leaf = c .before in
@@ -273,11 +263,9 @@ walk-returns-3 t c =
     let ok = rw (node-at .ensures) at (c .before .leaf-ok .ensures .0 (c .if4 .taken)) in
     (a-leaf (start .pre .1 .0) (tagged t (c .before .before .before .before)) (c .before .before .before .if3 .taken) ok, refl)
 
--- src/lib.rt:436:9
 walk-same-length-2 : (t : ℕ) → walk-lts.Need-same-length-2 (claims t) (walk-at t) walk.Post
 walk-same-length-2 t c = search needs
 
--- src/lib.rt:436:9
 walk-returns-4 : (t : ℕ) → walk-lts.Need-returns-4 (claims t) (walk-at t) walk.Post
 walk-returns-4 t c =
     let leaf = c .before in
@@ -288,13 +276,11 @@ walk-returns-4 t c =
       refl,
     )
 
--- src/lib.rt:438:9
 walk-key-ok-requires : (t : ℕ) → walk-lts.Need-key-ok-requires (claims t) (walk-at t) walk.Post
 walk-key-ok-requires t c κs =
     let start = c .before .before .before .before .before .before .before .before .before in
     (start .pre .1 .0 .range, omega (arith, room t (c .before .before .before .before)))
 
--- src/lib.rt:439:9
 walk-returns-5 : (t : ℕ) → walk-lts.Need-returns-5 (claims t) (walk-at t) walk.Post
 walk-returns-5 t c =
     let start = c .before .before .before .before .before .before .before .before .before .before .before in
@@ -305,35 +291,30 @@ walk-returns-5 t c =
       refl,
     )
 
--- src/lib.rt:441:9
 walk-sides-requires : (t : ℕ) → walk-lts.Need-sides-requires (claims t) (walk-at t) walk.Post
 walk-sides-requires t c κs =
     let key = c .before in
     let start = key .before .before .before .before .before .before .before .before .before .before .before in
     (start .pre .1 .0, (start .pre .1 .1 .0, (omega (arith, room t (key .before .before .before .before .before .before)), keyed t (c .before))))
 
--- src/lib.rt:442:9
 walk-exchange-requires : (t : ℕ) → walk-lts.Need-exchange-requires (claims t) (walk-at t) walk.Post
 walk-exchange-requires t c κs =
     let key = c .before .before .before in
     let start = key .before .before .before .before .before .before .before .before .before .before .before in
     omega (arith, c .before .sides .ensures .known, start .pre .1 .1 .0 .one-each)
 
--- src/lib.rt:443:44
 walk-add-walk : (t : ℕ) → walk-lts.Need-add-walk (claims t) (walk-at t) walk.Post
 walk-add-walk t c =
     let key = c .before .before .before .before .before .before .before in
     let start = key .before .before .before .before .before .before .before .before .before .before .before in
     omega (arith, key .before .before .before .before .before .before .before .if1 .left, numbers t start)
 
--- src/lib.rt:443:55
 walk-sub-walk : (t : ℕ) → walk-lts.Need-sub-walk (claims t) (walk-at t) walk.Post
 walk-sub-walk t c =
     let key = c .before .before .before .before .before .before .before in
     let get = key .before .before .before .before .before .get in
     omega (arith, keyed t key .two, get .ensures)
 
--- src/lib.rt:443:9
 walk-walk-requires : (t : ℕ) → walk-lts.Need-walk-requires (claims t) (walk-at t) walk.Post
 walk-walk-requires t c κs =
     let key = c .before .before .before .before .before .before .before in
@@ -354,7 +335,6 @@ walk-walk-requires t c κs =
       ),
     )
 
--- src/lib.rt:444:5
 walk-put-requires : (t : ℕ) → walk-lts.Need-put-requires (claims t) (walk-at t) walk.Post
 walk-put-requires t c κs =
     let first = c .before .before .before in
@@ -362,11 +342,9 @@ walk-put-requires t c κs =
     let sides = first .before .before .before .before .before .before .sides in
     omega (arith, sides .ensures .known, bounds t (first .before .before .before .before) .one-each, ap length (walk .ensures .1))
 
--- src/lib.rt:446:9
 walk-same-length-3 : (t : ℕ) → walk-lts.Need-same-length-3 (claims t) (walk-at t) walk.Post
 walk-same-length-3 t c = ap length (kept t (c .before))
 
--- src/lib.rt:446:9
 walk-returns-6 : (t : ℕ) → walk-lts.Need-returns-6 (claims t) (walk-at t) walk.Post
 walk-returns-6 t c =
     let first = c .before .before .before .before .before .before .before in
@@ -374,7 +352,6 @@ walk-returns-6 t c =
     let start = key .before .before .before .before .before .before .before .before .before .before .before in
     (no-first (start .pre .1 .0) (less t first) (c .if6 .taken), kept t (c .before))
 
--- src/lib.rt:448:9
 walk-count-behind-requires : (t : ℕ) → walk-lts.Need-count-behind-requires (claims t) (walk-at t) walk.Post
 walk-count-behind-requires t c κs =
     let first = c .before .before .before .before .before .before .before in
@@ -382,11 +359,9 @@ walk-count-behind-requires t c κs =
     let start = key .before .before .before .before .before .before .before .before .before .before .before in
     (start .pre .1 .0, (omega (arith, one t c .inside, c .if6 .left), key .before .before .before .before .before .before .node-at .ensures))
 
--- src/lib.rt:450:9
 walk-same-length-4 : (t : ℕ) → walk-lts.Need-same-length-4 (claims t) (walk-at t) walk.Post
 walk-same-length-4 t c = ap length (kept t (c .before .before .before))
 
--- src/lib.rt:450:9
 walk-returns-7 : (t : ℕ) → walk-lts.Need-returns-7 (claims t) (walk-at t) walk.Post
 walk-returns-7 t c =
     let less-side = c .before .before in
@@ -397,7 +372,6 @@ walk-returns-7 t c =
     let less-entries = no-less (start .pre .1 .0) (less t first) (omega (arith, some)) (c .before .count-behind .ensures) (c .if7 .taken) in
     (less-entries, kept t (c .before .before .before))
 
--- src/lib.rt:453:9
 walk-count-at-requires : (t : ℕ) → walk-lts.Need-count-at-requires (claims t) (walk-at t) walk.Post
 walk-count-at-requires t c κs =
     let less-side = c .before .before in
@@ -406,7 +380,6 @@ walk-count-at-requires t c κs =
     let start = key .before .before .before .before .before .before .before .before .before .before .before in
     (start .pre .1 .0, omega (arith, key .before .before .before .before .before .before .before .if1 .left))
 
--- src/lib.rt:454:45
 walk-add-walk-2 : (t : ℕ) → walk-lts.Need-add-walk-2 (claims t) (walk-at t) walk.Post
 walk-add-walk-2 t c =
     let less-side = c .before .before .before .before in
@@ -415,7 +388,6 @@ walk-add-walk-2 t c =
     let start = key .before .before .before .before .before .before .before .before .before .before .before in
     omega (arith, key .before .before .before .before .before .before .before .if1 .left, numbers t start)
 
--- src/lib.rt:454:45
 walk-add-walk-3 : (t : ℕ) → walk-lts.Need-add-walk-3 (claims t) (walk-at t) walk.Post
 walk-add-walk-3 t c =
     let less-side = c .before .before .before .before in
@@ -424,7 +396,6 @@ walk-add-walk-3 t c =
     let start = key .before .before .before .before .before .before .before .before .before .before .before in
     omega (arith, one t (c .before .before .before .before) .inside, numbers t start)
 
--- src/lib.rt:454:56
 walk-add-walk-4 : (t : ℕ) → walk-lts.Need-add-walk-4 (claims t) (walk-at t) walk.Post
 walk-add-walk-4 t c =
     let less-side = c .before .before .before .before in
@@ -434,11 +405,9 @@ walk-add-walk-4 t c =
     let if2 = key .before .before .before .before .if2 in
     omega (arith, one t less-side .few, c .before .before .before .count-behind .ensures, start .pre .1 .1 .1 .1, if2 .left, numbers t start)
 
--- src/lib.rt:454:65
 walk-sub-walk-2 : (t : ℕ) → walk-lts.Need-sub-walk-2 (claims t) (walk-at t) walk.Post
 walk-sub-walk-2 t c = omega (arith, count-same t (c .before), one t (c .before .before .before .before) .few, c .before .before .before .count-behind .ensures)
 
--- src/lib.rt:454:9
 walk-walk-requires-2 : (t : ℕ) → walk-lts.Need-walk-requires-2 (claims t) (walk-at t) walk.Post
 walk-walk-requires-2 t c κs =
     let less-side = c .before .before .before .before in
@@ -462,13 +431,11 @@ walk-walk-requires-2 t c κs =
       ),
     )
 
--- src/lib.rt:456:9
 walk-same-length-5 : (t : ℕ) → walk-lts.Need-same-length-5 (claims t) (walk-at t) walk.Post
 walk-same-length-5 t c =
     let less-side = c .before .before .before .before .before .before .before .before in
     ap length (c .before .before .before .walk2 .ensures .1 ∙ kept t (less-side .before))
 
--- src/lib.rt:456:9
 walk-returns-8 : (t : ℕ) → walk-lts.Need-returns-8 (claims t) (walk-at t) walk.Post
 walk-returns-8 t c =
     let second = c .before .before .before in
@@ -483,7 +450,6 @@ walk-returns-8 t c =
       c .before .before .before .walk2 .ensures .1 ∙ kept t (less-side .before),
     )
 
--- src/lib.rt:458:8
 walk-over-ok-requires : (t : ℕ) → walk-lts.Need-over-ok-requires (claims t) (walk-at t) walk.Post
 walk-over-ok-requires t c κs =
     let second = c .before .before .before in
@@ -495,7 +461,6 @@ walk-over-ok-requires t c κs =
     let both = two t c in
     (start .pre .1 .0, (omega (arith, both .inside, c .if8 .left), (rw (node-at .ensures) at (keyed t key), both .slots)))
 
--- src/lib.rt:459:16
 walk-add-result : (t : ℕ) → walk-lts.Need-add-result (claims t) (walk-at t) walk.Post
 walk-add-result t c =
     let second = c .before .before .before .before .before in
@@ -505,7 +470,6 @@ walk-add-result t c =
     let start = key .before .before .before .before .before .before .before .before .before .before .before in
     omega (arith, two t (c .before .before) .inside, numbers t start)
 
--- src/lib.rt:459:16
 walk-add-result-2 : (t : ℕ) → walk-lts.Need-add-result-2 (claims t) (walk-at t) walk.Post
 walk-add-result-2 t c =
     let second = c .before .before .before .before .before in
@@ -515,14 +479,12 @@ walk-add-result-2 t c =
     let start = key .before .before .before .before .before .before .before .before .before .before .before in
     omega (arith, two t (c .before .before) .inside, numbers t start)
 
--- src/lib.rt:459:9
 walk-same-length-6 : (t : ℕ) → walk-lts.Need-same-length-6 (claims t) (walk-at t) walk.Post
 walk-same-length-6 t c =
     let second = c .before .before .before .before .before in
     let less-side = second .before .before .before .before .before in
     ap length (second .walk2 .ensures .1 ∙ kept t (less-side .before))
 
--- src/lib.rt:459:9
 walk-returns-9 : (t : ℕ) → walk-lts.Need-returns-9 (claims t) (walk-at t) walk.Post
 walk-returns-9 t c =
     let second = c .before .before .before .before .before in
@@ -539,14 +501,12 @@ walk-returns-9 t c =
       second .walk2 .ensures .1 ∙ kept t (less-side .before),
     )
 
--- src/lib.rt:408:1
 walk-same-length-7 : (t : ℕ) → walk-lts.Need-same-length-7 (claims t) (walk-at t) walk.Post
 walk-same-length-7 t c =
     let second = c .before .before .before .before .before in
     let less-side = second .before .before .before .before .before in
     ap length (second .walk2 .ensures .1 ∙ kept t (less-side .before))
 
--- src/lib.rt:408:1
 walk-returns-10 : (t : ℕ) → walk-lts.Need-returns-10 (claims t) (walk-at t) walk.Post
 walk-returns-10 t c =
     let second = c .before .before .before .before .before in

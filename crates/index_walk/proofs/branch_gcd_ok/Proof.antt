@@ -75,27 +75,21 @@ made c =
 
 -- end of helpers
 
--- src/lib.rt:288:35
 add-monomial-in : tie.Need-add-monomial-in
 add-monomial-in c = search needs
 
--- src/lib.rt:288:13
 monomial-in-requires : tie.Need-monomial-in-requires
 monomial-in-requires c κs = search needs
 
--- src/lib.rt:289:35
 add-monomial-in-2 : tie.Need-add-monomial-in-2
 add-monomial-in-2 c = search needs
 
--- src/lib.rt:289:13
 monomial-in-requires-2 : tie.Need-monomial-in-requires-2
 monomial-in-requires-2 c κs = search needs
 
--- src/lib.rt:290:13
 slice-aggregate-gcd : tie.Need-slice-aggregate-gcd
 slice-aggregate-gcd c = search needs
 
--- src/lib.rt:287:11
 gcd-requires : tie.Need-gcd-requires
 gcd-requires c κs =
     let start = c .before .before .before .before in
@@ -104,22 +98,18 @@ gcd-requires c κs =
     rw (c .before .before .monomial-in .ensures .is, c .before .monomial-in2 .ensures .is)
     (starts-wide (starts-whole ca), (starts-wide (starts-whole cb), rw (first-whole ca, first-whole cb) (omega (arith, fits start))))
 
--- src/lib.rt:286:13
 mul-e : tie.Need-mul-e
 mul-e c = omega (arith, fits (c .before .before .before .before .before .before), made-length (c .before))
 
--- src/lib.rt:292:27
 array-share-prefix-made : tie.Need-array-share-prefix-made
 array-share-prefix-made c = omega (arith, fits (c .before .before .before .before .before .before), made-length (c .before), c .before .gcd .kept .1 .1 .0)
 
--- src/lib.rt:292:27
 slice-aggregate-node-ok : tie.Need-slice-aggregate-node-ok
 slice-aggregate-node-ok c =
     let gcd = c .before .before .gcd in
     sym (length-take-le (4 * gcd .result) (gcd .last .1 .1 .0)
     (omega (arith, fits (c .before .before .before .before .before .before .before), made-length (c .before .before), gcd .kept .1 .1 .0)))
 
--- src/lib.rt:292:5
 node-ok-requires : tie.Need-node-ok-requires
 node-ok-requires c κs =
     let start = c .before .before .before .before .before .before .before in
@@ -127,7 +117,6 @@ node-ok-requires c κs =
     (start .pre .0 .range .vars-to) (start .pre .1 .1 .0) in
     (start .pre .0, (start .pre .1 .0, rw (made (c .before .before)) good))
 
--- src/lib.rt:278:1
 returns : tie.Need-returns
 returns c = rw (made (c .before .before .before)) at (c .node-ok .ensures)
 

@@ -10,76 +10,58 @@ use Rattle.index_walk.proofs.branch_gcd_ok.Reads as branch-gcd-ok-reads
 use Rattle.index_walk.proofs.other_ok.Reads as other-ok-reads
 use Rattle.words.proofs.get.Reads as get-reads
 
--- src/lib.rt:322:31
 add-get : tie.Need-add-get
 add-get c = search needs
 
--- src/lib.rt:322:13
 get-requires : tie.Need-get-requires
 get-requires c κs = search needs
 
--- src/lib.rt:322:13
 cast-x : tie.Need-cast-x
 cast-x c = search needs
 
--- src/lib.rt:324:9
 returns : tie.Need-returns
 returns c = refuse (λ o. omega (arith, o .some-less, c .before .get .ensures, c .if1 .taken))
 
--- src/lib.rt:326:31
 add-get-2 : tie.Need-add-get-2
 add-get-2 c = search needs
 
--- src/lib.rt:326:13
 get-requires-2 : tie.Need-get-requires-2
 get-requires-2 c κs = search needs
 
--- src/lib.rt:326:13
 cast-y : tie.Need-cast-y
 cast-y c = search needs
 
--- src/lib.rt:328:9
 returns-2 : tie.Need-returns-2
 returns-2 c = refuse (λ o. omega (arith, o .some-other, c .before .get2 .ensures, c .if2 .taken))
 
--- src/lib.rt:330:26
 add-get-3 : tie.Need-add-get-3
 add-get-3 c = search needs
 
--- src/lib.rt:330:8
 get-requires-3 : tie.Need-get-requires-3
 get-requires-3 c κs = search needs
 
--- src/lib.rt:330:8
 cast-if3 : tie.Need-cast-if3
 cast-if3 c = search needs
 
--- src/lib.rt:330:44
 add-if3 : tie.Need-add-if3
 add-if3 c = search needs
 
--- src/lib.rt:331:9
 returns-3 : tie.Need-returns-3
 returns-3 c =
     refuse (λ o. (c .if3 .taken) (omega (arith, o .count, c .before .before .before .before .before .get .ensures, c .before .before .before .get2 .ensures, c .before .get3 .ensures)))
 
--- src/lib.rt:333:26
 add-get-4 : tie.Need-add-get-4
 add-get-4 c = search needs
 
--- src/lib.rt:333:8
 get-requires-4 : tie.Need-get-requires-4
 get-requires-4 c κs = search needs
 
--- src/lib.rt:333:8
 cast-if4 : tie.Need-cast-if4
 cast-if4 c = search needs
 
--- src/lib.rt:334:9
 returns-4 : tie.Need-returns-4
 returns-4 c = refuse (λ o. (c .if4 .taken) (c .before .get4 .ensures ∙ o .skip))
 
--- src/lib.rt:336:9
 other-ok-requires : tie.Need-other-ok-requires
 other-ok-requires c κs =
     let start = c .before .before .before .before .before .before .before .before .before in (
@@ -90,17 +72,14 @@ other-ok-requires c κs =
       ),
     )
 
--- src/lib.rt:337:9
 returns-5 : tie.Need-returns-5
 returns-5 c = refuse (λ o. failed (c .before .other-ok .result) (c .before .other-ok .ensures) (c .if5 .taken) (o .other))
 
--- src/lib.rt:339:5
 branch-gcd-ok-requires : tie.Need-branch-gcd-ok-requires
 branch-gcd-ok-requires c κs =
     let start = c .before .before .before .before .before .before .before .before .before .before .before in
     (start .pre .0, (start .pre .1 .0, (start .pre .1 .1 .1 .1, start .pre .1 .1 .0)))
 
--- src/lib.rt:314:1
 returns-6 : tie.Need-returns-6
 returns-6 c =
     let get = c .before .before .before .before .before .before .before .before .before .before .get in

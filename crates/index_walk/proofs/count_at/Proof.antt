@@ -19,25 +19,20 @@ room a = node-room (a .args .image .now) (a .args .s) (a .pre .0) (a .args .k) (
 
 -- end of helpers
 
--- src/lib.rt:348:23
 node-at-requires : tie.Need-node-at-requires
 node-at-requires c κs =
     let range = c .before .pre .0 .range in
     (range, omega (arith, room (c .before), range .nodes-to, range .cap-to))
 
--- src/lib.rt:348:23
 add-get : tie.Need-add-get
 add-get c = omega (arith, room (c .before .before), c .node-at .ensures)
 
--- src/lib.rt:348:5
 get-requires : tie.Need-get-requires
 get-requires c κs = omega (arith, room (c .before .before), c .node-at .ensures)
 
--- src/lib.rt:348:5
 cast-result : tie.Need-cast-result
 cast-result c = search needs
 
--- src/lib.rt:343:1
 returns : tie.Need-returns
 returns c = c .get .ensures ∙ rw (c .before .node-at .ensures)
 

@@ -20,27 +20,21 @@ room a =
 
 -- end of helpers
 
--- src/lib.rt:380:44
 add-get : tie.Need-add-get
 add-get c = omega (arith, room (c .before))
 
--- src/lib.rt:380:29
 add-get-2 : tie.Need-add-get-2
 add-get-2 c = omega (arith, room (c .before .before))
 
--- src/lib.rt:380:23
 add-get-3 : tie.Need-add-get-3
 add-get-3 c = omega (arith, room (c .before .before))
 
--- src/lib.rt:380:5
 get-requires : tie.Need-get-requires
 get-requires c κs = omega (arith, room (c .before .before))
 
--- src/lib.rt:380:5
 cast-result : tie.Need-cast-result
 cast-result c = search needs
 
--- src/lib.rt:375:1
 returns : tie.Need-returns
 returns c =
     let start = c .before .before .before in

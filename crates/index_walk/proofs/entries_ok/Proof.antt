@@ -26,11 +26,9 @@ abbrev μ-loop : tie.MeasureT-loop
 -- helpers
 -- end of helpers
 
--- src/lib.rt:96:13
 permutation-at-requires : tie.Need-permutation-at-requires Inv-loop μ-loop
 permutation-at-requires c κs = c .before .before .pre .0 .range
 
--- src/lib.rt:96:13
 add-p : tie.Need-add-p Inv-loop μ-loop
 add-p c =
     let start = c .before .before .before in
@@ -40,11 +38,9 @@ add-p c =
       c .permutation-at .ensures,
     )
 
--- src/lib.rt:98:5
 loop-holds : tie.Need-loop-holds Inv-loop μ-loop
 loop-holds c = (omega arith, λ k h. absurd (omega arith))
 
--- src/lib.rt:99:35
 add-get : tie.Need-add-get Inv-loop μ-loop
 add-get c =
     let start = c .before .before .before .before .before in
@@ -54,7 +50,6 @@ add-get c =
       c .before .before .permutation-at .ensures,
     )
 
--- src/lib.rt:99:17
 get-requires : tie.Need-get-requires Inv-loop μ-loop
 get-requires c κs =
     let start = c .before .before .before .before .before in
@@ -64,11 +59,9 @@ get-requires c κs =
       c .before .before .permutation-at .ensures,
     )
 
--- src/lib.rt:99:17
 cast-e : tie.Need-cast-e Inv-loop μ-loop
 cast-e c = omega arith
 
--- src/lib.rt:100:13
 entry-ok-requires : tie.Need-entry-ok-requires Inv-loop μ-loop
 entry-ok-requires c κs =
     let start = c .before .before .before .before .before .before in
@@ -83,7 +76,6 @@ entry-ok-requires c κs =
       ),
     )
 
--- src/lib.rt:101:13
 returns : tie.Need-returns Inv-loop μ-loop
 returns c =
     let start = c .before .before .before .before .before .before .before .before in
@@ -103,15 +95,12 @@ returns c =
     (λ h. failed (entry-ok .result) (entry-ok .ensures) (c .if1 .taken)
     (rw (c .before .before .get .ensures, permutation-at .ensures) h)))
 
--- src/lib.rt:103:9
 add-i : tie.Need-add-i Inv-loop μ-loop
 add-i c = omega arith
 
--- src/lib.rt:98:5
 loop-less : tie.Need-loop-less Inv-loop μ-loop
 loop-less c = omega arith
 
--- src/lib.rt:98:5
 loop-again : tie.Need-loop-again Inv-loop μ-loop
 loop-again c =
     let loop = c .before .before .before .before .loop in
@@ -120,7 +109,6 @@ loop-again c =
       below-more _ _ (loop .inv .1) (rw (c .before .before .get .ensures) at (passed (entry-ok .result) (entry-ok .ensures) (c .if1 .left))),
     )
 
--- src/lib.rt:90:1
 returns-2 : tie.Need-returns-2 Inv-loop μ-loop
 returns-2 c =
     let start = c .before .before .before .before .before in

@@ -13,11 +13,9 @@ use Rattle.index_image.proofs.stored.label_in.Reads as label-in-reads
 use Rattle.index_image.proofs.stored.monomial_from.Reads as monomial-from-reads
 use Rattle.index_walk.proofs.powers_below.Reads as powers-below-reads
 
--- src/lib.rt:75:36
 entry-at-requires : tie.Need-entry-at-requires
 entry-at-requires c κs = search needs
 
--- src/lib.rt:75:9
 monomial-from-requires : tie.Need-monomial-from-requires
 monomial-from-requires c κs =
     let o = c .before .before .before in
@@ -27,13 +25,11 @@ monomial-from-requires c κs =
           (arith, entry-room (o .args .image .now) (o .args .s) (o .pre .0) (o .args .e) (o .pre .1 .1)),
     )
 
--- src/lib.rt:76:9
 powers-below-requires : tie.Need-powers-below-requires
 powers-below-requires c κs =
     let o = c .before .before .before .before in
     (o .pre .0 .range .vars-to, (c .monomial-from .ensures .starts, o .pre .1 .0))
 
--- src/lib.rt:77:9
 returns : tie.Need-returns
 returns c =
     let entry-at = c .before .before .before .entry-at in
@@ -41,7 +37,6 @@ returns c =
     let powers-below = c .before .powers-below in
     no-powers _ _ _ _ _ _ _ _ (lm-read _ _ _ _ _ (entry-at .ensures) (monomial-from .ensures .is)) (powers-below .ensures) (c .if1 .taken)
 
--- src/lib.rt:80:9
 returns-2 : tie.Need-returns-2
 returns-2 c =
     let entry-at = c .before .before .before .before .before .entry-at in
@@ -50,7 +45,6 @@ returns-2 c =
     no-labels _ _ _ _ _ _ _ _ (lm-read _ _ _ _ _ (entry-at .ensures) (monomial-from .ensures .is)) (powers-below .ensures)
     (c .before .before .if1 .left) (c .if2 .taken)
 
--- src/lib.rt:82:9
 label-in-requires : tie.Need-label-in-requires
 label-in-requires c κs =
     let start = c .before .before .before .before .before .before .before .before in (
@@ -64,7 +58,6 @@ label-in-requires c κs =
       ),
     )
 
--- src/lib.rt:84:9
 returns-3 : tie.Need-returns-3
 returns-3 c =
     let start = c .before .before .before .before .before .before .before .before .before .before in
@@ -76,7 +69,6 @@ returns-3 c =
     (omega (arith, start .pre .0 .range .kind-to, c .before .before .if2 .left)) (label-in .result)
     (label-in .ensures) (c .if3 .taken)
 
--- src/lib.rt:69:1
 returns-4 : tie.Need-returns-4
 returns-4 c =
     let start = c .before .before .before .before .before .before .before .before .before .before in

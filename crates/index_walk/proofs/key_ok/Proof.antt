@@ -9,51 +9,39 @@ use Rattle.index_walk.proofs.key_ok.Reads as reads
 use Rattle.index_walk.proofs.key_ok.Lts as lts
 use Rattle.words.proofs.get.Reads as get-reads
 
--- src/lib.rt:219:26
 add-get : tie.Need-add-get
 add-get c = search needs
 
--- src/lib.rt:219:8
 get-requires : tie.Need-get-requires
 get-requires c κs = search needs
 
--- src/lib.rt:220:9
 returns : tie.Need-returns
 returns c = refuse (λ h. omega (arith, h .two, c .before .get .ensures, c .if1 .taken))
 
--- src/lib.rt:222:15
 get-requires-2 : tie.Need-get-requires-2
 get-requires-2 c κs = search needs
 
--- src/lib.rt:222:15
 cast-tag : tie.Need-cast-tag
 cast-tag c = search needs
 
--- src/lib.rt:224:9
 returns-2 : tie.Need-returns-2
 returns-2 c = refuse (λ h. omega (arith, h .from, c .before .get2 .ensures, c .if2 .taken))
 
--- src/lib.rt:226:8
 add-if3 : tie.Need-add-if3
 add-if3 c = search needs
 
--- src/lib.rt:227:9
 returns-3 : tie.Need-returns-3
 returns-3 c = refuse (λ h. omega (arith, h .to, c .before .before .before .get2 .ensures, c .if3 .taken))
 
--- src/lib.rt:229:33
 add-get-2 : tie.Need-add-get-2
 add-get-2 c = search needs
 
--- src/lib.rt:229:15
 get-requires-3 : tie.Need-get-requires-3
 get-requires-3 c κs = search needs
 
--- src/lib.rt:229:15
 cast-key : tie.Need-cast-key
 cast-key c = search needs
 
--- src/lib.rt:231:9
 returns-4 : tie.Need-returns-4
 returns-4 c =
     let start = c .before .before .before .before .before .before .before .before .before .before .before in
@@ -74,7 +62,6 @@ returns-4 c =
       λ h. lt-ltb (get3 .result) (start .args .s .entries) (omega (arith, h .ratio (sym (get2 .ensures) ∙ if4 .taken), get3 .ensures)),
     )
 
--- src/lib.rt:214:1
 returns-5 : tie.Need-returns-5
 returns-5 c =
     let get = c .before .before .before .before .before .before .before .before .get in

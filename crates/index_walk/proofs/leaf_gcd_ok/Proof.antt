@@ -15,29 +15,23 @@ use Rattle.index_walk.proofs.leaf_gcd_ok.Lts as lts
 use Rattle.index_image.proofs.stored.gcd_of.Reads as gcd-of-reads
 use Rattle.index_walk.proofs.node_ok.Reads as node-ok-reads
 
--- src/lib.rt:180:41
 slice-aggregate-gcd-of : tie.Need-slice-aggregate-gcd-of
 slice-aggregate-gcd-of c = search needs
 
--- src/lib.rt:180:17
 gcd-of-requires : tie.Need-gcd-of-requires
 gcd-of-requires c κs = search needs
 
--- src/lib.rt:180:13
 mul-e : tie.Need-mul-e
 mul-e c = omega (arith, c .before .gcd-of .ensures .0)
 
--- src/lib.rt:181:27
 array-share-prefix-acc : tie.Need-array-share-prefix-acc
 array-share-prefix-acc c = omega (arith, c .before .gcd-of .ensures .0, c .before .gcd-of .kept .1 .1 .1 .1 .0)
 
--- src/lib.rt:181:27
 slice-aggregate-node-ok : tie.Need-slice-aggregate-node-ok
 slice-aggregate-node-ok c =
     let gcd-of = c .before .before .gcd-of in
     sym (length-take-le (4 * gcd-of .result) (gcd-of .last .1 .1 .1 .1 .0) (omega (arith, gcd-of .ensures .0, gcd-of .kept .1 .1 .1 .1 .0)))
 
--- src/lib.rt:181:5
 node-ok-requires : tie.Need-node-ok-requires
 node-ok-requires c κs =
     let start = c .before .before .before .before .before in
@@ -53,7 +47,6 @@ node-ok-requires c κs =
       ),
     )
 
--- src/lib.rt:173:1
 returns : tie.Need-returns
 returns c =
     let gcd-of = c .before .before .before .gcd-of in

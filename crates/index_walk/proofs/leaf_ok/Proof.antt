@@ -9,43 +9,33 @@ use Rattle.index_walk.proofs.entries_ok.Reads as entries-ok-reads
 use Rattle.index_walk.proofs.leaf_gcd_ok.Reads as leaf-gcd-ok-reads
 use Rattle.words.proofs.get.Reads as get-reads
 
--- src/lib.rt:201:26
 add-get : tie.Need-add-get
 add-get c = search needs
 
--- src/lib.rt:201:8
 get-requires : tie.Need-get-requires
 get-requires c κs = search needs
 
--- src/lib.rt:202:9
 returns : tie.Need-returns
 returns c = refuse (λ o. (c .if1 .taken) (c .before .get .ensures ∙ o .key))
 
--- src/lib.rt:204:26
 add-get-2 : tie.Need-add-get-2
 add-get-2 c = search needs
 
--- src/lib.rt:204:8
 get-requires-2 : tie.Need-get-requires-2
 get-requires-2 c κs = search needs
 
--- src/lib.rt:205:9
 returns-2 : tie.Need-returns-2
 returns-2 c = refuse (λ o. (c .if2 .taken) (c .before .get2 .ensures ∙ o .skip))
 
--- src/lib.rt:207:9
 leaf-gcd-ok-requires : tie.Need-leaf-gcd-ok-requires
 leaf-gcd-ok-requires c κs = search needs
 
--- src/lib.rt:208:9
 returns-3 : tie.Need-returns-3
 returns-3 c = refuse (λ o. failed (c .before .leaf-gcd-ok .result) (c .before .leaf-gcd-ok .ensures) (c .if3 .taken) (o .node))
 
--- src/lib.rt:210:5
 entries-ok-requires : tie.Need-entries-ok-requires
 entries-ok-requires c κs = search needs
 
--- src/lib.rt:185:1
 returns-4 : tie.Need-returns-4
 returns-4 c =
     let get = c .before .before .before .before .before .before .get in

@@ -59,91 +59,70 @@ row-read c =
 
 -- end of helpers
 
--- src/lib.rt:158:18
 add-x : tie.Need-add-x
 add-x c = search needs
 
--- src/lib.rt:158:13
 mul-x : tie.Need-mul-x
 mul-x c = search needs
 
--- src/lib.rt:159:17
 mul-y : tie.Need-mul-y
 mul-y c = search needs
 
--- src/lib.rt:159:13
 add-y : tie.Need-add-y
 add-y c = search needs
 
--- src/lib.rt:160:26
 add-get : tie.Need-add-get
 add-get c = search needs
 
--- src/lib.rt:160:8
 get-requires : tie.Need-get-requires
 get-requires c κs = search needs
 
--- src/lib.rt:160:50
 sub-map : tie.Need-sub-map
 sub-map c = search needs
 
--- src/lib.rt:160:50
 part-map-start : tie.Need-part-map-start
 part-map-start c = search needs
 
--- src/lib.rt:160:50
 part-map-end : tie.Need-part-map-end
 part-map-end c =
     let start = c .before .before .before in
     omega (arith, place-room (start .args .image .now) (start .args .s) (start .pre .0) 0 (omega arith))
 
--- src/lib.rt:160:64
 cast-map : tie.Need-cast-map
 cast-map c = search needs
 
--- src/lib.rt:160:37
 map-requires : tie.Need-map-requires
 map-requires c κs =
     let start = c .before .before .before .before in
     (rw (maxima-lent start) (start .pre .0 .map), starts-whole (start .pre .1 .1))
 
--- src/lib.rt:161:9
 returns : tie.Need-returns
 returns c = other-mask (row-read (c .before)) (c .if1 .taken)
 
--- src/lib.rt:164:18
 add-g : tie.Need-add-g
 add-g c = search needs
 
--- src/lib.rt:164:13
 mul-g : tie.Need-mul-g
 mul-g c = search needs
 
--- src/lib.rt:165:17
 mul-h : tie.Need-mul-h
 mul-h c = search needs
 
--- src/lib.rt:165:13
 add-h : tie.Need-add-h
 add-h c = search needs
 
--- src/lib.rt:166:22
 sub-eq : tie.Need-sub-eq
 sub-eq c = search needs
 
--- src/lib.rt:166:22
 part-eq-start : tie.Need-part-eq-start
 part-eq-start c = search needs
 
--- src/lib.rt:166:22
 part-eq-end : tie.Need-part-eq-end
 part-eq-end c = omega (arith, short (c .before .before .before .before .before .before), c .before .before .before .before .before .before .pre .1 .0)
 
--- src/lib.rt:166:9
 eq-requires : tie.Need-eq-requires
 eq-requires c κs = search needs
 
--- src/lib.rt:167:9
 returns-2 : tie.Need-returns-2
 returns-2 c =
     let start = c .before .before .before .before .before .before .before .before .before in
@@ -151,28 +130,22 @@ returns-2 c =
     other-words (row-read (c .before .before .before .before)) _ (sym (length-words (start .args .gcd .now)))
     (range-words (start .args .image .now) (at.gcdAt (start .args .at)) (length (start .args .gcd .now) / 4)) (eq .result) (eq .ensures) (c .if2 .taken)
 
--- src/lib.rt:169:34
 add-is-blank : tie.Need-add-is-blank
 add-is-blank c = search needs
 
--- src/lib.rt:169:34
 add-is-blank-2 : tie.Need-add-is-blank-2
 add-is-blank-2 c = search needs
 
--- src/lib.rt:169:46
 add-is-blank-3 : tie.Need-add-is-blank-3
 add-is-blank-3 c = search needs
 
--- src/lib.rt:169:46
 sub-is-blank : tie.Need-sub-is-blank
 sub-is-blank c = omega (arith, short (c .before .before .before .before .before .before .before .before .before))
 
--- src/lib.rt:169:5
 is-blank-requires : tie.Need-is-blank-requires
 is-blank-requires c κs =
     omega (arith, short (c .before .before .before .before .before .before .before .before .before), c .before .before .before .before .before .before .before .before .before .pre .1 .0)
 
--- src/lib.rt:151:1
 returns-3 : tie.Need-returns-3
 returns-3 c =
     let start = c .before .before .before .before .before .before .before .before .before .before in

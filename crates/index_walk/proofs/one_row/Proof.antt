@@ -43,15 +43,12 @@ tagged c = record {
 
 -- end of helpers
 
--- src/lib.rt:461:9
 node-at-requires : tie.Need-node-at-requires
 node-at-requires c κs = search needs
 
--- src/lib.rt:462:8
 get-requires : tie.Need-get-requires
 get-requires c κs = omega (arith, room c)
 
--- src/lib.rt:463:9
 returns : tie.Need-returns
 returns c =
     let start = c .before .before .before .before .before in
@@ -59,36 +56,29 @@ returns c =
     (rw (c .before .before .node-at .ensures) at (c .before .get .ensures))
     (c .if1 .taken)
 
--- src/lib.rt:465:31
 add-get : tie.Need-add-get
 add-get c = omega (arith, room (c .before .before))
 
--- src/lib.rt:465:13
 get-requires-2 : tie.Need-get-requires-2
 get-requires-2 c κs = omega (arith, room (c .before .before))
 
--- src/lib.rt:465:13
 cast-c : tie.Need-cast-c
 cast-c c = search needs
 
--- src/lib.rt:467:9
 returns-2 : tie.Need-returns-2
 returns-2 c = too-many (c .before .before .before .before .before .before .before .before .pre .0) (row (c .before .before)) (omega (arith, c .if2 .taken))
 
--- src/lib.rt:469:8
 leaf-ok-requires : tie.Need-leaf-ok-requires
 leaf-ok-requires c κs =
     let start = c .before .before .before .before .before .before .before .before in
     (start .pre .0, (start .pre .1 .0, (omega (arith, room (c .before .before .before .before .before)), omega (arith, c .if2 .left))))
 
--- src/lib.rt:470:9
 returns-3 : tie.Need-returns-3
 returns-3 c =
     let node-at = c .before .before .before .before .before .before .before .node-at in
     a-leaf (c .before .before .before .before .before .before .before .before .before .before .pre .0) (tagged (c .before .before))
     (c .before .before .before .before .before .if1 .left) (rw (node-at .ensures) at (c .before .leaf-ok .ensures .0 (c .if3 .taken)))
 
--- src/lib.rt:455:1
 returns-4 : tie.Need-returns-4
 returns-4 c =
     let node-at = c .before .before .before .before .before .before .before .node-at in

@@ -22,39 +22,30 @@ good a = in-canonical (words (a .args .image .now)) (a .args .s .variables) (sha
 
 -- end of helpers
 
--- src/lib.rt:304:15
 get-requires : tie.Need-get-requires
 get-requires c κs = search needs
 
--- src/lib.rt:304:15
 cast-tag : tie.Need-cast-tag
 cast-tag c = search needs
 
--- src/lib.rt:306:9
 returns : tie.Need-returns
 returns c = search needs
 
--- src/lib.rt:308:13
 sub-v : tie.Need-sub-v
 sub-v c = search needs
 
--- src/lib.rt:308:13
 sub-v-2 : tie.Need-sub-v-2
 sub-v-2 c = search needs
 
--- src/lib.rt:309:54
 add-monomial-in : tie.Need-add-monomial-in
 add-monomial-in c = search needs
 
--- src/lib.rt:309:32
 monomial-in-requires : tie.Need-monomial-in-requires
 monomial-in-requires c κs = search needs
 
--- src/lib.rt:309:65
 cast-power-of : tie.Need-cast-power-of
 cast-power-of c = search needs
 
--- src/lib.rt:309:9
 power-of-requires : tie.Need-power-of-requires
 power-of-requires c κs =
     let start = c .before .before .before .before .before .before in
@@ -63,15 +54,12 @@ power-of-requires c κs =
       rw (c .monomial-in .ensures .is) (starts-wide (starts-whole (good start))),
     )
 
--- src/lib.rt:310:23
 add-get : tie.Need-add-get
 add-get c = search needs
 
--- src/lib.rt:310:5
 get-requires-2 : tie.Need-get-requires-2
 get-requires-2 c κs = search needs
 
--- src/lib.rt:296:1
 returns-2 : tie.Need-returns-2
 returns-2 c =
     let start = c .before .before .before .before .before .before .before .before in

@@ -9,15 +9,12 @@ use Rattle.index_walk.proofs.over_ok.Lts as lts
 use Rattle.index_image.proofs.Shape.node_at.Reads as node-at-reads
 use Rattle.index_walk.proofs.branch_ok.Reads as branch-ok-reads
 
--- src/lib.rt:362:9
 node-at-requires : tie.Need-node-at-requires
 node-at-requires c κs = (c .before .pre .0 .range, omega (arith, c .before .pre .1 .0, c .before .pre .0 .range .nodes-to, c .before .pre .0 .range .cap-to))
 
--- src/lib.rt:363:19
 add-node-at : tie.Need-add-node-at
 add-node-at c = search needs
 
--- src/lib.rt:363:9
 node-at-requires-2 : tie.Need-node-at-requires-2
 node-at-requires-2 c κs = (
   c .before .before .pre .0 .range,
@@ -25,21 +22,17 @@ node-at-requires-2 c κs = (
       (arith, c .before .before .pre .1 .0, c .before .before .pre .0 .range .nodes-to, c .before .before .pre .0 .range .cap-to),
 )
 
--- src/lib.rt:364:19
 add-node-at-2 : tie.Need-add-node-at-2
 add-node-at-2 c = search needs
 
--- src/lib.rt:364:19
 add-node-at-3 : tie.Need-add-node-at-3
 add-node-at-3 c = search needs
 
--- src/lib.rt:364:9
 node-at-requires-3 : tie.Need-node-at-requires-3
 node-at-requires-3 c κs =
     let start = c .before .before .before in
     (start .pre .0 .range, omega (arith, start .pre .1 .0, start .pre .0 .range .nodes-to, start .pre .0 .range .cap-to))
 
--- src/lib.rt:359:5
 branch-ok-requires : tie.Need-branch-ok-requires
 branch-ok-requires c κs =
     let start = c .before .before .before .before in
@@ -71,7 +64,6 @@ branch-ok-requires c κs =
       ),
     )
 
--- src/lib.rt:352:1
 returns : tie.Need-returns
 returns c = rw (c .before .before .before .node-at .ensures, c .before .before .node-at2 .ensures, c .before .node-at3 .ensures) at (c .branch-ok .ensures)
 

@@ -40,21 +40,17 @@ variable c =
 
 -- end of helpers
 
--- src/lib.rt:44:5
 loop-holds : tie.Need-loop-holds Inv-loop μ-loop
 loop-holds c =
     let start = c .before .before in
     passing (first 1 (words (start .args .lm .now))) (words (start .args .hi .now)) (start .pre .0) (first-canonical (omega arith) (start .pre .1 .0))
 
--- src/lib.rt:45:13
 get-requires : tie.Need-get-requires Inv-loop μ-loop
 get-requires c κs = omega (arith, first-bytes 1 (c .before .before .before .args .lm .now), within (c .loop .inv .ra))
 
--- src/lib.rt:46:12
 is-end-requires : tie.Need-is-end-requires Inv-loop μ-loop
 is-end-requires c κs = search needs
 
--- src/lib.rt:47:13
 returns : tie.Need-returns Inv-loop μ-loop
 returns c =
     let start = c .before .before .before .before .before .before in
@@ -64,23 +60,18 @@ returns c =
     (all-passed (start .pre .1 .1 .some) (loop .inv) (seen _ (loop .inv .ra) (c .before .before .get .ensures))
     (is-end-true _ (c .before .is-end .ensures) (c .if1 .taken)))
 
--- src/lib.rt:49:32
 id-requires : tie.Need-id-requires Inv-loop μ-loop
 id-requires c κs = search needs
 
--- src/lib.rt:49:32
 cast-get : tie.Need-cast-get Inv-loop μ-loop
 cast-get c = omega arith
 
--- src/lib.rt:49:13
 get-requires-2 : tie.Need-get-requires-2 Inv-loop μ-loop
 get-requires-2 c κs = omega (arith, c .id .ensures, variable (c .before) .known, c .before .before .before .before .before .before .before .pre .1 .1 .one-each)
 
--- src/lib.rt:50:17
 power-requires : tie.Need-power-requires Inv-loop μ-loop
 power-requires c κs = search needs
 
--- src/lib.rt:51:13
 returns-2 : tie.Need-returns-2 Inv-loop μ-loop
 returns-2 c =
     let id = c .before .before .before .id in
@@ -96,21 +87,18 @@ returns-2 c =
       c .if2 .taken,
     ))
 
--- src/lib.rt:53:9
 add-i : tie.Need-add-i Inv-loop μ-loop
 add-i c =
     let start = c .before .before .before .before .before .before .before .before .before .before in
     let loop = c .before .before .before .before .before .before .before .loop in
     omega (arith, first-bytes 1 (start .args .lm .now), within (loop .inv .ra))
 
--- src/lib.rt:44:5
 loop-less : tie.Need-loop-less Inv-loop μ-loop
 loop-less c =
     let start = c .before .before .before .before .before .before .before .before .before .before in
     let loop = c .before .before .before .before .before .before .before .loop in
     omega (arith, first-bytes 1 (start .args .lm .now), within (loop .inv .ra))
 
--- src/lib.rt:44:5
 loop-again : tie.Need-loop-again Inv-loop μ-loop
 loop-again c =
     let id = c .before .before .before .id in

@@ -14,27 +14,21 @@ use Rattle.index_image.proofs.stored.label_in.Reads as label-in-reads
 use Rattle.index_walk.proofs.lesser.Reads as lesser-reads
 use Rattle.words.proofs.get.Reads as get-reads
 
--- src/lib.rt:256:15
 get-requires : tie.Need-get-requires
 get-requires c κs = search needs
 
--- src/lib.rt:256:15
 cast-tag : tie.Need-cast-tag
 cast-tag c = search needs
 
--- src/lib.rt:257:33
 add-get : tie.Need-add-get
 add-get c = search needs
 
--- src/lib.rt:257:9
 get-requires-2 : tie.Need-get-requires-2
 get-requires-2 c κs = search needs
 
--- src/lib.rt:259:36
 cast-label-in : tie.Need-cast-label-in
 cast-label-in c = search needs
 
--- src/lib.rt:259:13
 label-in-requires : tie.Need-label-in-requires
 label-in-requires c κs =
     let start = c .before .before .before .before .before .before in
@@ -55,19 +49,15 @@ label-in-requires c κs =
       ),
     )
 
--- src/lib.rt:262:20
 get-requires-3 : tie.Need-get-requires-3
 get-requires-3 c κs = search needs
 
--- src/lib.rt:263:19
 lesser-requires : tie.Need-lesser-requires
 lesser-requires c κs = search needs
 
--- src/lib.rt:264:20
 greater-requires : tie.Need-greater-requires
 greater-requires c κs = search needs
 
--- src/lib.rt:260:9
 returns : tie.Need-returns
 returns c =
     let start = c .before .before .before .before .before .before .before .before .before .before in
@@ -83,35 +73,27 @@ returns c =
     (get3 .result) (lesser .result) (c .greater .result) (get2 .ensures) (label-in .ensures) (get3 .ensures) (omega (arith, get3 .ok))
     (lesser .ensures) (c .greater .ensures)
 
--- src/lib.rt:267:13
 sub-v : tie.Need-sub-v
 sub-v c = search needs
 
--- src/lib.rt:267:13
 sub-v-2 : tie.Need-sub-v-2
 sub-v-2 c = search needs
 
--- src/lib.rt:268:20
 cast-lesser : tie.Need-cast-lesser
 cast-lesser c = search needs
 
--- src/lib.rt:268:32
 get-requires-4 : tie.Need-get-requires-4
 get-requires-4 c κs = search needs
 
--- src/lib.rt:268:32
 cast-lesser-2 : tie.Need-cast-lesser-2
 cast-lesser-2 c = search needs
 
--- src/lib.rt:268:13
 lesser-requires-2 : tie.Need-lesser-requires-2
 lesser-requires-2 c κs = search needs
 
--- src/lib.rt:268:13
 cast-x : tie.Need-cast-x
 cast-x c = search needs
 
--- src/lib.rt:249:1
 returns-2 : tie.Need-returns-2
 returns-2 c =
     let start = c .before .before .before .before .before .before .before .before .before in

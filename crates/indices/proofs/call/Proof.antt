@@ -8,30 +8,24 @@ use Rattle.indices.proofs.monomial_index.call.Reads as monomial-index-c
 use Rattle.indices.proofs.ratio_monomial_index.call.Reads as ratio-monomial-index-call-reads
 use Rattle.indices.proofs.shape.Reads as shape-reads
 
--- src/lib.rt:45:9
 shape-requires : tie.Need-shape-requires
 shape-requires c κs = search needs
 
--- src/lib.rt:47:9
 call-requires : tie.Need-call-requires
 call-requires c κs =
     let b = c .before .before .before .before in
     let a = b .before .before .before .before .before .before in
     (b .shape .ensures, (c .before .before .if1 .taken, (a .pre .1 .0 .0, a .pre .1 .1)))
 
--- src/lib.rt:47:9
 same-length : tie.Need-same-length
 same-length c = search needs
 
--- src/lib.rt:47:9
 same-length-2 : tie.Need-same-length-2
 same-length-2 c = search needs
 
--- src/lib.rt:47:9
 returns : tie.Need-returns
 returns c = search needs
 
--- src/lib.rt:49:5
 call-requires-2 : tie.Need-call-requires-2
 call-requires-2 c κs =
     let b = c .before .before .before in
@@ -39,19 +33,15 @@ call-requires-2 c κs =
     let a = d .before .before .before .before .before .before in
     (d .shape .ensures, (two-kinds _ _ (d .shape .ensures) (b .if1 .left), a .pre .1))
 
--- src/lib.rt:31:1
 same-length-3 : tie.Need-same-length-3
 same-length-3 c = search needs
 
--- src/lib.rt:31:1
 same-length-4 : tie.Need-same-length-4
 same-length-4 c = search needs
 
--- src/lib.rt:31:1
 same-length-5 : tie.Need-same-length-5
 same-length-5 c = search needs
 
--- src/lib.rt:31:1
 returns-2 : tie.Need-returns-2
 returns-2 c = search needs
 

@@ -7,47 +7,36 @@ use Rattle.indices.proofs.shape.Reads as reads
 use Rattle.indices.proofs.shape.Lts as lts
 use Rattle.words.proofs.get.Reads as get-reads
 
--- src/lib.rt:22:15
 get-requires : tie.Need-get-requires
 get-requires c κs = omega (arith, head-room _ (c .before .pre))
 
--- src/lib.rt:22:15
 cast-t3 : tie.Need-cast-t3
 cast-t3 c = search needs
 
--- src/lib.rt:23:20
 get-requires-2 : tie.Need-get-requires-2
 get-requires-2 c κs = omega (arith, head-room _ (c .before .before .pre))
 
--- src/lib.rt:23:20
 cast-t5 : tie.Need-cast-t5
 cast-t5 c = search needs
 
--- src/lib.rt:24:19
 get-requires-3 : tie.Need-get-requires-3
 get-requires-3 c κs = omega (arith, head-room _ (c .before .before .before .pre))
 
--- src/lib.rt:24:19
 cast-t7 : tie.Need-cast-t7
 cast-t7 c = search needs
 
--- src/lib.rt:25:18
 get-requires-4 : tie.Need-get-requires-4
 get-requires-4 c κs = omega (arith, head-room _ (c .before .before .before .before .pre))
 
--- src/lib.rt:25:18
 cast-t9 : tie.Need-cast-t9
 cast-t9 c = search needs
 
--- src/lib.rt:26:16
 get-requires-5 : tie.Need-get-requires-5
 get-requires-5 c κs = omega (arith, head-room _ (c .before .before .before .before .before .pre))
 
--- src/lib.rt:26:16
 cast-t11 : tie.Need-cast-t11
 cast-t11 c = search needs
 
--- src/lib.rt:17:1
 returns : tie.Need-returns
 returns c =
     let b = c .before .before .before in

@@ -5,47 +5,37 @@ use Rattle.kd_query.proofs.by_lm.Tie as tie
 use Rattle.kd_query.proofs.by_lm.Reads as reads
 use Rattle.kd_query.proofs.by_lm.Lts as lts
 
--- src/lib.rt:48:30
 enum-told : tie.Need-enum-told
 enum-told c = search needs
 
--- src/lib.rt:49:28
 enum-told-2 : tie.Need-enum-told-2
 enum-told-2 c = search needs
 
--- src/lib.rt:50:25
 enum-told-3 : tie.Need-enum-told-3
 enum-told-3 c = search needs
 
--- src/lib.rt:51:24
 enum-told-4 : tie.Need-enum-told-4
 enum-told-4 c = search needs
 
--- src/lib.rt:52:29
 enum-told-5 : tie.Need-enum-told-5
 enum-told-5 c = search needs
 
--- src/lib.rt:44:1
 returns : tie.Need-returns
 unfolding lmDivides
 returns c = search needs
 
--- src/lib.rt:44:1
 returns-2 : tie.Need-returns-2
 unfolding lmDivides
 returns-2 c = search needs
 
--- src/lib.rt:44:1
 returns-3 : tie.Need-returns-3
 unfolding lmDivides
 returns-3 c = search needs
 
--- src/lib.rt:44:1
 returns-4 : tie.Need-returns-4
 unfolding lmDivides
 returns-4 c = search needs
 
--- src/lib.rt:44:1
 returns-5 : tie.Need-returns-5
 unfolding lmDivides
 returns-5 c = search needs

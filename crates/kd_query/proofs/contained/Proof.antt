@@ -6,15 +6,12 @@ use Rattle.kd_query.proofs.contained.Reads as reads
 use Rattle.kd_query.proofs.contained.Lts as lts
 use Rattle.kd_query.proofs.pose.Reads as pose-reads
 
--- src/lib.rt:107:5
 pose-requires : tie.Need-pose-requires
 pose-requires c κs = search needs
 
--- src/lib.rt:99:1
 same-length : tie.Need-same-length
 same-length c = search needs
 
--- src/lib.rt:99:1
 returns : tie.Need-returns
 returns c =
     let b2 = c .before .before in

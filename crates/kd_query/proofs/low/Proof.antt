@@ -7,27 +7,21 @@ use Rattle.kd_query.proofs.low.Lts as lts
 use Rattle.kd_query.proofs.pose.Reads as pose-reads
 use Rattle.kd_query.proofs.ranges.from_of.Reads as from-of-reads
 
--- src/lib.rt:148:9
 from-of-requires : tie.Need-from-of-requires
 from-of-requires c κs = search needs
 
--- src/lib.rt:149:40
 add-from-of : tie.Need-add-from-of
 add-from-of c = search needs
 
--- src/lib.rt:149:9
 from-of-requires-2 : tie.Need-from-of-requires-2
 from-of-requires-2 c κs = search needs
 
--- src/lib.rt:150:5
 pose-requires : tie.Need-pose-requires
 pose-requires c κs = search needs
 
--- src/lib.rt:139:1
 same-length : tie.Need-same-length
 same-length c = search needs
 
--- src/lib.rt:139:1
 returns : tie.Need-returns
 returns c =
     let b2 = c .before .before in

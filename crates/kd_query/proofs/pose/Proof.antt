@@ -14,48 +14,38 @@ use Rattle.kd_query.proofs.writing.put_masks.Reads as put-masks-reads
 use Rattle.kd_query.proofs.writing.put_range.Reads as put-range-reads
 use Rattle.kd_query.proofs.writing.put_slot.Reads as put-slot-reads
 
--- src/lib.rt:88:9
 by-lm-requires : tie.Need-by-lm-requires
 by-lm-requires c κs = search needs
 
--- src/lib.rt:89:5
 limit-requires : tie.Need-limit-requires
 limit-requires c κs = search needs
 
--- src/lib.rt:90:27
 number-requires : tie.Need-number-requires
 number-requires c κs = search needs
 
--- src/lib.rt:90:47
 masks-of-requires : tie.Need-masks-of-requires
 masks-of-requires c κs =
     let s = c .before .before .before .before .before .before .before .before .before .before in
     (s .pre .1 .0 .range, (s .pre .1 .0 .room, (map-good (s .args .image .now) (s .args .s) (s .pre .1 .0) (s .pre .0 .state) (s .pre .0 .is), s .pre .1 .1 .1)))
 
--- src/lib.rt:90:5
 put-masks-requires : tie.Need-put-masks-requires
 put-masks-requires c κs =
     let b5 = c .before .before .before .before .before in
     let s = b5 .before .before .before .before .before .before in
     (omega (arith, s .pre .1 .1 .0, b5 .limit .kept .0), omega (arith, c .before .number .ensures, number-small (s .args .search)))
 
--- src/lib.rt:91:5
 put-range-requires : tie.Need-put-range-requires
 put-range-requires c κs = search needs
 
--- src/lib.rt:92:5
 put-slot-requires : tie.Need-put-slot-requires
 put-slot-requires c κs = search needs
 
--- src/lib.rt:93:5
 lay-requires : tie.Need-lay-requires
 lay-requires c κs = search needs
 
--- src/lib.rt:72:1
 same-length : tie.Need-same-length
 same-length c = search needs
 
--- src/lib.rt:72:1
 returns : tie.Need-returns
 returns c =
     let b2 = c .before .before in

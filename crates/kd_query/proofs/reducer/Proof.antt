@@ -9,19 +9,15 @@ use Rattle.kd_query.proofs.reducer.Lts as lts
 use Rattle.kd_query.proofs.pose.Reads as pose-reads
 use Rattle.kd_query.proofs.ranges.ends_of.Reads as ends-of-reads
 
--- src/lib.rt:120:9
 ends-of-requires : tie.Need-ends-of-requires
 ends-of-requires c κs = search needs
 
--- src/lib.rt:121:5
 pose-requires : tie.Need-pose-requires
 pose-requires c κs = search needs
 
--- src/lib.rt:111:1
 same-length : tie.Need-same-length
 same-length c = search needs
 
--- src/lib.rt:111:1
 returns : tie.Need-returns
 returns c =
     let b2 = c .before .before in

@@ -26,33 +26,28 @@ made c =
     (s .pre .1 .1 .1 .1 .1 .1 .0) (s .pre .1 .1 .1 .1 .1 .1 .1) (s .args .scratch .now) (f .last .1 .1 .0) (f .result)
     (s .pre .1 .1 .1 .1 .0) (f .ensures .0) (f .ensures .1)
 
--- src/lib.rt:173:9
 fraction-division-requires : tie.Need-fraction-division-requires
 fraction-division-requires c κs =
     let s = c .before .before .before .before .before .before in
     ratio-fits (s .args .s .variables) (s .pre .1 .0 .range .vars-to) (words (s .args .m .now)) (words (s .args .lm .now))
     (s .pre .1 .1 .1 .1 .1 .1 .0) (s .pre .1 .1 .1 .1 .1 .1 .1) (s .args .scratch .now) (s .pre .1 .1 .1 .1 .0)
 
--- src/lib.rt:174:13
 mul-e : tie.Need-mul-e
 mul-e c =
     let b2 = c .before .before in
     let s = b2 .before .before .before .before .before .before .before in
     omega (arith, made b2 .room, s .good)
 
--- src/lib.rt:175:49
 slice-reshare-prefix-ends-of : tie.Need-slice-reshare-prefix-ends-of
 slice-reshare-prefix-ends-of c =
     let b2 = c .before .before in
     made b2 .room
 
--- src/lib.rt:175:49
 slice-aggregate-ends-of : tie.Need-slice-aggregate-ends-of
 slice-aggregate-ends-of c =
     let b3 = c .before .before .before in
     sym (made b3 .size)
 
--- src/lib.rt:175:9
 ends-of-requires : tie.Need-ends-of-requires
 ends-of-requires c κs =
     let b3 = c .before .before .before in
@@ -68,29 +63,23 @@ ends-of-requires c κs =
       ),
     )
 
--- src/lib.rt:176:40
 add-from-of : tie.Need-add-from-of
 add-from-of c = search needs
 
--- src/lib.rt:176:9
 from-of-requires : tie.Need-from-of-requires
 from-of-requires c κs = search needs
 
--- src/lib.rt:177:5
 pose-requires : tie.Need-pose-requires
 pose-requires c κs =
     let s = c .before .before .before .before .before .before .before .before .before .before .before .before .before in
     (s .pre .0, (s .pre .1 .0, (s .pre .1 .1 .1 .0, s .pre .1 .1 .1 .1 .1 .1 .0)))
 
--- src/lib.rt:154:1
 same-length : tie.Need-same-length
 same-length c = search needs
 
--- src/lib.rt:154:1
 same-length-2 : tie.Need-same-length-2
 same-length-2 c = search needs
 
--- src/lib.rt:154:1
 returns : tie.Need-returns
 returns c =
     let b2 = c .before .before in

@@ -19,33 +19,27 @@ Inv-loop image s dim lo c n i₀ i = (i ≤ n) × Tried (keyIn (words image) s) 
 abbrev μ-loop : tie.MeasureT-loop
 μ-loop image s dim lo c n i₀ i = n - i
 
--- src/bifurcate.rt:91:13
 add-n : tie.Need-add-n Inv-loop μ-loop
 add-n c = omega (arith, c .before .before .pre .0 .range .vars-from, c .before .before .pre .0 .range .vars-to, c .before .before .pre .0 .range .kind-to)
 
--- src/bifurcate.rt:93:5
 loop-holds : tie.Need-loop-holds Inv-loop μ-loop
 loop-holds c = (omega arith, tried-none _ _ _ _ _)
 
--- src/bifurcate.rt:94:18
 add-d : tie.Need-add-d Inv-loop μ-loop
 add-d c =
     let start = c .before .before .before .before in
     omega (arith, start .pre .1 .0, start .pre .0 .range .vars-from, start .pre .0 .range .vars-to, start .pre .0 .range .kind-to)
 
--- src/bifurcate.rt:94:17
 rem-d : tie.Need-rem-d Inv-loop μ-loop
 rem-d c =
     let start = c .before .before .before .before in
     omega (arith, start .pre .0 .range .vars-from, start .pre .0 .range .vars-to, start .pre .0 .range .kind-to)
 
--- src/bifurcate.rt:95:13
 extremes-requires : tie.Need-extremes-requires Inv-loop μ-loop
 extremes-requires c κs =
     let start = c .before .before .before .before in
     (start .pre .0, (mod-lt _ (omega (arith, start .pre .0 .range .vars-from, start .pre .0 .range .vars-to, start .pre .0 .range .kind-to)), start .pre .1 .1))
 
--- src/bifurcate.rt:99:26
 add-t12 : tie.Need-add-t12 Inv-loop μ-loop
 add-t12 c =
     let start = c .before .before .before .before .before .before .before .before in
@@ -53,7 +47,6 @@ add-t12 c =
     let extremes = c .before .before .before .extremes in
     omega (arith, extremes-small _ _ _ _ _ _ (key-small (start .args .image .now) (start .args .s) (λ j. (shared-slice-known .given) j .fits)) (extremes .ensures .0) (extremes .ensures .1))
 
--- src/bifurcate.rt:99:26
 add-t13 : tie.Need-add-t13 Inv-loop μ-loop
 add-t13 c =
     let start = c .before .before .before .before .before .before .before .before in
@@ -61,7 +54,6 @@ add-t13 c =
     let extremes = c .before .before .before .extremes in
     omega (arith, extremes-small _ _ _ _ _ _ (key-small (start .args .image .now) (start .args .s) (λ j. (shared-slice-known .given) j .fits)) (extremes .ensures .0) (extremes .ensures .1))
 
--- src/bifurcate.rt:99:24
 cast-t15 : tie.Need-cast-t15 Inv-loop μ-loop
 cast-t15 c =
     let start = c .before .before .before .before .before .before .before .before in
@@ -69,7 +61,6 @@ cast-t15 c =
     let extremes = c .before .before .before .extremes in
     omega (arith, extremes-small _ _ _ _ _ _ (key-small (start .args .image .now) (start .args .s) (λ j. (shared-slice-known .given) j .fits)) (extremes .ensures .0) (extremes .ensures .1))
 
--- src/bifurcate.rt:97:13
 returns : tie.Need-returns Inv-loop μ-loop
 returns c =
     let start = c .before .before .before .before .before .before .before .before in
@@ -79,17 +70,14 @@ returns c =
     tried-hit _ _ _ _ _ _ _ _ (loop-test .taken) (mod-lt _ (omega (arith, start .pre .0 .range .vars-from, start .pre .0 .range .vars-to, start .pre .0 .range .kind-to)))
     (extremes .ensures .0) (extremes .ensures .1) (c .before .if1 .taken) (loop .inv .1)
 
--- src/bifurcate.rt:102:9
 add-i : tie.Need-add-i Inv-loop μ-loop
 add-i c =
     let start = c .before .before .before .before .before .before .before in
     omega (arith, start .pre .0 .range .vars-from, start .pre .0 .range .vars-to, start .pre .0 .range .kind-to)
 
--- src/bifurcate.rt:93:5
 loop-less : tie.Need-loop-less Inv-loop μ-loop
 loop-less c = omega arith
 
--- src/bifurcate.rt:93:5
 loop-again : tie.Need-loop-again Inv-loop μ-loop
 loop-again c =
     let loop = c .before .before .before .before .loop in
@@ -97,7 +85,6 @@ loop-again c =
     let extremes = c .before .before .extremes in
     (omega arith, tried-more _ _ _ _ _ _ _ _ (loop-test .taken) (extremes .ensures .0) (extremes .ensures .1) (omega arith) (loop .inv .1))
 
--- src/bifurcate.rt:86:1
 returns-2 : tie.Need-returns-2 Inv-loop μ-loop
 returns-2 c = tried-all _ _ _ _ _ _ (omega arith) (c .before .loop .inv .1)
 

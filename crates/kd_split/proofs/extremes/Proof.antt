@@ -19,33 +19,27 @@ Inv-loop image s v lo c p first least₀ greatest₀ i₀ least greatest i = (i 
 abbrev μ-loop : tie.MeasureT-loop
 μ-loop image s v lo c p first least₀ greatest₀ i₀ least greatest i = c - i
 
--- src/bifurcate.rt:50:13
 permutation-at-requires : tie.Need-permutation-at-requires Inv-loop μ-loop
 permutation-at-requires c κs = c .before .pre .0 .range
 
--- src/bifurcate.rt:50:13
 add-p : tie.Need-add-p Inv-loop μ-loop
 add-p c =
     let start = c .before .before in
     omega (arith, place-room (start .args .image .now) (start .args .s) (start .pre .0) ((start .args .lo) + (start .args .c)) (start .pre .1 .1 .0), c .permutation-at .ensures)
 
--- src/bifurcate.rt:51:39
 get-requires : tie.Need-get-requires Inv-loop μ-loop
 get-requires c κs =
     let start = c .before .before in
     omega (arith, place-room (start .args .image .now) (start .args .s) (start .pre .0) ((start .args .lo) + (start .args .c)) (start .pre .1 .1 .0), c .permutation-at .ensures, start .pre .1 .1 .1)
 
--- src/bifurcate.rt:51:39
 cast-key-in : tie.Need-cast-key-in Inv-loop μ-loop
 cast-key-in c = omega arith
 
--- src/bifurcate.rt:51:9
 key-in-requires : tie.Need-key-in-requires Inv-loop μ-loop
 key-in-requires c κs =
     let start = c .before .before .before in
     (start .pre .0, (start .pre .1 .0, rw (c .get .ensures, c .before .permutation-at .ensures) ((start .pre .0 .places) (start .args .lo) (omega (arith, start .pre .1 .1)))))
 
--- src/bifurcate.rt:55:5
 loop-holds : tie.Need-loop-holds Inv-loop μ-loop
 loop-holds c =
     let start = c .before .before .before .before in (
@@ -54,40 +48,33 @@ loop-holds c =
           (c .before .get .ensures) (c .key-in .ensures),
     )
 
--- src/bifurcate.rt:56:57
 add-get : tie.Need-add-get Inv-loop μ-loop
 add-get c =
     let start = c .before .before .before .before .before .before in
     let permutation-at = c .before .before .before .before .permutation-at in
     omega (arith, place-room (start .args .image .now) (start .args .s) (start .pre .0) ((start .args .lo) + (start .args .c)) (start .pre .1 .1 .0), permutation-at .ensures)
 
--- src/bifurcate.rt:56:39
 get-requires-2 : tie.Need-get-requires-2 Inv-loop μ-loop
 get-requires-2 c κs =
     let start = c .before .before .before .before .before .before in
     let permutation-at = c .before .before .before .before .permutation-at in
     omega (arith, place-room (start .args .image .now) (start .args .s) (start .pre .0) ((start .args .lo) + (start .args .c)) (start .pre .1 .1 .0), permutation-at .ensures)
 
--- src/bifurcate.rt:56:39
 cast-key-in-2 : tie.Need-cast-key-in-2 Inv-loop μ-loop
 cast-key-in-2 c = omega arith
 
--- src/bifurcate.rt:56:13
 key-in-requires-2 : tie.Need-key-in-requires-2 Inv-loop μ-loop
 key-in-requires-2 c κs =
     let start = c .before .before .before .before .before .before .before in
     let permutation-at = c .before .before .before .before .before .permutation-at in
     (start .pre .0, (start .pre .1 .0, place _ _ (start .pre .0) _ _ _ _ _ (start .pre .1 .1 .0) (c .before .loop-test .taken) (permutation-at .ensures) (c .get2 .ensures) .small))
 
--- src/bifurcate.rt:63:9
 add-i : tie.Need-add-i Inv-loop μ-loop
 add-i c = omega arith
 
--- src/bifurcate.rt:55:5
 loop-less : tie.Need-loop-less Inv-loop μ-loop
 loop-less c = omega arith
 
--- src/bifurcate.rt:55:5
 loop-again : tie.Need-loop-again Inv-loop μ-loop
 loop-again c =
     let start = c .before .before .before .before .before .before .before .before .before .before in
@@ -101,7 +88,6 @@ loop-again c =
           (⊎-elim (λ w. omega arith) (λ w. omega arith) (c .if2 .came)),
     )
 
--- src/bifurcate.rt:45:1
 returns : tie.Need-returns Inv-loop μ-loop
 returns c =
     let start = c .before .before .before .before .before .before in

@@ -19,37 +19,30 @@ Inv-loop image s x lo c p best₀ i₀ best i = (i ≤ c) × Lowest (words image
 abbrev μ-loop : tie.MeasureT-loop
 μ-loop image s x lo c p best₀ i₀ best i = c - i
 
--- src/bifurcate.rt:213:13
 permutation-at-requires : tie.Need-permutation-at-requires Inv-loop μ-loop
 permutation-at-requires c κs = c .before .pre .0 .range
 
--- src/bifurcate.rt:213:13
 add-p : tie.Need-add-p Inv-loop μ-loop
 add-p c =
     let start = c .before .before in
     omega (arith, place-room (start .args .image .now) (start .args .s) (start .pre .0) ((start .args .lo) + (start .args .c)) (start .pre .1 .1), c .permutation-at .ensures)
 
--- src/bifurcate.rt:216:5
 loop-holds : tie.Need-loop-holds Inv-loop μ-loop
 loop-holds c = (omega arith, lowest-none _ _ (c .before .before .pre .1 .0) _ _)
 
--- src/bifurcate.rt:217:35
 add-get : tie.Need-add-get Inv-loop μ-loop
 add-get c =
     let start = c .before .before .before .before in
     omega (arith, place-room (start .args .image .now) (start .args .s) (start .pre .0) ((start .args .lo) + (start .args .c)) (start .pre .1 .1), c .before .before .permutation-at .ensures)
 
--- src/bifurcate.rt:217:17
 get-requires : tie.Need-get-requires Inv-loop μ-loop
 get-requires c κs =
     let start = c .before .before .before .before in
     omega (arith, place-room (start .args .image .now) (start .args .s) (start .pre .0) ((start .args .lo) + (start .args .c)) (start .pre .1 .1), c .before .before .permutation-at .ensures)
 
--- src/bifurcate.rt:217:17
 cast-e : tie.Need-cast-e Inv-loop μ-loop
 cast-e c = search needs
 
--- src/bifurcate.rt:218:9
 lower-requires : tie.Need-lower-requires Inv-loop μ-loop
 lower-requires c κs =
     let start = c .before .before .before .before .before in
@@ -65,15 +58,12 @@ lower-requires c κs =
       ),
     )
 
--- src/bifurcate.rt:219:9
 add-i : tie.Need-add-i Inv-loop μ-loop
 add-i c = omega arith
 
--- src/bifurcate.rt:216:5
 loop-less : tie.Need-loop-less Inv-loop μ-loop
 loop-less c = omega arith
 
--- src/bifurcate.rt:216:5
 loop-again : tie.Need-loop-again Inv-loop μ-loop
 loop-again c =
     let start = c .before .before .before .before .before .before in
@@ -84,7 +74,6 @@ loop-again c =
           (c .before .get .ensures) (c .lower .ensures .0) (c .lower .ensures .1) (loop .inv .1),
     )
 
--- src/bifurcate.rt:208:1
 returns : tie.Need-returns Inv-loop μ-loop
 returns c =
     let start = c .before .before .before .before in

@@ -20,33 +20,27 @@ Inv-loop image s d x want lo c out₀ at p n₀ i₀ out n i = (i ≤ c) × Gath
 abbrev μ-loop : tie.MeasureT-loop
 μ-loop image s d x want lo c out₀ at p n₀ i₀ out n i = c - i
 
--- src/bifurcate.rt:125:13
 permutation-at-requires : tie.Need-permutation-at-requires Inv-loop μ-loop
 permutation-at-requires c κs = c .before .before .pre .0 .range
 
--- src/bifurcate.rt:125:13
 add-p : tie.Need-add-p Inv-loop μ-loop
 add-p c =
     let start = c .before .before .before in
     omega (arith, place-room (start .args .image .now) (start .args .s) (start .pre .0) ((start .args .lo) + (start .args .c)) (start .pre .1 .0 .1), c .permutation-at .ensures)
 
--- src/bifurcate.rt:128:5
 loop-holds : tie.Need-loop-holds Inv-loop μ-loop
 loop-holds c = (omega arith, gather-none _ _ _ _ _ _)
 
--- src/bifurcate.rt:129:35
 add-get : tie.Need-add-get Inv-loop μ-loop
 add-get c =
     let start = c .before .before .before .before .before in
     omega (arith, place-room (start .args .image .now) (start .args .s) (start .pre .0) ((start .args .lo) + (start .args .c)) (start .pre .1 .0 .1), c .before .before .permutation-at .ensures)
 
--- src/bifurcate.rt:129:13
 get-requires : tie.Need-get-requires Inv-loop μ-loop
 get-requires c κs =
     let start = c .before .before .before .before .before in
     omega (arith, place-room (start .args .image .now) (start .args .s) (start .pre .0) ((start .args .lo) + (start .args .c)) (start .pre .1 .0 .1), c .before .before .permutation-at .ensures)
 
--- src/bifurcate.rt:130:49
 add-push : tie.Need-add-push Inv-loop μ-loop
 add-push c =
     let start = c .before .before .before .before .before .before .before in
@@ -58,7 +52,6 @@ add-push c =
           (c .before .get .ensures) (loop .inv .1) (start .pre .1 .1),
     )
 
--- src/bifurcate.rt:130:14
 push-requires : tie.Need-push-requires Inv-loop μ-loop
 push-requires c κs =
     let start = c .before .before .before .before .before .before .before in
@@ -77,19 +70,15 @@ push-requires c κs =
       ),
     )
 
--- src/bifurcate.rt:130:9
 add-n : tie.Need-add-n Inv-loop μ-loop
 add-n c = omega (arith, c .before .before .before .before .before .before .loop .inv .1 .few, push-few _ _ _ (c .before .before .push .ensures .0))
 
--- src/bifurcate.rt:131:9
 add-i : tie.Need-add-i Inv-loop μ-loop
 add-i c = omega arith
 
--- src/bifurcate.rt:128:5
 loop-less : tie.Need-loop-less Inv-loop μ-loop
 loop-less c = omega arith
 
--- src/bifurcate.rt:128:5
 loop-again : tie.Need-loop-again Inv-loop μ-loop
 loop-again c =
     let start = c .before .before .before .before .before .before .before .before .before .before in
@@ -103,11 +92,9 @@ loop-again c =
           (push .ensures .0) (start .pre .1 .1) (push .kept .1 .1 .1 .1 .1 .1 .0) (push .ensures .1),
     )
 
--- src/bifurcate.rt:118:1
 same-length : tie.Need-same-length Inv-loop μ-loop
 same-length c = c .before .loop .inv .1 .long
 
--- src/bifurcate.rt:118:1
 returns : tie.Need-returns Inv-loop μ-loop
 returns c =
     let start = c .before .before .before .before .before in

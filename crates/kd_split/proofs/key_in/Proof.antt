@@ -9,43 +9,34 @@ use Rattle.kd_split.proofs.key_in.Lts as lts
 use Rattle.index_image.proofs.stored.label_in.Reads as label-in-reads
 use Rattle.kd_split.proofs.power_in.Reads as power-in-reads
 
--- src/bifurcate.rt:50:16
 power-in-requires : tie.Need-power-in-requires
 power-in-requires c κs = (c .before .before .before .pre .0, (omega (arith, c .before .before .before .pre .1 .0, c .if1 .taken), c .before .before .before .pre .1 .1))
 
--- src/bifurcate.rt:50:16
 cast-result : tie.Need-cast-result
 cast-result c = search needs
 
--- src/bifurcate.rt:50:9
 returns : tie.Need-returns
 returns c = key-plain _ _ _ _ _ (c .before .if1 .taken) (c .power-in .ensures)
 
--- src/bifurcate.rt:53:9
 label-in-requires : tie.Need-label-in-requires
 label-in-requires c κs =
     let start = c .before .before .before .before in
     label-asked (start .args .image .now) (start .args .s) (start .pre .0) (start .args .e) (omega (arith, start .pre .0 .range .kind-to, c .before .if1 .left)) (start .pre .1 .1)
 
--- src/bifurcate.rt:53:9
 returns-2 : tie.Need-returns-2
 returns-2 c = key-label _ _ _ _ _ (omega (arith, c .before .before .before .before .before .pre .0 .range .kind-to, c .before .before .if1 .left)) (c .before .if2 .taken) (c .label-in .ensures)
 
--- src/bifurcate.rt:55:24
 sub-power-in : tie.Need-sub-power-in
 sub-power-in c = search needs
 
--- src/bifurcate.rt:55:5
 power-in-requires-2 : tie.Need-power-in-requires-2
 power-in-requires-2 c κs =
     let start = c .before .before .before .before in
     (start .pre .0, (omega (arith, start .pre .1 .0, c .if2 .left, start .pre .0 .range .kind-to), start .pre .1 .1))
 
--- src/bifurcate.rt:55:5
 cast-result-2 : tie.Need-cast-result-2
 cast-result-2 c = search needs
 
--- src/bifurcate.rt:44:1
 returns-3 : tie.Need-returns-3
 returns-3 c = key-power _ _ _ _ _ (omega (arith, c .before .before .before .before .before .pre .0 .range .kind-to, c .before .before .if1 .left)) (c .before .if2 .left) (c .power-in2 .ensures)
 

@@ -10,21 +10,17 @@ use Rattle.kd_split.proofs.lower.Reads as reads
 use Rattle.kd_split.proofs.lower.Lts as lts
 use Rattle.index_image.proofs.stored.label_in.Reads as label-in-reads
 
--- src/bifurcate.rt:194:9
 label-in-requires : tie.Need-label-in-requires
 label-in-requires c κs = label-asked (c .before .args .image .now) (c .before .args .s) (c .before .pre .0) _ (c .before .pre .1 .0) (c .before .pre .1 .1 .0)
 
--- src/bifurcate.rt:196:9
 returns : tie.Need-returns
 returns c =
     let start = c .before .before .before in
     (lower-below (walk.label (words (start .args .image .now)) (start .args .s)) _ (start .args .e) _ _ (c .before .label-in .ensures) (c .if1 .taken), start .pre .1 .1 .1)
 
--- src/bifurcate.rt:199:16
 add-result : tie.Need-add-result
 add-result c = search needs
 
--- src/bifurcate.rt:199:9
 returns-2 : tie.Need-returns-2
 returns-2 c =
     let start = c .before .before .before .before in (
@@ -33,21 +29,17 @@ returns-2 c =
       omega (arith, start .pre .1 .1 .0),
     )
 
--- src/bifurcate.rt:201:50
 sub-label-in : tie.Need-sub-label-in
 sub-label-in c = search needs
 
--- src/bifurcate.rt:201:12
 label-in-requires-2 : tie.Need-label-in-requires-2
 label-in-requires-2 c κs =
     let start = c .before .before .before .before in
     label-asked (start .args .image .now) (start .args .s) (start .pre .0) _ (start .pre .1 .0) (omega (arith, start .pre .1 .1 .1, c .if2 .left))
 
--- src/bifurcate.rt:202:16
 add-result-2 : tie.Need-add-result-2
 add-result-2 c = search needs
 
--- src/bifurcate.rt:202:9
 returns-3 : tie.Need-returns-3
 returns-3 c =
     let start = c .before .before .before .before .before .before in
@@ -58,7 +50,6 @@ returns-3 c =
       omega (arith, start .pre .1 .1 .0),
     )
 
--- src/bifurcate.rt:189:1
 returns-4 : tie.Need-returns-4
 returns-4 c =
     let start = c .before .before .before .before .before .before in

@@ -8,21 +8,17 @@ use Rattle.kd_split.proofs.mark.Reads as reads
 use Rattle.kd_split.proofs.mark.Lts as lts
 use Rattle.kd_split.proofs.first_least.Reads as first-least-reads
 
--- src/bifurcate.rt:231:9
 returns : tie.Need-returns
 returns c = mark-plain _ _ _ _ _ (c .if1 .taken)
 
--- src/bifurcate.rt:234:9
 returns-2 : tie.Need-returns-2
 returns-2 c = mark-power _ _ _ _ _ (omega (arith, c .before .before .before .before .pre .0 .range .kind-to, c .before .if1 .left)) (c .if2 .taken)
 
--- src/bifurcate.rt:236:9
 first-least-requires : tie.Need-first-least-requires
 first-least-requires c κs =
     let start = c .before .before .before .before in
     (start .pre .0, (omega (arith, start .pre .0 .range .kind-to, c .before .if1 .left), start .pre .1))
 
--- src/bifurcate.rt:238:9
 returns-3 : tie.Need-returns-3
 returns-3 c =
     let start = c .before .before .before .before .before .before in
@@ -30,17 +26,14 @@ returns-3 c =
     mark-entry _ _ _ _ _ _ (c .before .first-least .result) _ (omega (arith, start .pre .0 .range .kind-to, if1 .left)) (c .before .before .if2 .left)
     (c .before .first-least .ensures .0) (omega (arith, c .if3 .taken))
 
--- src/bifurcate.rt:240:6
 sub-result : tie.Need-sub-result
 sub-result c = search needs
 
--- src/bifurcate.rt:240:5
 cast-result : tie.Need-cast-result
 cast-result c =
     let start = c .before .before .before .before .before .before in
     omega (arith, c .before .first-least .ensures .1, start .pre .0 .range .few, start .pre .0 .range .cap-to)
 
--- src/bifurcate.rt:225:1
 returns-4 : tie.Need-returns-4
 returns-4 c =
     let start = c .before .before .before .before .before .before in

@@ -14,11 +14,9 @@ use Rattle.index_image.proofs.Shape.permutation_at.Reads as permutation-at-read
 use Rattle.kd_split.proofs.gather.Reads as gather-reads
 use Rattle.words.proofs.runs.paste.Reads as paste-reads
 
--- src/bifurcate.rt:144:49
 slice-aggregate-gather : tie.Need-slice-aggregate-gather
 slice-aggregate-gather c = search needs
 
--- src/bifurcate.rt:144:9
 gather-requires : tie.Need-gather-requires
 gather-requires c κs =
     let start = c .before .before .before in (
@@ -33,11 +31,9 @@ gather-requires c κs =
       ),
     )
 
--- src/bifurcate.rt:145:50
 slice-aggregate-gather-2 : tie.Need-slice-aggregate-gather-2
 slice-aggregate-gather-2 c = search needs
 
--- src/bifurcate.rt:145:9
 gather-requires-2 : tie.Need-gather-requires-2
 gather-requires-2 c κs =
     let start = c .before .before .before .before .before .before .before in
@@ -55,7 +51,6 @@ gather-requires-2 c κs =
       ),
     )
 
--- src/bifurcate.rt:146:18
 add-e : tie.Need-add-e
 add-e c =
     let start = c .before .before .before .before .before .before .before .before .before in
@@ -67,7 +62,6 @@ add-e c =
       parts-length (words (start .args .image .now)) (start .args .s) (start .pre .0) (start .args .d) (start .args .x) (start .args .lo) (start .args .c) (start .pre .1 .1),
     )
 
--- src/bifurcate.rt:146:13
 mul-e : tie.Need-mul-e
 mul-e c =
     let start = c .before .before .before .before .before .before .before .before .before in
@@ -79,17 +73,14 @@ mul-e c =
       parts-length (words (start .args .image .now)) (start .args .s) (start .pre .0) (start .args .d) (start .args .x) (start .args .lo) (start .args .c) (start .pre .1 .1),
     )
 
--- src/bifurcate.rt:147:31
 permutation-at-requires : tie.Need-permutation-at-requires
 permutation-at-requires c κs = search needs
 
--- src/bifurcate.rt:147:31
 add-paste : tie.Need-add-paste
 add-paste c =
     let start = c .before .before .before .before .before .before .before .before .before .before .before in
     omega (arith, place-room (start .args .image .now) (start .args .s) (start .pre .0) ((start .args .lo) + (start .args .c)) (start .pre .1 .1), c .permutation-at .ensures)
 
--- src/bifurcate.rt:147:56
 array-share-prefix-scratch : tie.Need-array-share-prefix-scratch
 array-share-prefix-scratch c =
     let start = c .before .before .before .before .before .before .before .before .before .before .before in
@@ -105,7 +96,6 @@ array-share-prefix-scratch c =
       gather2 .kept .1 .1 .1 .1 .1 .1 .1 .0,
     )
 
--- src/bifurcate.rt:147:56
 slice-aggregate-paste : tie.Need-slice-aggregate-paste
 slice-aggregate-paste c =
     let start = c .before .before .before .before .before .before .before .before .before .before .before .before in
@@ -122,7 +112,6 @@ slice-aggregate-paste c =
       gather2 .kept .1 .1 .1 .1 .1 .1 .1 .0,
     )))
 
--- src/bifurcate.rt:147:5
 paste-requires : tie.Need-paste-requires
 paste-requires c κs =
     let start = c .before .before .before .before .before .before .before .before .before .before .before .before in
@@ -148,11 +137,9 @@ paste-requires c κs =
       parts-length W (start .args .s) (start .pre .0) (start .args .d) (start .args .x) (start .args .lo) (start .args .c) (start .pre .1 .1),
     )
 
--- src/bifurcate.rt:137:1
 same-length : tie.Need-same-length
 same-length c = search needs
 
--- src/bifurcate.rt:137:1
 returns : tie.Need-returns
 returns c =
     let start = c .before .before .before .before .before .before .before .before .before .before .before .before .before .before .before in

@@ -13,31 +13,24 @@ use Rattle.kd_split.proofs.power_in.Lts as lts
 use Rattle.index_image.proofs.Shape.entry_at.Reads as entry-at-reads
 use Rattle.monomial.proofs.power_of.Reads as power-of-reads
 
--- src/lib.rt:40:17
 entry-at-requires : tie.Need-entry-at-requires
 entry-at-requires c κs = search needs
 
--- src/lib.rt:40:13
 mul-a : tie.Need-mul-a
 mul-a c = omega (arith, entry-room (c .before .before .args .image .now) _ (c .before .before .pre .0) (c .before .before .args .e) (c .before .before .pre .1 .1), c .entry-at .ensures)
 
--- src/lib.rt:41:24
 sub-power-of : tie.Need-sub-power-of
 sub-power-of c = omega (arith, entry-room (c .before .before .args .image .now) _ (c .before .before .pre .0) (c .before .before .args .e) (c .before .before .pre .1 .1), c .entry-at .ensures)
 
--- src/lib.rt:41:24
 part-power-of-start : tie.Need-part-power-of-start
 part-power-of-start c = omega (arith, entry-room (c .before .before .args .image .now) _ (c .before .before .pre .0) (c .before .before .args .e) (c .before .before .pre .1 .1), c .entry-at .ensures)
 
--- src/lib.rt:41:24
 part-power-of-end : tie.Need-part-power-of-end
 part-power-of-end c = omega (arith, entry-room (c .before .before .args .image .now) _ (c .before .before .pre .0) (c .before .before .args .e) (c .before .before .pre .1 .1), c .entry-at .ensures)
 
--- src/lib.rt:41:40
 cast-power-of : tie.Need-cast-power-of
 cast-power-of c = search needs
 
--- src/lib.rt:41:5
 power-of-requires : tie.Need-power-of-requires
 power-of-requires c κs =
     let start = c .before .before .before in (
@@ -47,7 +40,6 @@ power-of-requires c κs =
           (rw (c .before .entry-at .ensures) ((start .pre .0 .lms) (start .args .e) (start .pre .1 .1))),
     )
 
--- src/lib.rt:35:1
 returns : tie.Need-returns
 returns c =
     let start = c .before .before .before .before in

@@ -8,21 +8,17 @@ use Rattle.kd_split.proofs.push.Lts as lts
 use Rattle.kd_split.proofs.wanted.Reads as wanted-reads
 use Rattle.words.proofs.put.Reads as put-reads
 
--- src/bifurcate.rt:110:8
 wanted-requires : tie.Need-wanted-requires
 wanted-requires c κs = search needs
 
--- src/bifurcate.rt:111:9
 put-requires : tie.Need-put-requires
 put-requires c κs =
     let start = c .before .before .before .before .before in
     push-room _ _ _ (start .args .out .now) _ (c .before .before .wanted .ensures) (c .before .if1 .taken) (start .pre .1 .1)
 
--- src/bifurcate.rt:112:9
 same-length : tie.Need-same-length
 same-length c = search needs
 
--- src/bifurcate.rt:112:9
 returns : tie.Need-returns
 returns c =
     let start = c .before .before .before .before .before .before .before .before in
@@ -30,7 +26,6 @@ returns c =
     let if1 = c .before .before .before .before .if1 in
     push-yes _ _ _ _ _ _ (wanted .ensures) (if1 .taken) (push-room _ _ _ (start .args .out .now) _ (wanted .ensures) (if1 .taken) (start .pre .1 .1)) (c .before .before .put .ensures)
 
--- src/bifurcate.rt:103:1
 returns-2 : tie.Need-returns-2
 returns-2 c = push-no _ _ _ _ _ (c .before .wanted .ensures) (c .if1 .left)
 

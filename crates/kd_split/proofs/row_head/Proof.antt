@@ -6,47 +6,36 @@ use Rattle.kd_split.proofs.row_head.Reads as reads
 use Rattle.kd_split.proofs.row_head.Lts as lts
 use Rattle.words.proofs.put.Reads as put-reads
 
--- src/bifurcate.rt:156:5
 put-requires : tie.Need-put-requires
 put-requires c κs = search needs
 
--- src/bifurcate.rt:157:23
 add-put : tie.Need-add-put
 add-put c = search needs
 
--- src/bifurcate.rt:157:5
 put-requires-2 : tie.Need-put-requires-2
 put-requires-2 c κs = search needs
 
--- src/bifurcate.rt:158:23
 add-put-2 : tie.Need-add-put-2
 add-put-2 c = search needs
 
--- src/bifurcate.rt:158:5
 put-requires-3 : tie.Need-put-requires-3
 put-requires-3 c κs = search needs
 
--- src/bifurcate.rt:159:23
 add-put-3 : tie.Need-add-put-3
 add-put-3 c = search needs
 
--- src/bifurcate.rt:159:5
 put-requires-4 : tie.Need-put-requires-4
 put-requires-4 c κs = search needs
 
--- src/bifurcate.rt:160:23
 add-put-4 : tie.Need-add-put-4
 add-put-4 c = search needs
 
--- src/bifurcate.rt:160:5
 put-requires-5 : tie.Need-put-requires-5
 put-requires-5 c κs = search needs
 
--- src/bifurcate.rt:152:1
 same-length : tie.Need-same-length
 same-length c = search needs
 
--- src/bifurcate.rt:152:1
 returns : tie.Need-returns
 returns c =
     let start = c .before .before .before .before .before .before .before .before .before .before .before .before .before .before .before .before .before .before .before .before .before in

@@ -14,11 +14,9 @@ use Rattle.kd_split.proofs.write_leaf.Reads as write-leaf-reads
 use Rattle.words.proofs.get.Reads as get-reads
 use Rattle.words.proofs.runs.move_up.Reads as move-up-reads
 
--- src/bifurcate.rt:287:9
 mark-requires : tie.Need-mark-requires
 mark-requires c κs = before-split _ _ _ _ _ _ _ (c .before .before .pre)
 
--- src/bifurcate.rt:288:9
 part-entries-requires : tie.Need-part-entries-requires
 part-entries-requires c κs =
     let start = c .before .before .before .before in (
@@ -26,30 +24,24 @@ part-entries-requires c κs =
       (start .pre .dim, split-numbers _ _ _ _ _ _ _ (start .args .x) (c .before .mark .result) (start .pre) (omega (arith, c .before .mark .ok)) (c .before .mark .ensures) .few),
     )
 
--- src/bifurcate.rt:289:13
 add-w : tie.Need-add-w
 add-w c = search needs
 
--- src/bifurcate.rt:290:9
 node-at-requires : tie.Need-node-at-requires
 node-at-requires c κs = search needs
 
--- src/bifurcate.rt:291:33
 add-move-up : tie.Need-add-move-up
 add-move-up c =
     let start = c .before .before .before .before .before .before .before .before .before .before in
     let mark = c .before .before .before .before .before .before .before .mark in
     omega (arith, split-numbers _ _ _ _ _ _ _ (start .args .x) (mark .result) (start .pre) (omega (arith, mark .ok)) (mark .ensures) .three, c .before .node-at .ensures)
 
--- src/bifurcate.rt:291:41
 node-at-requires-2 : tie.Need-node-at-requires-2
 node-at-requires-2 c κs = search needs
 
--- src/bifurcate.rt:291:58
 mul-move-up : tie.Need-mul-move-up
 mul-move-up c = search needs
 
--- src/bifurcate.rt:291:5
 move-up-requires : tie.Need-move-up-requires
 move-up-requires c κs =
     let start = c .before .before .before .before .before .before .before .before .before .before .before in
@@ -69,7 +61,6 @@ move-up-requires c κs =
       ),
     )
 
--- src/bifurcate.rt:292:34
 add-get : tie.Need-add-get
 add-get c =
     let start = c .before .before .before .before .before .before .before .before .before .before .before .before .before .before .before in
@@ -77,7 +68,6 @@ add-get c =
     let node-at = c .before .before .before .before .before .before .node-at in
     omega (arith, split-numbers _ _ _ _ _ _ _ (start .args .x) (mark .result) (start .pre) (omega (arith, mark .ok)) (mark .ensures) .three, node-at .ensures)
 
--- src/bifurcate.rt:292:9
 get-requires : tie.Need-get-requires
 get-requires c κs =
     let start = c .before .before .before .before .before .before .before .before .before .before .before .before .before .before .before in
@@ -87,25 +77,21 @@ get-requires c κs =
     let move-up = c .before .before .before .move-up in
     omega (arith, split-numbers _ _ _ _ _ _ _ (start .args .x) (mark .result) (start .pre) (omega (arith, mark .ok)) (mark .ensures) .three, node-at .ensures, part-entries .kept .0, move-up .kept .0)
 
--- src/bifurcate.rt:293:25
 cast-row-head : tie.Need-cast-row-head
 cast-row-head c =
     let start = c .before .before .before .before .before .before .before .before .before .before .before .before .before .before .before .before .before in
     let mark = c .before .before .before .before .before .before .before .before .before .before .before .before .before .before .mark in
     omega (arith, split-numbers _ _ _ _ _ _ _ (start .args .x) (mark .result) (start .pre) (omega (arith, mark .ok)) (mark .ensures) .dim)
 
--- src/bifurcate.rt:293:25
 add-row-head : tie.Need-add-row-head
 add-row-head c =
     let start = c .before .before .before .before .before .before .before .before .before .before .before .before .before .before .before .before .before in
     let mark = c .before .before .before .before .before .before .before .before .before .before .before .before .before .before .mark in
     omega (arith, split-numbers _ _ _ _ _ _ _ (start .args .x) (mark .result) (start .pre) (omega (arith, mark .ok)) (mark .ensures) .dim)
 
--- src/bifurcate.rt:293:44
 cast-row-head-2 : tie.Need-cast-row-head-2
 cast-row-head-2 c = search needs
 
--- src/bifurcate.rt:293:5
 row-head-requires : tie.Need-row-head-requires
 row-head-requires c κs =
     let start = c .before .before .before .before .before .before .before .before .before .before .before .before .before .before .before .before .before in
@@ -115,7 +101,6 @@ row-head-requires c κs =
     let move-up = c .before .before .before .before .before .move-up in
     omega (arith, split-numbers _ _ _ _ _ _ _ (start .args .x) (mark .result) (start .pre) (omega (arith, mark .ok)) (mark .ensures) .three, node-at .ensures, part-entries .kept .0, move-up .kept .0)
 
--- src/bifurcate.rt:294:26
 add-write-leaf : tie.Need-add-write-leaf
 add-write-leaf c =
     let start = c .before .before .before .before .before .before .before .before .before .before .before .before .before .before .before .before .before .before .before .before .before in
@@ -123,7 +108,6 @@ add-write-leaf c =
     let node-at = c .before .before .before .before .before .before .before .before .before .before .before .before .node-at in
     omega (arith, split-numbers _ _ _ _ _ _ _ (start .args .x) (mark .result) (start .pre) (omega (arith, mark .ok)) (mark .ensures) .three, node-at .ensures)
 
--- src/bifurcate.rt:294:5
 write-leaf-requires : tie.Need-write-leaf-requires
 write-leaf-requires c κs =
     let start = c .before .before .before .before .before .before .before .before .before .before .before .before .before .before .before .before .before .before .before .before .before in
@@ -155,11 +139,9 @@ write-leaf-requires c κs =
       ),
     )
 
--- src/bifurcate.rt:295:31
 mul-write-leaf : tie.Need-mul-write-leaf
 mul-write-leaf c = search needs
 
--- src/bifurcate.rt:295:26
 add-write-leaf-2 : tie.Need-add-write-leaf-2
 add-write-leaf-2 c =
     let start = c .before .before .before .before .before .before .before .before .before .before .before .before .before .before .before .before .before .before .before .before .before .before .before .before .before in
@@ -167,7 +149,6 @@ add-write-leaf-2 c =
     let node-at = c .before .before .before .before .before .before .before .before .before .before .before .before .before .before .before .before .node-at in
     omega (arith, split-numbers _ _ _ _ _ _ _ (start .args .x) (mark .result) (start .pre) (omega (arith, mark .ok)) (mark .ensures) .small, node-at .ensures)
 
--- src/bifurcate.rt:295:38
 add-write-leaf-3 : tie.Need-add-write-leaf-3
 add-write-leaf-3 c =
     let start = c .before .before .before .before .before .before .before .before .before .before .before .before .before .before .before .before .before .before .before .before .before .before .before .before .before in
@@ -180,7 +161,6 @@ add-write-leaf-3 c =
       split-numbers _ _ _ _ _ _ _ (start .args .x) (mark .result) (start .pre) (omega (arith, mark .ok)) (mark .ensures) .count,
     )
 
--- src/bifurcate.rt:295:46
 sub-write-leaf : tie.Need-sub-write-leaf
 sub-write-leaf c =
     let start = c .before .before .before .before .before .before .before .before .before .before .before .before .before .before .before .before .before .before .before .before .before .before .before .before .before in
@@ -188,7 +168,6 @@ sub-write-leaf c =
     let part-entries = c .before .before .before .before .before .before .before .before .before .before .before .before .before .before .before .before .before .before .before .before .part-entries in
     less-few _ _ _ _ _ _ _ (start .args .x) (mark .result) (start .pre) (omega (arith, mark .ok)) (mark .ensures) _ (part-entries .ensures .0)
 
--- src/bifurcate.rt:295:5
 write-leaf-requires-2 : tie.Need-write-leaf-requires-2
 write-leaf-requires-2 c κs =
     let start = c .before .before .before .before .before .before .before .before .before .before .before .before .before .before .before .before .before .before .before .before .before .before .before .before .before in
@@ -222,11 +201,9 @@ write-leaf-requires-2 c κs =
       ),
     )
 
--- src/bifurcate.rt:274:1
 same-length : tie.Need-same-length
 same-length c = search needs
 
--- src/bifurcate.rt:274:1
 returns : tie.Need-returns
 returns c =
     let start = c .before .before .before .before .before .before .before .before .before .before .before .before .before .before .before .before .before .before .before .before .before .before .before .before .before .before .before .before in

@@ -11,39 +11,30 @@ use Rattle.kd_split.proofs.choose.Reads as choose-reads
 use Rattle.kd_split.proofs.split_leaf.Reads as split-leaf-reads
 use Rattle.words.proofs.get.Reads as get-reads
 
--- src/lib.rt:86:9
 node-at-requires : tie.Need-node-at-requires
 node-at-requires c κs = (node-numbers _ _ _ _ _ (c .before .pre .0) .range, node-numbers _ _ _ _ _ (c .before .pre .0) .row)
 
--- src/lib.rt:87:8
 get-requires : tie.Need-get-requires
 get-requires c κs = omega (arith, node-numbers _ _ _ _ _ (c .before .before .before .pre .0) .room, c .before .node-at .ensures)
 
--- src/lib.rt:88:9
 same-length : tie.Need-same-length
 same-length c = search needs
 
--- src/lib.rt:88:9
 returns : tie.Need-returns
 returns c = node-branch _ _ _ _ _ _ (λ z. (c .if1 .taken) (rw (c .before .before .before .node-at .ensures) at (c .before .get .ensures) ∙ z))
 
--- src/lib.rt:90:31
 add-get : tie.Need-add-get
 add-get c = omega (arith, node-numbers _ _ _ _ _ (c .before .before .before .before .before .before .pre .0) .room, c .before .before .before .before .node-at .ensures)
 
--- src/lib.rt:90:13
 get-requires-2 : tie.Need-get-requires-2
 get-requires-2 c κs = omega (arith, node-numbers _ _ _ _ _ (c .before .before .before .before .before .before .pre .0) .room, c .before .before .before .before .node-at .ensures)
 
--- src/lib.rt:90:13
 cast-c : tie.Need-cast-c
 cast-c c = search needs
 
--- src/lib.rt:92:9
 same-length-2 : tie.Need-same-length-2
 same-length-2 c = search needs
 
--- src/lib.rt:92:9
 returns-2 : tie.Need-returns-2
 returns-2 c =
     let node-at = c .before .before .before .before .before .before .node-at in
@@ -51,7 +42,6 @@ returns-2 c =
     let if1 = c .before .before .before .if1 in
     node-short _ _ _ _ _ (sym (rw (node-at .ensures) at (get .ensures)) ∙ if1 .left) _ (omega (arith, (rw (node-at .ensures) at (c .before .get2 .ensures))))
 
--- src/lib.rt:94:11
 choose-requires : tie.Need-choose-requires
 choose-requires c κs =
     let start = c .before .before .before .before .before .before .before .before .before in
@@ -69,11 +59,9 @@ choose-requires c κs =
       ),
     )
 
--- src/lib.rt:95:23
 enum-known-a : tie.Need-enum-known-a
 enum-known-a c = search needs
 
--- src/lib.rt:96:13
 split-leaf-requires : tie.Need-split-leaf-requires
 split-leaf-requires c κs =
     let start = c .before .before .before .before .before .before .before .before .before .before .before .before .before .before in
@@ -86,21 +74,17 @@ split-leaf-requires c κs =
     splittable _ _ _ _ _ (sym (rw (node-at .ensures) at (get .ensures)) ∙ if1 .left) _ (rw (node-at .ensures) at (get2 .ensures)) (omega arith) _ _ (choose .ensures)
     (a .given .0 .0) (a .given .1) (start .pre .0)
 
--- src/lib.rt:97:13
 add-result : tie.Need-add-result
 add-result c =
     let start = c .before .before .before .before .before .before .before .before .before .before .before .before .before .before .before .before .before in
     omega (arith, node-numbers _ _ _ _ _ (start .pre .0) .rows-to)
 
--- src/lib.rt:99:28
 enum-told : tie.Need-enum-told
 enum-told c = search needs
 
--- src/lib.rt:81:1
 same-length-3 : tie.Need-same-length-3
 same-length-3 c = search needs
 
--- src/lib.rt:81:1
 returns-3 : tie.Need-returns-3
 returns-3 c =
     let node-at = c .before .before .before .before .before .before .before .before .before .before .before .before .before .before .before .node-at in
@@ -112,11 +96,9 @@ returns-3 c =
     node-split _ _ _ _ _ (sym (rw (node-at .ensures) at (get .ensures)) ∙ if1 .left) _ (rw (node-at .ensures) at (get2 .ensures)) (omega arith) _ _ (choose .ensures)
     (a .given .0 .0) (a .given .1) _ (c .before .before .split-leaf .ensures)
 
--- src/lib.rt:81:1
 same-length-4 : tie.Need-same-length-4
 same-length-4 c = search needs
 
--- src/lib.rt:81:1
 returns-4 : tie.Need-returns-4
 returns-4 c =
     let node-at = c .before .before .before .before .before .before .before .before .before .before .node-at in

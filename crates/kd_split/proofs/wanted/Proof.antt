@@ -6,15 +6,12 @@ use Rattle.kd_split.proofs.wanted.Reads as reads
 use Rattle.kd_split.proofs.wanted.Lts as lts
 use Rattle.kd_split.proofs.key_in.Reads as key-in-reads
 
--- src/bifurcate.rt:96:9
 key-in-requires : tie.Need-key-in-requires
 key-in-requires c κs = search needs
 
--- src/bifurcate.rt:98:9
 returns : tie.Need-returns
 returns c = side-yes _ _ _ _ _ _ (c .if1 .taken) (c .before .key-in .ensures)
 
--- src/bifurcate.rt:91:1
 returns-2 : tie.Need-returns-2
 returns-2 c = side-no _ _ _ _ _ _ (c .if1 .left) (c .before .key-in .ensures)
 

@@ -21,63 +21,49 @@ use Rattle.kd_split.proofs.row_head.Reads as row-head-reads
 use Rattle.words.proofs.runs.clear.Reads as clear-reads
 use Rattle.words.proofs.runs.paste.Reads as paste-reads
 
--- src/bifurcate.rt:170:56
 slice-aggregate-gcd-of : tie.Need-slice-aggregate-gcd-of
 slice-aggregate-gcd-of c = search needs
 
--- src/bifurcate.rt:170:9
 gcd-of-requires : tie.Need-gcd-of-requires
 gcd-of-requires c κs = search needs
 
--- src/bifurcate.rt:171:13
 mul-e : tie.Need-mul-e
 mul-e c = search needs
 
--- src/bifurcate.rt:173:18
 add-x : tie.Need-add-x
 add-x c = search needs
 
--- src/bifurcate.rt:173:13
 mul-x : tie.Need-mul-x
 mul-x c = search needs
 
--- src/bifurcate.rt:174:17
 mul-y : tie.Need-mul-y
 mul-y c = search needs
 
--- src/bifurcate.rt:174:13
 add-y : tie.Need-add-y
 add-y c = search needs
 
--- src/bifurcate.rt:175:29
 sub-map : tie.Need-sub-map
 sub-map c = search needs
 
--- src/bifurcate.rt:175:29
 part-map-start : tie.Need-part-map-start
 part-map-start c = search needs
 
--- src/bifurcate.rt:175:29
 part-map-end : tie.Need-part-map-end
 part-map-end c =
     let start = c .before .before .before .before .before .before in
     omega (arith, place-room (start .args .image .now) (start .args .s) (start .pre .0) 0 (omega arith))
 
--- src/bifurcate.rt:175:43
 cast-map : tie.Need-cast-map
 cast-map c = search needs
 
--- src/bifurcate.rt:175:53
 array-share-prefix-acc : tie.Need-array-share-prefix-acc
 array-share-prefix-acc c = search needs
 
--- src/bifurcate.rt:175:53
 slice-aggregate-map : tie.Need-slice-aggregate-map
 slice-aggregate-map c =
     let gcd-of = c .before .before .before .before .gcd-of in
     sym (length-take-le (4 * (gcd-of .result)) (gcd-of .last .1 .1 .1 .1 .0) (omega (arith, gcd-of .ensures .0, gcd-of .kept .1 .1 .1 .1 .0)))
 
--- src/bifurcate.rt:175:9
 map-requires : tie.Need-map-requires
 map-requires c κs =
     let start = c .before .before .before .before .before .before .before .before in
@@ -87,7 +73,6 @@ map-requires c κs =
           (gcd-canonical (start .args .s .variables) _ (image-powers (words (start .args .image .now)) (start .args .s) (start .pre .0 .range .vars-to)) _)),
     )
 
--- src/bifurcate.rt:176:31
 cast-row-head : tie.Need-cast-row-head
 cast-row-head c =
     let start = c .before .before .before .before .before .before .before .before .before .before in
@@ -98,25 +83,20 @@ cast-row-head c =
           (gcd-of .last .1 .1 .1 .1 .0) (gcd-of .result) (gcd-of .ensures .0) (gcd-of .kept .1 .1 .1 .1 .0) (gcd-of .ensures .1)) .count,
     )
 
--- src/bifurcate.rt:176:5
 row-head-requires : tie.Need-row-head-requires
 row-head-requires c κs = omega (arith, c .before .before .before .before .before .before .before .before .before .before .pre .1 .1)
 
--- src/bifurcate.rt:177:31
 add-paste : tie.Need-add-paste
 add-paste c = search needs
 
--- src/bifurcate.rt:177:39
 array-share-prefix-acc-2 : tie.Need-array-share-prefix-acc-2
 array-share-prefix-acc-2 c = search needs
 
--- src/bifurcate.rt:177:39
 slice-aggregate-paste : tie.Need-slice-aggregate-paste
 slice-aggregate-paste c =
     let gcd-of = c .before .before .before .before .before .before .before .before .before .before .before .gcd-of in
     sym (length-take-le (4 * (gcd-of .result)) (gcd-of .last .1 .1 .1 .1 .0) (omega (arith, gcd-of .ensures .0, gcd-of .kept .1 .1 .1 .1 .0)))
 
--- src/bifurcate.rt:177:5
 paste-requires : tie.Need-paste-requires
 paste-requires c κs =
     let start = c .before .before .before .before .before .before .before .before .before .before .before .before .before .before .before in
@@ -131,19 +111,15 @@ paste-requires c κs =
       row-head .kept .0,
     )
 
--- src/bifurcate.rt:178:31
 add-clear : tie.Need-add-clear
 add-clear c = search needs
 
--- src/bifurcate.rt:178:31
 add-clear-2 : tie.Need-add-clear-2
 add-clear-2 c = search needs
 
--- src/bifurcate.rt:178:43
 add-clear-3 : tie.Need-add-clear-3
 add-clear-3 c = search needs
 
--- src/bifurcate.rt:178:43
 sub-clear : tie.Need-sub-clear
 sub-clear c =
     let start = c .before .before .before .before .before .before .before .before .before .before .before .before .before .before .before .before .before .before .before in
@@ -151,7 +127,6 @@ sub-clear c =
     (gcd-numbers (words (start .args .image .now)) (start .args .s) (start .pre .0) (start .args .lo) (start .args .c) (start .pre .1 .0) (gcd-of .last .1 .1 .1 .1 .0)
     (gcd-of .result) (gcd-of .ensures .0) (gcd-of .kept .1 .1 .1 .1 .0) (gcd-of .ensures .1)) .short
 
--- src/bifurcate.rt:178:5
 clear-requires : tie.Need-clear-requires
 clear-requires c κs =
     let start = c .before .before .before .before .before .before .before .before .before .before .before .before .before .before .before .before .before .before .before in
@@ -167,11 +142,9 @@ clear-requires c κs =
       paste .kept .0,
     )
 
--- src/bifurcate.rt:164:1
 same-length : tie.Need-same-length
 same-length c = search needs
 
--- src/bifurcate.rt:164:1
 returns : tie.Need-returns
 returns c =
     let start = c .before .before .before .before .before .before .before .before .before .before .before .before .before .before .before .before .before .before .before .before .before .before in

@@ -49,7 +49,6 @@ search-at t = and 3 search-kinds.ps (is 3 search-kinds.ps μ-search t) search′
 abbrev search-below : ℕ → In 3 search-kinds.ps
 search-below t = and 3 search-kinds.ps (falls 3 search-kinds.ps _<_ μ-search t) search′.Pre
 
--- src/lib.rt:136:9
 branch-search-path-at-requires : (t : ℕ) → branch-search-lts.Need-path-at-requires (
   path-at-reads.Asked,
   path-at-reads.Learnt,
@@ -64,7 +63,6 @@ branch-search-path-at-requires : (t : ℕ) → branch-search-lts.Need-path-at-re
 ) (branch-search-at t) branch-search.Post
 branch-search-path-at-requires t c κs = (c .before .before .before .before .pre .1 .0)
 
--- src/lib.rt:138:45
 branch-search-add-search : (t : ℕ) → branch-search-lts.Need-add-search (
   path-at-reads.Asked,
   path-at-reads.Learnt,
@@ -82,7 +80,6 @@ branch-search-add-search t c =
     let path-at = c .before .before .path-at in
     omega (arith, numbers _ _ _ _ _ _ _ _ _ _ _ (path-at .ensures) (start .pre .1 .0) .row, numbers _ _ _ _ _ _ _ _ _ _ _ (path-at .ensures) (start .pre .1 .0) .few)
 
--- src/lib.rt:138:13
 branch-search-search-requires : (t : ℕ) → branch-search-lts.Need-search-requires (
   path-at-reads.Asked,
   path-at-reads.Learnt,
@@ -102,7 +99,6 @@ branch-search-search-requires t c κs =
       (less-ready _ _ _ _ _ _ _ _ _ _ _ (path-at .ensures) (start .pre .1 .0), (start .pre .1 .1, next-small _ _ _ _ _ _ _ _ _ _ _ (path-at .ensures) (start .pre .1 .0))),
     )
 
--- src/lib.rt:139:35
 branch-search-rows-requires : (t : ℕ) → branch-search-lts.Need-rows-requires (
   path-at-reads.Asked,
   path-at-reads.Learnt,
@@ -117,7 +113,6 @@ branch-search-rows-requires : (t : ℕ) → branch-search-lts.Need-rows-requires
 ) (branch-search-at t) branch-search.Post
 branch-search-rows-requires t c κs = search needs
 
--- src/lib.rt:139:51
 branch-search-rows-requires-2 : (t : ℕ) → branch-search-lts.Need-rows-requires-2 (
   path-at-reads.Asked,
   path-at-reads.Learnt,
@@ -132,7 +127,6 @@ branch-search-rows-requires-2 : (t : ℕ) → branch-search-lts.Need-rows-requir
 ) (branch-search-at t) branch-search.Post
 branch-search-rows-requires-2 t c κs = search needs
 
--- src/lib.rt:139:35
 branch-search-sub-grow : (t : ℕ) → branch-search-lts.Need-sub-grow (
   path-at-reads.Asked,
   path-at-reads.Learnt,
@@ -151,7 +145,6 @@ branch-search-sub-grow t c =
     let search = c .before .before .before .before .before .search in
     rw (c .before .rows .ensures, c .rows2 .ensures) (growing _ _ _ _ _ _ _ _ _ _ _ (path-at .ensures) _ _ _ _ (search .ensures) (start .pre .1 .0) .more)
 
--- src/lib.rt:139:13
 branch-search-grow-requires : (t : ℕ) → branch-search-lts.Need-grow-requires (
   path-at-reads.Asked,
   path-at-reads.Learnt,
@@ -186,7 +179,6 @@ branch-search-grow-requires t c κs =
       ),
     )
 
--- src/lib.rt:140:13
 branch-search-goes-on-requires : (t : ℕ) → branch-search-lts.Need-goes-on-requires (
   path-at-reads.Asked,
   path-at-reads.Learnt,
@@ -201,7 +193,6 @@ branch-search-goes-on-requires : (t : ℕ) → branch-search-lts.Need-goes-on-re
 ) (branch-search-at t) branch-search.Post
 branch-search-goes-on-requires t c κs = search needs
 
--- src/lib.rt:141:13
 branch-search-same-length : (t : ℕ) → branch-search-lts.Need-same-length (
   path-at-reads.Asked,
   path-at-reads.Learnt,
@@ -216,7 +207,6 @@ branch-search-same-length : (t : ℕ) → branch-search-lts.Need-same-length (
 ) (branch-search-at t) branch-search.Post
 branch-search-same-length t c = c .before .before .before .before .grow .kept .0 ∙ c .before .before .before .before .before .before .before .before .before .before .search .kept .0
 
--- src/lib.rt:141:13
 branch-search-returns : (t : ℕ) → branch-search-lts.Need-returns (
   path-at-reads.Asked,
   path-at-reads.Learnt,
@@ -240,7 +230,6 @@ branch-search-returns t c =
     (halfway _ _ _ _ _ _ _ _ _ _ _ (path-at .ensures) _ _ _ _ (search .ensures) (if1 .taken) _ _ _ (rw (rows .ensures, rows2 .ensures) at (grow .ensures)))
     (sym (c .before .goes-on .ensures) ∙ taken _ (c .if2 .taken))
 
--- src/lib.rt:144:13
 branch-search-same-length-2 : (t : ℕ) → branch-search-lts.Need-same-length-2 (
   path-at-reads.Asked,
   path-at-reads.Learnt,
@@ -258,7 +247,6 @@ branch-search-same-length-2 t c =
     let grow = c .before .before .before .before .before .before .grow in
     grow .kept .0 ∙ search .kept .0
 
--- src/lib.rt:144:13
 branch-search-returns-2 : (t : ℕ) → branch-search-lts.Need-returns-2 (
   path-at-reads.Asked,
   path-at-reads.Learnt,
@@ -282,7 +270,6 @@ branch-search-returns-2 t c =
     ret-cut _ _ _ _ _ _ _ _ _ _ _ (path-at .ensures) _ _ _ _ _ _ (halfway _ _ _ _ _ _ _ _ _ _ _ (path-at .ensures) _ _ _ _ (search .ensures) (if1 .taken) _ _ _
     (rw (rows .ensures, rows2 .ensures) at (grow .ensures))) (sym (goes-on .ensures) ∙ passed _ (c .before .before .if2 .left)) (taken _ (c .if3 .taken))
 
--- src/lib.rt:146:51
 branch-search-add-search-2 : (t : ℕ) → branch-search-lts.Need-add-search-2 (
   path-at-reads.Asked,
   path-at-reads.Learnt,
@@ -309,7 +296,6 @@ branch-search-add-search-2 t c =
           (halfway _ _ _ _ _ _ _ _ _ _ _ (path-at .ensures) _ _ _ _ (search .ensures) (if1 .taken) _ _ _ (rw (rows .ensures, rows2 .ensures) at (grow .ensures))) (start .pre .1 .0),
     )
 
--- src/lib.rt:146:9
 branch-search-search-requires-2 : (t : ℕ) → branch-search-lts.Need-search-requires-2 (
   path-at-reads.Asked,
   path-at-reads.Learnt,
@@ -340,7 +326,6 @@ branch-search-search-requires-2 t c κs =
       ),
     )
 
--- src/lib.rt:146:9
 branch-search-same-length-3 : (t : ℕ) → branch-search-lts.Need-same-length-3 (
   path-at-reads.Asked,
   path-at-reads.Learnt,
@@ -358,7 +343,6 @@ branch-search-same-length-3 t c =
     let grow = c .before .before .before .before .before .before .before .before .before .before .before .grow in
     c .before .before .search2 .kept .0 ∙ (grow .kept .0 ∙ search .kept .0)
 
--- src/lib.rt:146:9
 branch-search-returns-3 : (t : ℕ) → branch-search-lts.Need-returns-3 (
   path-at-reads.Asked,
   path-at-reads.Learnt,
@@ -385,7 +369,6 @@ branch-search-returns-3 t c =
     (halfway _ _ _ _ _ _ _ _ _ _ _ (path-at .ensures) _ _ _ _ (search .ensures) (if1 .taken) _ _ _ (rw (rows .ensures, rows2 .ensures) at (grow .ensures)))
     (sym (goes-on .ensures) ∙ passed _ (if2 .left)) (passed _ (if3 .left)) _ _ _ _ (c .before .before .search2 .ensures)
 
--- src/lib.rt:149:13
 branch-search-grow-requires-2 : (t : ℕ) → branch-search-lts.Need-grow-requires-2 (
   path-at-reads.Asked,
   path-at-reads.Learnt,
@@ -415,7 +398,6 @@ branch-search-grow-requires-2 t c κs =
       ),
     )
 
--- src/lib.rt:150:51
 branch-search-add-search-3 : (t : ℕ) → branch-search-lts.Need-add-search-3 (
   path-at-reads.Asked,
   path-at-reads.Learnt,
@@ -439,7 +421,6 @@ branch-search-add-search-3 t c =
           (skipped _ _ _ _ _ _ _ _ _ _ _ (path-at .ensures) (if1 .left) (start .pre .1 .0 .small) _ _ _ (grow2 .ensures)) (start .pre .1 .0),
     )
 
--- src/lib.rt:150:9
 branch-search-search-requires-3 : (t : ℕ) → branch-search-lts.Need-search-requires-3 (
   path-at-reads.Asked,
   path-at-reads.Learnt,
@@ -465,7 +446,6 @@ branch-search-search-requires-3 t c κs =
       ),
     )
 
--- src/lib.rt:150:9
 branch-search-same-length-4 : (t : ℕ) → branch-search-lts.Need-same-length-4 (
   path-at-reads.Asked,
   path-at-reads.Learnt,
@@ -480,7 +460,6 @@ branch-search-same-length-4 : (t : ℕ) → branch-search-lts.Need-same-length-4
 ) (branch-search-at t) branch-search.Post
 branch-search-same-length-4 t c = c .before .before .search3 .kept .0 ∙ c .before .before .before .before .before .before .before .grow2 .kept .0
 
--- src/lib.rt:150:9
 branch-search-returns-4 : (t : ℕ) → branch-search-lts.Need-returns-4 (
   path-at-reads.Asked,
   path-at-reads.Learnt,
@@ -502,7 +481,6 @@ branch-search-returns-4 t c =
     ret-other _ _ _ _ _ _ _ _ _ _ _ (path-at .ensures) _ _ _ _ _ _
     (skipped _ _ _ _ _ _ _ _ _ _ _ (path-at .ensures) (if1 .left) (start .pre .1 .0 .small) _ _ _ (grow2 .ensures)) refl (if4 .taken) _ _ _ _ (c .before .before .search3 .ensures)
 
--- src/lib.rt:131:1
 branch-search-same-length-5 : (t : ℕ) → branch-search-lts.Need-same-length-5 (
   path-at-reads.Asked,
   path-at-reads.Learnt,
@@ -517,7 +495,6 @@ branch-search-same-length-5 : (t : ℕ) → branch-search-lts.Need-same-length-5
 ) (branch-search-at t) branch-search.Post
 branch-search-same-length-5 t c = refl
 
--- src/lib.rt:131:1
 branch-search-returns-5 : (t : ℕ) → branch-search-lts.Need-returns-5 (
   path-at-reads.Asked,
   path-at-reads.Learnt,
@@ -534,7 +511,6 @@ branch-search-returns-5 t c =
     let start = c .before .before .before .before .before .before .before in
     rw (start .pre .1 .1) (ret-neither _ _ _ _ _ _ _ _ _ _ _ (c .before .before .path-at .ensures) (c .before .if1 .left) (c .if4 .left) (start .pre .1 .0 .small))
 
--- src/lib.rt:123:45
 search-rows-requires : (t : ℕ) → search-lts.Need-rows-requires (
   rows-reads.Asked,
   rows-reads.Learnt,
@@ -549,7 +525,6 @@ search-rows-requires : (t : ℕ) → search-lts.Need-rows-requires (
 ) (search-at t) search′.Post
 search-rows-requires t c κs = search needs
 
--- src/lib.rt:123:9
 search-open-node-requires : (t : ℕ) → search-lts.Need-open-node-requires (
   rows-reads.Asked,
   rows-reads.Learnt,
@@ -566,7 +541,6 @@ search-open-node-requires t c κs =
     let start = c .before .before .before .before .before in
     (start .pre .1 .0 .asks .laid, (rw (c .rows .ensures) (standing _ _ _ _ _ _ _ _ (start .pre .1 .0)), start .pre .1 .1 .1))
 
--- src/lib.rt:125:9
 search-scan-requires : (t : ℕ) → search-lts.Need-scan-requires (
   rows-reads.Asked,
   rows-reads.Learnt,
@@ -585,7 +559,6 @@ search-scan-requires t c κs =
     let open-node = c .before .before .before .before .open-node in
     (scan-ready _ _ _ _ _ _ _ _ _ _ _ (rw (rows .ensures) at (open-node .ensures)) (c .before .if1 .taken) (start .pre .1 .0), start .pre .1 .1 .0)
 
--- src/lib.rt:125:9
 search-same-length : (t : ℕ) → search-lts.Need-same-length (
   rows-reads.Asked,
   rows-reads.Learnt,
@@ -600,7 +573,6 @@ search-same-length : (t : ℕ) → search-lts.Need-same-length (
 ) (search-at t) search′.Post
 search-same-length t c = c .before .before .before .before .before .open-node .kept .0
 
--- src/lib.rt:125:9
 search-returns : (t : ℕ) → search-lts.Need-returns (
   rows-reads.Asked,
   rows-reads.Learnt,
@@ -618,7 +590,6 @@ search-returns t c =
     let open-node = c .before .before .before .before .before .open-node in
     rw (c .scan .ensures .1) (scan-done _ _ _ _ _ _ _ _ _ _ _ (rw (rows .ensures) at (open-node .ensures)) (c .before .before .if1 .taken) _ _ (c .scan .ensures .0))
 
--- src/lib.rt:127:39
 search-with-rows-requires : (t : ℕ) → search-lts.Need-with-rows-requires (
   rows-reads.Asked,
   rows-reads.Learnt,
@@ -637,7 +608,6 @@ search-with-rows-requires t c κs =
     let open-node = c .before .before .before .before .open-node in
     few-rows _ _ _ _ _ _ _ _ (branch-ready _ _ _ _ _ _ _ _ _ _ _ (rw (rows .ensures) at (open-node .ensures)) (c .before .if1 .left) (start .pre .1 .0))
 
--- src/lib.rt:127:5
 search-branch-search-requires : (t : ℕ) → search-lts.Need-branch-search-requires (
   rows-reads.Asked,
   rows-reads.Learnt,
@@ -663,7 +633,6 @@ search-branch-search-requires t c κs =
       ),
     )
 
--- src/lib.rt:118:1
 search-same-length-2 : (t : ℕ) → search-lts.Need-same-length-2 (
   rows-reads.Asked,
   rows-reads.Learnt,
@@ -678,7 +647,6 @@ search-same-length-2 : (t : ℕ) → search-lts.Need-same-length-2 (
 ) (search-at t) search′.Post
 search-same-length-2 t c = c .before .before .branch-search .kept .0 ∙ c .before .before .before .before .before .before .before .before .open-node .kept .0
 
--- src/lib.rt:118:1
 search-returns-2 : (t : ℕ) → search-lts.Need-returns-2 (
   rows-reads.Asked,
   rows-reads.Learnt,

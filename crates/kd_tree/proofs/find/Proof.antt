@@ -15,25 +15,20 @@ use Rattle.kd_tree.proofs.step.first.Reads as first-reads
 use Rattle.kd_tree.proofs.step.rows.Reads as rows-reads
 use Rattle.words.proofs.put.Reads as put-reads
 
--- src/lib.rt:188:50
 num-requires : tie.Need-num-requires
 num-requires c κs = omega (arith, query-long _ _ (c .before .before .before .before .pre .root .asks .laid))
 
--- src/lib.rt:188:38
 first-requires : tie.Need-first-requires
 first-requires c κs = rw (c .num .ensures .0 ∙ nodes-is (words (c .before .before .before .before .before .args .q .now))) (root-rows _ _ _ (c .before .before .before .before .before .pre))
 
--- src/lib.rt:188:9
 search-root-requires : tie.Need-search-root-requires
 search-root-requires c κs =
     let start = c .before .before .before .before .before .before in
     (rw (c .first .ensures .0 ∙ (c .before .num .ensures .0 ∙ nodes-is (words (start .args .q .now))), c .first .ensures .1 .0) (root-ready _ _ _ (start .pre)), c .first .ensures .1 .1)
 
--- src/lib.rt:189:38
 rows-requires : tie.Need-rows-requires
 rows-requires c κs = search needs
 
--- src/lib.rt:189:38
 cast-put : tie.Need-cast-put
 cast-put c =
     let start = c .before .before .before .before .before .before .before .before .before .before .before in
@@ -47,7 +42,6 @@ cast-put c =
       c .rows .ensures,
     )
 
--- src/lib.rt:189:5
 put-requires : tie.Need-put-requires
 put-requires c κs =
     let start = c .before .before .before .before .before .before .before .before .before .before .before in
@@ -56,15 +50,12 @@ put-requires c κs =
     let search-root = c .before .before .before .before .search-root in
     omega (arith, root-numbers _ _ _ _ _ _ _ (rw (first .ensures .0 ∙ (num .ensures .0 ∙ nodes-is (words (start .args .q .now))), first .ensures .1 .0) at (search-root .ensures)) (start .pre) .room)
 
--- src/lib.rt:190:5
 best-requires : tie.Need-best-requires
 best-requires c κs = search needs
 
--- src/lib.rt:184:1
 same-length : tie.Need-same-length
 same-length c = search needs
 
--- src/lib.rt:184:1
 returns : tie.Need-returns
 returns c =
     let start = c .before .before .before .before .before .before .before .before .before .before .before .before .before .before .before in

@@ -11,51 +11,39 @@ use Rattle.kd_tree.proofs.query.num.Reads as num-reads
 use Rattle.words.proofs.get.Reads as get-reads
 use Rattle.words.proofs.put.Reads as put-reads
 
--- src/lib.rt:38:9
 node-at-requires : tie.Need-node-at-requires
 node-at-requires c κs = search needs
 
--- src/lib.rt:39:34
 add-get : tie.Need-add-get
 add-get c = search needs
 
--- src/lib.rt:39:16
 get-requires : tie.Need-get-requires
 get-requires c κs = search needs
 
--- src/lib.rt:39:16
 cast-skip : tie.Need-cast-skip
 cast-skip c = search needs
 
--- src/lib.rt:39:16
 add-skip : tie.Need-add-skip
 add-skip c = search needs
 
--- src/lib.rt:40:39
 num-requires : tie.Need-num-requires
 num-requires c κs = omega (arith, query-long _ _ (c .before .before .before .before .before .before .pre .0))
 
--- src/lib.rt:40:34
 add-get-2 : tie.Need-add-get-2
 add-get-2 c = search needs
 
--- src/lib.rt:40:34
 add-get-3 : tie.Need-add-get-3
 add-get-3 c = search needs
 
--- src/lib.rt:40:16
 get-requires-2 : tie.Need-get-requires-2
 get-requires-2 c κs = search needs
 
--- src/lib.rt:40:16
 cast-less : tie.Need-cast-less
 cast-less c = search needs
 
--- src/lib.rt:41:23
 add-put : tie.Need-add-put
 add-put c = search needs
 
--- src/lib.rt:41:31
 cast-put : tie.Need-cast-put
 cast-put c =
     let start = c .before .before .before .before .before .before .before .before .before in
@@ -63,23 +51,18 @@ cast-put c =
     let get = c .before .before .before .before .get in
     omega (arith, (rw (node-at .ensures) at (get .ensures)), start .pre .1 .1)
 
--- src/lib.rt:41:5
 put-requires : tie.Need-put-requires
 put-requires c κs = search needs
 
--- src/lib.rt:43:14
 add-t11 : tie.Need-add-t11
 add-t11 c = search needs
 
--- src/lib.rt:43:14
 add-t15 : tie.Need-add-t15
 add-t15 c = search needs
 
--- src/lib.rt:32:1
 same-length : tie.Need-same-length
 same-length c = search needs
 
--- src/lib.rt:32:1
 returns : tie.Need-returns
 returns c =
     let start = c .before .before .before .before .before .before .before .before .before .before .before .before in

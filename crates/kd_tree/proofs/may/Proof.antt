@@ -8,38 +8,30 @@ use Rattle.kd_tree.proofs.may.Lts as lts
 use Rattle.divmask.proofs.divides.Reads as divides-reads
 use Rattle.words.proofs.get.Reads as get-reads
 
--- src/lib.rt:53:46
 add-get : tie.Need-add-get
 add-get c = search needs
 
--- src/lib.rt:53:28
 get-requires : tie.Need-get-requires
 get-requires c κs = search needs
 
--- src/lib.rt:53:55
 get-requires-2 : tie.Need-get-requires-2
 get-requires-2 c κs = search needs
 
--- src/lib.rt:53:11
 divides-requires : tie.Need-divides-requires
 divides-requires c κs = search needs
 
--- src/lib.rt:54:44
 enum-told : tie.Need-enum-told
 enum-told c = search needs
 
--- src/lib.rt:55:38
 enum-told-2 : tie.Need-enum-told-2
 enum-told-2 c = search needs
 
--- src/lib.rt:49:1
 returns : tie.Need-returns
 returns c =
     let get = c .before .before .before .before .get in
     let get2 = c .before .before .before .get2 in
     sym (rw (get .ensures, get2 .ensures) at (not-within _ _ (sym (c .enum-told .given .1) ∙ c .before .before .divides .ensures)))
 
--- src/lib.rt:49:1
 returns-2 : tie.Need-returns-2
 returns-2 c =
     let get = c .before .before .before .before .get in

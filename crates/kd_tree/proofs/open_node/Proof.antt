@@ -12,35 +12,27 @@ use Rattle.kd_tree.proofs.query.node_at.Reads as node-at-reads
 use Rattle.kd_tree.proofs.query.shape.Reads as shape-reads
 use Rattle.words.proofs.get.Reads as get-reads
 
--- src/lib.rt:96:9
 node-at-requires : tie.Need-node-at-requires
 node-at-requires c κs = (c .before .before .pre .0, node-numbers _ _ _ _ _ (c .before .before .pre .1 .0) .row)
 
--- src/lib.rt:97:8
 get-requires : tie.Need-get-requires
 get-requires c κs = omega (arith, node-numbers _ _ _ _ _ (c .before .before .before .before .pre .1 .0) .room, c .before .node-at .ensures)
 
--- src/lib.rt:98:9
 same-length : tie.Need-same-length
 same-length c = search needs
 
--- src/lib.rt:98:9
 returns : tie.Need-returns
 returns c = node-branch _ _ _ _ _ _ (λ z. (c .if1 .taken) ((rw (c .before .before .before .node-at .ensures) at (c .before .get .ensures)) ∙ z))
 
--- src/lib.rt:100:26
 add-get : tie.Need-add-get
 add-get c = omega (arith, node-numbers _ _ _ _ _ (c .before .before .before .before .before .before .before .pre .1 .0) .room, c .before .before .before .before .node-at .ensures)
 
--- src/lib.rt:100:8
 get-requires-2 : tie.Need-get-requires-2
 get-requires-2 c κs = omega (arith, node-numbers _ _ _ _ _ (c .before .before .before .before .before .before .before .pre .1 .0) .room, c .before .before .before .before .node-at .ensures)
 
--- src/lib.rt:101:9
 same-length-2 : tie.Need-same-length-2
 same-length-2 c = search needs
 
--- src/lib.rt:101:9
 returns-2 : tie.Need-returns-2
 returns-2 c =
     let node-at = c .before .before .before .before .before .before .node-at in
@@ -48,21 +40,17 @@ returns-2 c =
     let if1 = c .before .before .before .if1 in
     node-short _ _ _ _ _ (sym (rw (node-at .ensures) at (get .ensures)) ∙ if1 .left) _ (omega (arith, (rw (node-at .ensures) at (c .before .get2 .ensures)), c .if2 .taken))
 
--- src/lib.rt:103:33
 shape-requires : tie.Need-shape-requires
 shape-requires c κs = omega (arith, query-long _ _ (c .before .before .before .before .before .before .before .before .before .before .pre .0))
 
--- src/lib.rt:103:5
 split-node-requires : tie.Need-split-node-requires
 split-node-requires c κs =
     let start = c .before .before .before .before .before .before .before .before .before .before .before in
     (rw (c .shape .ensures) (start .pre .1 .0), start .pre .1 .1)
 
--- src/lib.rt:90:1
 same-length-3 : tie.Need-same-length-3
 same-length-3 c = search needs
 
--- src/lib.rt:90:1
 returns-3 : tie.Need-returns-3
 returns-3 c = rw (c .before .before .before .shape .ensures) at (c .before .before .split-node .ensures)
 

@@ -16,25 +16,20 @@ use Rattle.kd_tree.proofs.query.num.Reads as num-reads
 use Rattle.words.proofs.get.Reads as get-reads
 use Rattle.words.proofs.pairs.get.Reads as pairs-get-reads
 
--- src/lib.rt:64:9
 node-at-requires : tie.Need-node-at-requires
 node-at-requires c κs = (c .before .before .before .pre .asks .laid, branch-numbers _ _ _ _ _ _ _ _ (c .before .before .before .pre) .row)
 
--- src/lib.rt:65:15
 get-requires : tie.Need-get-requires
 get-requires c κs = omega (arith, branch-numbers _ _ _ _ _ _ _ _ (c .before .before .before .before .pre) .room, c .node-at .ensures)
 
--- src/lib.rt:65:15
 cast-tag : tie.Need-cast-tag
 cast-tag c = search needs
 
--- src/lib.rt:66:9
 may-requires : tie.Need-may-requires
 may-requires c κs =
     let start = c .before .before .before .before .before in
     (omega (arith, branch-numbers _ _ _ _ _ _ _ _ (start .pre) .room, c .before .node-at .ensures), omega (arith, query-long _ _ (start .pre .asks .laid)))
 
--- src/lib.rt:67:9
 returns : tie.Need-returns
 returns c =
     let start = c .before .before .before .before .before .before .before in
@@ -43,23 +38,18 @@ returns c =
     path-stop _ _ _ _ _ _ _ _ (rw (node-at .ensures) at (c .before .before .get .ensures))
     (words-small (start .args .image .now) (λ j. (shared-slice-known .given) j .fits)) _ (not-true _ (c .if1 .taken)) (rw (node-at .ensures) at (c .before .may .ensures))
 
--- src/lib.rt:73:33
 add-get : tie.Need-add-get
 add-get c = omega (arith, branch-numbers _ _ _ _ _ _ _ _ (c .before .before .before .before .before .before .before .pre) .room, c .before .before .before .node-at .ensures)
 
--- src/lib.rt:73:9
 get-requires-2 : tie.Need-get-requires-2
 get-requires-2 c κs = omega (arith, branch-numbers _ _ _ _ _ _ _ _ (c .before .before .before .before .before .before .before .pre) .room, c .before .before .before .node-at .ensures)
 
--- src/lib.rt:74:15
 num-requires : tie.Need-num-requires
 num-requires c κs = omega (arith, query-long _ _ (c .before .before .before .before .before .before .before .before .pre .asks .laid))
 
--- src/lib.rt:75:40
 cast-label : tie.Need-cast-label
 cast-label c = search needs
 
--- src/lib.rt:75:13
 label-requires : tie.Need-label-requires
 label-requires c κs =
     let start = c .before .before .before .before .before .before .before .before .before .before in
@@ -73,15 +63,12 @@ label-requires c κs =
       ),
     )
 
--- src/lib.rt:77:19
 get-requires-3 : tie.Need-get-requires-3
 get-requires-3 c κs = omega (arith, query-long _ _ (c .before .before .before .before .before .before .before .before .before .before .before .pre .asks .laid))
 
--- src/lib.rt:78:24
 get-requires-4 : tie.Need-get-requires-4
 get-requires-4 c κs = omega (arith, query-long _ _ (c .before .before .before .before .before .before .before .before .before .before .before .before .pre .asks .laid))
 
--- src/lib.rt:76:9
 returns-2 : tie.Need-returns-2
 returns-2 c =
     let start = c .before .before .before .before .before .before .before .before .before .before .before .before .before in
@@ -97,7 +84,6 @@ returns-2 c =
     (words-small (start .args .image .now) (λ j. (shared-slice-known .given) j .fits)) _ (not-false _ (if1 .left)) (rw (node-at .ensures) at (may .ensures))
     (if2 .taken ∙ (num .ensures .0 ∙ kind-is _ _ (start .pre .asks .laid))) _ (c .before .before .label .ensures .0 ∙ rw (get2 .ensures, node-at .ensures) refl))
 
--- src/lib.rt:84:23
 get-requires-5 : tie.Need-get-requires-5
 get-requires-5 c κs =
     let start = c .before .before .before .before .before .before .before .before .before .before in
@@ -105,7 +91,6 @@ get-requires-5 c κs =
     let get = c .before .before .before .before .before .get in
     omega (arith, query-long _ _ (start .pre .asks .laid), branch-numbers _ _ _ _ _ _ _ _ (start .pre) .small, (rw (node-at .ensures) at (get .ensures)))
 
--- src/lib.rt:60:1
 returns-3 : tie.Need-returns-3
 returns-3 c =
     let start = c .before .before .before .before .before .before .before .before .before .before .before in

@@ -10,29 +10,23 @@ use Rattle.kd_tree.proofs.leaf.search.Reads as search-reads
 use Rattle.kd_tree.proofs.query.node_at.Reads as node-at-reads
 use Rattle.words.proofs.get.Reads as get-reads
 
--- src/lib.rt:112:31
 node-at-requires : tie.Need-node-at-requires
 node-at-requires c κs = (c .before .before .before .pre .0 .asks .laid, leaf-numbers _ _ _ _ _ _ _ _ (c .before .before .before .pre .0) .row)
 
--- src/lib.rt:112:31
 add-get : tie.Need-add-get
 add-get c = omega (arith, leaf-numbers _ _ _ _ _ _ _ _ (c .before .before .before .before .pre .0) .room, c .node-at .ensures)
 
--- src/lib.rt:112:13
 get-requires : tie.Need-get-requires
 get-requires c κs = omega (arith, leaf-numbers _ _ _ _ _ _ _ _ (c .before .before .before .before .pre .0) .room, c .node-at .ensures)
 
--- src/lib.rt:112:13
 cast-c : tie.Need-cast-c
 cast-c c = search needs
 
--- src/lib.rt:113:5
 search-requires : tie.Need-search-requires
 search-requires c κs =
     let start = c .before .before .before .before .before in
     (leaf-ready _ _ _ _ _ _ _ _ _ (rw (c .before .node-at .ensures) at (c .get .ensures)) (start .pre .0), start .pre .1)
 
--- src/lib.rt:107:1
 returns : tie.Need-returns
 returns c = (leaf-done _ _ _ _ _ _ _ _ _ _ _ (rw (c .before .before .node-at .ensures) at (c .before .get .ensures)) (c .search .ensures .0), c .search .ensures .1)
 

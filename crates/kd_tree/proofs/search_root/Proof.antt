@@ -14,19 +14,15 @@ use Rattle.kd_tree.proofs.search.Reads as search-reads
 use Rattle.kd_tree.proofs.step.rows.Reads as rows-reads
 use Rattle.kd_tree.proofs.step.with_rows.Reads as with-rows-reads
 
--- src/lib.rt:176:41
 shape-requires : tie.Need-shape-requires
 shape-requires c κs = omega (arith, query-long _ _ (c .before .before .before .before .pre .0 .asks .laid))
 
--- src/lib.rt:176:67
 rows-requires : tie.Need-rows-requires
 rows-requires c κs = search needs
 
--- src/lib.rt:176:9
 split-node-requires : tie.Need-split-node-requires
 split-node-requires c κs = (rw (c .before .shape .ensures, c .rows .ensures) (standing _ _ _ _ _ _ _ _ (c .before .before .before .before .before .before .pre .0)), omega arith)
 
--- src/lib.rt:178:9
 scan-requires : tie.Need-scan-requires
 scan-requires c κs =
     let start = c .before .before .before .before .before .before .before .before .before .before .before in
@@ -35,11 +31,9 @@ scan-requires c κs =
     let split-node = c .before .before .before .before .split-node in
     (scan-ready _ _ _ _ _ _ _ _ _ _ _ (rw (shape .ensures, rows .ensures) at (split-node .ensures)) (c .before .if1 .taken) (start .pre .0), start .pre .1)
 
--- src/lib.rt:178:9
 same-length : tie.Need-same-length
 same-length c = c .before .before .before .before .before .split-node .kept .0
 
--- src/lib.rt:178:9
 returns : tie.Need-returns
 returns c =
     let shape = c .before .before .before .before .before .before .before .shape in
@@ -47,7 +41,6 @@ returns c =
     let split-node = c .before .before .before .before .before .split-node in
     rw (c .scan .ensures .1) (scan-done _ _ _ _ _ _ _ _ _ _ _ (rw (shape .ensures, rows .ensures) at (split-node .ensures)) (c .before .before .if1 .taken) _ _ (c .scan .ensures .0))
 
--- src/lib.rt:180:34
 with-rows-requires : tie.Need-with-rows-requires
 with-rows-requires c κs =
     let start = c .before .before .before .before .before .before .before .before .before .before .before in
@@ -56,7 +49,6 @@ with-rows-requires c κs =
     let split-node = c .before .before .before .before .split-node in
     few-rows _ _ _ _ _ _ _ _ (branch-ready _ _ _ _ _ _ _ _ _ _ _ (rw (shape .ensures, rows .ensures) at (split-node .ensures)) (c .before .if1 .left) (start .pre .0))
 
--- src/lib.rt:180:5
 search-requires : tie.Need-search-requires
 search-requires c κs =
     let start = c .before .before .before .before .before .before .before .before .before .before .before .before in
@@ -68,11 +60,9 @@ search-requires c κs =
       (c .with-rows .ensures .1 .1 ∙ start .pre .1, omega arith),
     )
 
--- src/lib.rt:171:1
 same-length-2 : tie.Need-same-length-2
 same-length-2 c = c .before .before .search .kept .0 ∙ c .before .before .before .before .before .before .before .before .split-node .kept .0
 
--- src/lib.rt:171:1
 returns-2 : tie.Need-returns-2
 returns-2 c =
     let shape = c .before .before .before .before .before .before .before .before .before .before .shape in

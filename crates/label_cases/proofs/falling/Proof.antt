@@ -15,47 +15,36 @@ Inv-loop map₀ k₀ last₀ map k last = (k ≤ 40) × (length map ≡ length m
 abbrev μ-loop : tie.MeasureT-loop
 μ-loop map₀ k₀ last₀ map k last = 40 - k
 
--- src/main.rt:39:5
 loop-holds : tie.Need-loop-holds Inv-loop μ-loop
 loop-holds c = search needs
 
--- src/main.rt:40:26
 sub-ask : tie.Need-sub-ask Inv-loop μ-loop
 sub-ask c = search needs
 
--- src/main.rt:40:13
 ask-requires : tie.Need-ask-requires Inv-loop μ-loop
 ask-requires c κs = search needs
 
--- src/main.rt:42:13
 report-requires : tie.Need-report-requires Inv-loop μ-loop
 report-requires c κs = search needs
 
--- src/main.rt:42:13
 same-length : tie.Need-same-length Inv-loop μ-loop
 same-length c = search needs
 
--- src/main.rt:42:13
 returns : tie.Need-returns Inv-loop μ-loop
 returns c = search needs
 
--- src/main.rt:45:9
 add-k : tie.Need-add-k Inv-loop μ-loop
 add-k c = search needs
 
--- src/main.rt:39:5
 loop-less : tie.Need-loop-less Inv-loop μ-loop
 loop-less c = search needs
 
--- src/main.rt:39:5
 loop-again : tie.Need-loop-again Inv-loop μ-loop
 loop-again c = search needs
 
--- src/main.rt:36:1
 same-length-2 : tie.Need-same-length-2 Inv-loop μ-loop
 same-length-2 c = search needs
 
--- src/main.rt:36:1
 returns-2 : tie.Need-returns-2 Inv-loop μ-loop
 returns-2 c = search needs
 

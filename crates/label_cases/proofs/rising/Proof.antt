@@ -16,68 +16,52 @@ Inv-loop map₀ ratio₀ k₀ last₀ map ratio k last = (k ≤ 40) × ((length 
 abbrev μ-loop : tie.MeasureT-loop
 μ-loop map₀ ratio₀ k₀ last₀ map ratio k last = 40 - k
 
--- src/main.rt:52:16
 slice-aggregate-put : tie.Need-slice-aggregate-put Inv-loop μ-loop
 slice-aggregate-put c = search needs
 
--- src/main.rt:52:5
 put-requires : tie.Need-put-requires Inv-loop μ-loop
 put-requires c κs = search needs
 
--- src/main.rt:55:5
 loop-holds : tie.Need-loop-holds Inv-loop μ-loop
 loop-holds c = search needs
 
--- src/main.rt:56:20
 slice-aggregate-put-2 : tie.Need-slice-aggregate-put-2 Inv-loop μ-loop
 slice-aggregate-put-2 c = search needs
 
--- src/main.rt:56:35
 add-put : tie.Need-add-put Inv-loop μ-loop
 add-put c = search needs
 
--- src/main.rt:56:9
 put-requires-2 : tie.Need-put-requires-2 Inv-loop μ-loop
 put-requires-2 c κs = search needs
 
--- src/main.rt:57:58
 slice-aggregate-divisor-index-fast-compare-get-comparer :
     tie.Need-slice-aggregate-divisor-index-fast-compare-get-comparer Inv-loop μ-loop
 slice-aggregate-divisor-index-fast-compare-get-comparer c = search needs
 
--- src/main.rt:57:13
 divisor-index-fast-compare-get-comparer-requires : tie.Need-divisor-index-fast-compare-get-comparer-requires Inv-loop μ-loop
 divisor-index-fast-compare-get-comparer-requires c κs = search needs
 
--- src/main.rt:59:13
 report-requires : tie.Need-report-requires Inv-loop μ-loop
 report-requires c κs = search needs
 
--- src/main.rt:59:13
 same-length : tie.Need-same-length Inv-loop μ-loop
 same-length c = search needs
 
--- src/main.rt:59:13
 returns : tie.Need-returns Inv-loop μ-loop
 returns c = search needs
 
--- src/main.rt:62:9
 add-k : tie.Need-add-k Inv-loop μ-loop
 add-k c = search needs
 
--- src/main.rt:55:5
 loop-less : tie.Need-loop-less Inv-loop μ-loop
 loop-less c = search needs
 
--- src/main.rt:55:5
 loop-again : tie.Need-loop-again Inv-loop μ-loop
 loop-again c = search needs
 
--- src/main.rt:50:1
 same-length-2 : tie.Need-same-length-2 Inv-loop μ-loop
 same-length-2 c = search needs
 
--- src/main.rt:50:1
 returns-2 : tie.Need-returns-2 Inv-loop μ-loop
 returns-2 c = search needs
 

@@ -16,35 +16,27 @@ Inv-loop map₀ more n i₀ sound₀ map i sound = (i ≤ n) × ((sound ≤ i) �
 abbrev μ-loop : tie.MeasureT-loop
 μ-loop map₀ more n i₀ sound₀ map i sound = n - i
 
--- src/main.rt:95:5
 loop-holds : tie.Need-loop-holds Inv-loop μ-loop
 loop-holds c = search needs
 
--- src/main.rt:96:12
 sound-with-requires : tie.Need-sound-with-requires Inv-loop μ-loop
 sound-with-requires c κs = search needs
 
--- src/main.rt:97:13
 add-sound : tie.Need-add-sound Inv-loop μ-loop
 add-sound c = search needs
 
--- src/main.rt:99:9
 add-i : tie.Need-add-i Inv-loop μ-loop
 add-i c = search needs
 
--- src/main.rt:95:5
 loop-less : tie.Need-loop-less Inv-loop μ-loop
 loop-less c = search needs
 
--- src/main.rt:95:5
 loop-again : tie.Need-loop-again Inv-loop μ-loop
 loop-again c = ⊎-elim (λ w. (omega arith, (omega arith, omega arith))) (λ w. (omega arith, (omega arith, omega arith))) (c .if1 .came)
 
--- src/main.rt:89:1
 same-length : tie.Need-same-length Inv-loop μ-loop
 same-length c = search needs
 
--- src/main.rt:89:1
 returns : tie.Need-returns Inv-loop μ-loop
 returns c = search needs
 

@@ -44,7 +44,6 @@ claims t = (
   write-below.Post,
 )
 
--- src/lib.rt:52:9
 write-below-node-at-requires : (t : ℕ) → write-below-lts.Need-node-at-requires (claims t) (write-below-at t) write-below.Post
 write-below-node-at-requires t c κs =
     let a = c .before .before in (
@@ -58,7 +57,6 @@ write-below-node-at-requires t c κs =
       ),
     )
 
--- src/lib.rt:53:8
 write-below-get-requires : (t : ℕ) → write-below-lts.Need-get-requires (claims t) (write-below-at t) write-below.Post
 write-below-get-requires t c κs =
     let a = c .before .before .before in
@@ -71,7 +69,6 @@ write-below-get-requires t c κs =
       (a .pre .1 .0) .range .vars-to,
     )
 
--- src/lib.rt:54:59
 write-below-add-get : (t : ℕ) → write-below-lts.Need-add-get (claims t) (write-below-at t) write-below.Post
 write-below-add-get t c =
     let a = c .before .before .before .before .before in
@@ -84,7 +81,6 @@ write-below-add-get t c =
       (a .pre .1 .0) .range .vars-to,
     )
 
--- src/lib.rt:54:41
 write-below-get-requires-2 : (t : ℕ) → write-below-lts.Need-get-requires-2 (claims t) (write-below-at t) write-below.Post
 write-below-get-requires-2 t c κs =
     let a = c .before .before .before .before .before in
@@ -97,11 +93,9 @@ write-below-get-requires-2 t c κs =
       (a .pre .1 .0) .range .vars-to,
     )
 
--- src/lib.rt:54:41
 write-below-cast-write-leaf : (t : ℕ) → write-below-lts.Need-cast-write-leaf (claims t) (write-below-at t) write-below.Post
 write-below-cast-write-leaf t c = omega arith
 
--- src/lib.rt:54:9
 write-below-write-leaf-requires : (t : ℕ) → write-below-lts.Need-write-leaf-requires (claims t) (write-below-at t) write-below.Post
 write-below-write-leaf-requires t c κs =
     let b = c .before .before .before .before in
@@ -112,7 +106,6 @@ write-below-write-leaf-requires t c κs =
           (c .before .get2 .ensures ∙ ap (λ (j : ℕ). getD W (at.countAt j) 0) (b .node-at .ensures)),
     )
 
--- src/lib.rt:54:9
 write-below-same-length : (t : ℕ) → write-below-lts.Need-same-length (claims t) (write-below-at t) write-below.Post
 write-below-same-length t c =
     let b = c .before .before .before .before in
@@ -126,7 +119,6 @@ write-below-same-length t c =
           (b .get2 .ensures ∙ ap (λ (j : ℕ). getD W (at.countAt j) 0) (d .node-at .ensures)) .1,
     ))
 
--- src/lib.rt:54:9
 write-below-returns : (t : ℕ) → write-below-lts.Need-returns (claims t) (write-below-at t) write-below.Post
 write-below-returns t c =
     let b = c .before .before .before .before in
@@ -136,7 +128,6 @@ write-below-returns t c =
     λ h. rows.leaf-below W (a .args .s) (a .pre .1 .0) (a .args .k) (a .args .lo) (a .args .out .now) h _ _ (b .get2 .result)
     (b .get2 .ensures ∙ ap (λ (j : ℕ). getD W (at.countAt j) 0) (d .node-at .ensures)) (c .before .before .write-leaf .ensures .0) (c .before .before .write-leaf .ensures .1)
 
--- src/lib.rt:56:34
 write-below-add-get-2 : (t : ℕ) → write-below-lts.Need-add-get-2 (claims t) (write-below-at t) write-below.Post
 write-below-add-get-2 t c =
     let a = c .before .before .before .before .before in
@@ -149,7 +140,6 @@ write-below-add-get-2 t c =
       (a .pre .1 .0) .range .vars-to,
     )
 
--- src/lib.rt:56:16
 write-below-get-requires-3 : (t : ℕ) → write-below-lts.Need-get-requires-3 (claims t) (write-below-at t) write-below.Post
 write-below-get-requires-3 t c κs =
     let a = c .before .before .before .before .before in
@@ -162,15 +152,12 @@ write-below-get-requires-3 t c κs =
       (a .pre .1 .0) .range .vars-to,
     )
 
--- src/lib.rt:56:16
 write-below-cast-skip : (t : ℕ) → write-below-lts.Need-cast-skip (claims t) (write-below-at t) write-below.Post
 write-below-cast-skip t c = omega arith
 
--- src/lib.rt:57:23
 write-below-add-next : (t : ℕ) → write-below-lts.Need-add-next (claims t) (write-below-at t) write-below.Post
 write-below-add-next t c = omega (arith, (c .before .before .before .before .before .before .before .pre .1 .0) .range .vars-to)
 
--- src/lib.rt:57:16
 write-below-add-next-2 : (t : ℕ) → write-below-lts.Need-add-next-2 (claims t) (write-below-at t) write-below.Post
 write-below-add-next-2 t c =
     let b = c .before .before .before .before in
@@ -184,7 +171,6 @@ write-below-add-next-2 t c =
       (a .pre .1 .0) .range .vars-to,
     )
 
--- src/lib.rt:58:34
 write-below-add-get-3 : (t : ℕ) → write-below-lts.Need-add-get-3 (claims t) (write-below-at t) write-below.Post
 write-below-add-get-3 t c =
     let b = c .before .before .before .before in
@@ -198,7 +184,6 @@ write-below-add-get-3 t c =
       (a .pre .1 .0) .range .vars-to,
     )
 
--- src/lib.rt:58:16
 write-below-get-requires-4 : (t : ℕ) → write-below-lts.Need-get-requires-4 (claims t) (write-below-at t) write-below.Post
 write-below-get-requires-4 t c κs =
     let d = c .before .before .before in
@@ -218,11 +203,9 @@ write-below-get-requires-4 t c κs =
       row-behind (a .args .s) (a .args .k),
     )
 
--- src/lib.rt:58:16
 write-below-cast-less : (t : ℕ) → write-below-lts.Need-cast-less (claims t) (write-below-at t) write-below.Post
 write-below-cast-less t c = omega arith
 
--- src/lib.rt:59:35
 write-below-add-write-below : (t : ℕ) → write-below-lts.Need-add-write-below (claims t) (write-below-at t) write-below.Post
 write-below-add-write-below t c =
     let a = c .before .before .before .before .before .before .before .before in
@@ -233,7 +216,6 @@ write-below-add-write-below t c =
       (a .pre .1 .0) .range .cap-to,
     )
 
--- src/lib.rt:59:9
 write-below-write-below-requires : (t : ℕ) → write-below-lts.Need-write-below-requires (claims t) (write-below-at t) write-below.Post
 write-below-write-below-requires t c κs =
     let d = c .before .before .before .before in
@@ -247,7 +229,6 @@ write-below-write-below-requires t c κs =
       ((a .pre .1 .0), rows.less-here W (a .args .s) (a .pre .1 .0) (a .args .k) (a .args .lo) (length (a .args .out .now)) (a .pre .1 .1) b),
     )
 
--- src/lib.rt:60:14
 write-below-mul-at : (t : ℕ) → write-below-lts.Need-mul-at (claims t) (write-below-at t) write-below.Post
 write-below-mul-at t c =
     let d = c .before .before in
@@ -267,7 +248,6 @@ write-below-mul-at t c =
           (d .write-below .last .1 .1 .1 .1 .0) (d .write-below .result) (d .write-below .ensures),
     )
 
--- src/lib.rt:61:31
 write-below-add-write-below-2 : (t : ℕ) → write-below-lts.Need-add-write-below-2 (claims t) (write-below-at t) write-below.Post
 write-below-add-write-below-2 t c =
     let a = c .before .before .before .before .before .before .before .before .before .before .before .before in
@@ -278,7 +258,6 @@ write-below-add-write-below-2 t c =
       (a .pre .1 .0) .range .cap-to,
     )
 
--- src/lib.rt:61:31
 write-below-add-write-below-3 : (t : ℕ) → write-below-lts.Need-add-write-below-3 (claims t) (write-below-at t) write-below.Post
 write-below-add-write-below-3 t c =
     let d = c .before .before .before .before .before .before in
@@ -291,7 +270,6 @@ write-below-add-write-below-3 t c =
     (λ z. omega (arith, f .if1 .left, g .get .ensures, ap (λ (j : ℕ). getD W j 0) (h .node-at .ensures), z)) in
     omega (arith, (d .get3 .ensures ∙ ap (λ (j : ℕ). getD W (at.skipAt j) 0) (h .node-at .ensures)), b .skip-is, b .less-inside, (a .pre .1 .0) .range .nodes-to, (a .pre .1 .0) .range .cap-to)
 
--- src/lib.rt:61:45
 write-below-add-write-below-4 : (t : ℕ) → write-below-lts.Need-add-write-below-4 (claims t) (write-below-at t) write-below.Post
 write-below-add-write-below-4 t c =
     let d = c .before .before .before .before in
@@ -311,7 +289,6 @@ write-below-add-write-below-4 t c =
       (a .pre .1 .0) .range .cap-to,
     )
 
--- src/lib.rt:61:56
 write-below-sub-write-below : (t : ℕ) → write-below-lts.Need-sub-write-below (claims t) (write-below-at t) write-below.Post
 write-below-sub-write-below t c =
     let d = c .before .before in
@@ -324,7 +301,6 @@ write-below-sub-write-below t c =
     (λ z. omega (arith, f .if1 .left, g .get .ensures, ap (λ (j : ℕ). getD W j 0) (h .node-at .ensures), z)) in
     rows.inside W (a .args .s) (a .pre .1 .0) (a .args .k) (a .args .lo) (a .args .out .now) (a .pre .1 .1) b (d .write-below .last .1 .1 .1 .1 .0) (d .write-below .result) (d .write-below .ensures)
 
--- src/lib.rt:61:56
 write-below-part-write-below-start : (t : ℕ) → write-below-lts.Need-part-write-below-start (claims t) (write-below-at t) write-below.Post
 write-below-part-write-below-start t c =
     let d = c .before .before in
@@ -337,11 +313,9 @@ write-below-part-write-below-start t c =
     (λ z. omega (arith, f .if1 .left, g .get .ensures, ap (λ (j : ℕ). getD W j 0) (h .node-at .ensures), z)) in
     rows.inside W (a .args .s) (a .pre .1 .0) (a .args .k) (a .args .lo) (a .args .out .now) (a .pre .1 .1) b (d .write-below .last .1 .1 .1 .1 .0) (d .write-below .result) (d .write-below .ensures)
 
--- src/lib.rt:61:56
 write-below-part-write-below-end : (t : ℕ) → write-below-lts.Need-part-write-below-end (claims t) (write-below-at t) write-below.Post
 write-below-part-write-below-end t c = search needs
 
--- src/lib.rt:61:9
 write-below-write-below-requires-2 : (t : ℕ) → write-below-lts.Need-write-below-requires-2 (claims t) (write-below-at t) write-below.Post
 write-below-write-below-requires-2 t c κs =
     let d = c .before .before .before in
@@ -372,7 +346,6 @@ write-below-write-below-requires-2 t c κs =
       ),
     )
 
--- src/lib.rt:61:5
 write-below-add-result : (t : ℕ) → write-below-lts.Need-add-result (claims t) (write-below-at t) write-below.Post
 write-below-add-result t c =
     let d = c .before .before in
@@ -396,7 +369,6 @@ write-below-add-result t c =
       a .good,
     )
 
--- src/lib.rt:47:1
 write-below-same-length-2 : (t : ℕ) → write-below-lts.Need-same-length-2 (claims t) (write-below-at t) write-below.Post
 write-below-same-length-2 t c =
     let d = c .before .before in
@@ -416,7 +388,6 @@ write-below-same-length-2 t c =
     (g .get4 .ensures ∙ ap (λ (j : ℕ). getD W (at.countAt (j + at.nodeWidth (a .args .s .variables))) 0) (n .node-at .ensures)) (d .write-below2 .last .1 .1 .1 .1 .0)
     (d .write-below2 .result) (d .write-below2 .ensures)
 
--- src/lib.rt:47:1
 write-below-returns-2 : (t : ℕ) → write-below-lts.Need-returns-2 (claims t) (write-below-at t) write-below.Post
 write-below-returns-2 t c =
     let d = c .before .before in

@@ -6,18 +6,15 @@ use Rattle.listing.proofs.to_vec.Reads as reads
 use Rattle.listing.proofs.to_vec.Lts as lts
 use Rattle.listing.proofs.write_below.Reads as write-below-reads
 
--- src/lib.rt:95:5
 write-below-requires : tie.Need-write-below-requires
 write-below-requires c κs =
     let a = c .before .before .before in
     let p = (a .pre .0) in
     (ready-at (a .args .image .now) (a .args .s) (p .state) (p .is) (p .shape), here-at (a .args .image .now) (a .args .s) (p .state) (p .is) (p .shape) _ ((a .pre .1) (p .state) (p .is) (p .shape)))
 
--- src/lib.rt:90:1
 same-length : tie.Need-same-length
 same-length c = search needs
 
--- src/lib.rt:90:1
 returns : tie.Need-returns
 returns c =
     let a = c .before .before .before .before .before .before in

@@ -25,21 +25,17 @@ Inv-loop image s p c n₀ i₀ n i = (n ≡ length (lms (words image) s (entries
 abbrev μ-loop : tie.MeasureT-loop
 μ-loop image s p c n₀ i₀ n i = s .entries - i
 
--- src/lib.rt:69:9
 permutation-at-requires : tie.Need-permutation-at-requires Inv-loop μ-loop
 permutation-at-requires c κs = (c .before .pre) .range
 
--- src/lib.rt:73:5
 loop-holds : tie.Need-loop-holds Inv-loop μ-loop
 loop-holds c = (sym (ap length (none-yet (c .before .before .args .image .now) (c .before .before .args .s) (c .before .before .pre) 0)), (omega arith, omega arith))
 
--- src/lib.rt:74:35
 add-get : tie.Need-add-get Inv-loop μ-loop
 add-get c =
     let a = c .before .before .before .before in
     omega (arith, c .before .before .permutation-at .ensures, c .loop-test .taken, a .pre .range .few, a .pre .range .cap-to, size-small (a .args .s) ((a .pre) .range))
 
--- src/lib.rt:74:17
 get-requires : tie.Need-get-requires Inv-loop μ-loop
 get-requires c κs =
     let a = c .before .before .before .before in
@@ -50,11 +46,9 @@ get-requires c κs =
       place-room (a .args .image .now) (a .args .s) (a .pre) ((c .before .loop .i) + 1) (omega (arith, c .loop-test .taken)),
     )
 
--- src/lib.rt:74:17
 cast-e : tie.Need-cast-e Inv-loop μ-loop
 cast-e c = omega arith
 
--- src/lib.rt:75:40
 entry-at-requires : tie.Need-entry-at-requires Inv-loop μ-loop
 entry-at-requires c κs =
     let b = c .before .before .before in
@@ -63,11 +57,9 @@ entry-at-requires c κs =
     (omega (arith, c .before .loop-test .taken)) (c .get .ensures) in
     ((a .pre) .range, omega (arith, x .small, (a .pre) .range .few))
 
--- src/lib.rt:75:14
 known-at-requires : tie.Need-known-at-requires Inv-loop μ-loop
 known-at-requires c κs = search needs
 
--- src/lib.rt:75:9
 add-n : tie.Need-add-n Inv-loop μ-loop
 add-n c =
     let b = c .before .before in
@@ -80,15 +72,12 @@ add-n c =
     (c .known-at .ensures ∙ ap (ended (a .args .image .now)) (c .before .entry-at .ensures)) in
     omega (arith, t .long, lm-short (a .args .image .now) (a .args .s) (a .pre) (b .get .result) (x .small), l .loop .inv .1 .1, l .loop .inv .1 .0, (a .pre) .range .few, (a .pre) .range .cap-to)
 
--- src/lib.rt:76:9
 add-i : tie.Need-add-i Inv-loop μ-loop
 add-i c = search needs
 
--- src/lib.rt:73:5
 loop-less : tie.Need-loop-less Inv-loop μ-loop
 loop-less c = omega (arith, c .before .before .before .loop-test .taken)
 
--- src/lib.rt:73:5
 loop-again : tie.Need-loop-again Inv-loop μ-loop
 loop-again c =
     let b = c .before .before in
@@ -106,7 +95,6 @@ loop-again c =
       ),
     )
 
--- src/lib.rt:65:1
 returns : tie.Need-returns Inv-loop μ-loop
 returns c =
     let a = c .before .before .before .before in

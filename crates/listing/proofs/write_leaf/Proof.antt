@@ -26,17 +26,14 @@ Inv-loop image s lo c out₀ p n₀ i₀ out n i = (n ≡ length (lms (words ima
 abbrev μ-loop : tie.MeasureT-loop
 μ-loop image s lo c out₀ p n₀ i₀ out n i = c - i
 
--- src/lib.rt:35:13
 permutation-at-requires : tie.Need-permutation-at-requires Inv-loop μ-loop
 permutation-at-requires c κs = (c .before .before .pre .0) .range
 
--- src/lib.rt:35:13
 add-p : tie.Need-add-p Inv-loop μ-loop
 add-p c =
     let a = c .before .before .before in
     omega (arith, c .permutation-at .ensures, a .pre .1 .0, (a .pre .0) .range .few, (a .pre .0) .range .cap-to, size-small (a .args .s) ((a .pre .0) .range))
 
--- src/lib.rt:38:5
 loop-holds : tie.Need-loop-holds Inv-loop μ-loop
 loop-holds c =
     let a = c .before .before .before in (
@@ -44,13 +41,11 @@ loop-holds c =
       (omega arith, (sym (ap (pasteW (a .args .out .now) 0) (none-yet (a .args .image .now) (a .args .s) (a .pre .0) (a .args .lo)) ∙ pasteW-nil (a .args .out .now) 0), refl)),
     )
 
--- src/lib.rt:39:35
 add-get : tie.Need-add-get Inv-loop μ-loop
 add-get c =
     let a = c .before .before .before .before .before in
     omega (arith, c .before .before .permutation-at .ensures, c .loop-test .taken, a .pre .1 .0, (a .pre .0) .range .few, (a .pre .0) .range .cap-to, size-small (a .args .s) ((a .pre .0) .range))
 
--- src/lib.rt:39:17
 get-requires : tie.Need-get-requires Inv-loop μ-loop
 get-requires c κs =
     let a = c .before .before .before .before .before in
@@ -62,36 +57,30 @@ get-requires c κs =
       place-room (a .args .image .now) (a .args .s) (a .pre .0) ((a .args .lo) + (c .before .loop .i) + 1) (omega (arith, c .loop-test .taken, a .pre .1 .0)),
     )
 
--- src/lib.rt:39:17
 cast-e : tie.Need-cast-e Inv-loop μ-loop
 cast-e c = omega arith
 
--- src/lib.rt:40:18
 mul-at : tie.Need-mul-at Inv-loop μ-loop
 mul-at c =
     let l = c .before .before in
     let a = l .before .before .before .before in
     omega (arith, l .loop .inv .0, front-shorter (a .args .image .now) (a .args .s) (a .pre .0) (a .args .lo) (l .loop .i) (a .args .c) (l .loop .inv .1 .0), a .pre .1 .1)
 
--- src/lib.rt:41:42
 sub-write-monomial : tie.Need-sub-write-monomial Inv-loop μ-loop
 sub-write-monomial c =
     let l = c .before .before in
     let a = l .before .before .before .before in
     omega (arith, l .loop .inv .0, l .loop .inv .1 .1 .1, front-shorter (a .args .image .now) (a .args .s) (a .pre .0) (a .args .lo) (l .loop .i) (a .args .c) (l .loop .inv .1 .0), a .pre .1 .1)
 
--- src/lib.rt:41:42
 part-write-monomial-start : tie.Need-part-write-monomial-start Inv-loop μ-loop
 part-write-monomial-start c =
     let l = c .before .before in
     let a = l .before .before .before .before in
     omega (arith, l .loop .inv .0, l .loop .inv .1 .1 .1, front-shorter (a .args .image .now) (a .args .s) (a .pre .0) (a .args .lo) (l .loop .i) (a .args .c) (l .loop .inv .1 .0), a .pre .1 .1)
 
--- src/lib.rt:41:42
 part-write-monomial-end : tie.Need-part-write-monomial-end Inv-loop μ-loop
 part-write-monomial-end c = search needs
 
--- src/lib.rt:41:14
 write-monomial-requires : tie.Need-write-monomial-requires Inv-loop μ-loop
 write-monomial-requires c κs =
     let l = c .before .before .before in
@@ -113,7 +102,6 @@ write-monomial-requires c κs =
       ),
     )
 
--- src/lib.rt:41:9
 add-n : tie.Need-add-n Inv-loop μ-loop
 add-n c =
     let b = c .before .before .before .before in
@@ -133,15 +121,12 @@ add-n c =
       a .pre .1 .1,
     )
 
--- src/lib.rt:42:9
 add-i : tie.Need-add-i Inv-loop μ-loop
 add-i c = search needs
 
--- src/lib.rt:38:5
 loop-less : tie.Need-loop-less Inv-loop μ-loop
 loop-less c = omega (arith, c .before .before .before .before .before .loop-test .taken)
 
--- src/lib.rt:38:5
 loop-again : tie.Need-loop-again Inv-loop μ-loop
 loop-again c =
     let b = c .before .before .before .before in
@@ -178,11 +163,9 @@ loop-again c =
       ),
     )
 
--- src/lib.rt:28:1
 same-length : tie.Need-same-length Inv-loop μ-loop
 same-length c = c .before .loop .inv .1 .1 .1
 
--- src/lib.rt:28:1
 returns : tie.Need-returns Inv-loop μ-loop
 returns c =
     let a = c .before .before .before .before .before in

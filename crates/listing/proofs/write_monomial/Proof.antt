@@ -22,32 +22,27 @@ Inv-loop image e out₀ at i₀ out i = Copied (words image) at out₀ out i
 abbrev μ-loop : tie.MeasureT-loop
 μ-loop image e out₀ at i₀ out i = lengthAt (words image) at - i
 
--- src/lib.rt:22:9
 entry-at-requires : tie.Need-entry-at-requires Inv-loop μ-loop
 entry-at-requires c κs = search needs
 
--- src/lib.rt:24:5
 loop-holds : tie.Need-loop-holds Inv-loop μ-loop
 loop-holds c =
     let d = c in
     let a = c .before .before .before in
     copied-none _ _ _ (lm-some (a .args .image .now) (a .args .s) (a .pre .0) (a .args .e) _ (a .pre .1 .0) (d .entry-at .ensures))
 
--- src/lib.rt:25:35
 add-get : tie.Need-add-get Inv-loop μ-loop
 add-get c =
     let a = c .before .before .before .before in
     let most = end-inside (words (a .args .image .now)) (c .before .entry-at .result) (omega (arith, c .loop .inv .more)) in
     omega (arith, a .good, c .loop .inv .more, most, length-words (a .args .image .now))
 
--- src/lib.rt:25:13
 get-requires : tie.Need-get-requires Inv-loop μ-loop
 get-requires c κs =
     let a = c .before .before .before .before in
     let most = end-inside (words (a .args .image .now)) (c .before .entry-at .result) (omega (arith, c .loop .inv .more)) in
     omega (arith, c .loop .inv .more, most, length-words (a .args .image .now))
 
--- src/lib.rt:26:9
 put-requires : tie.Need-put-requires Inv-loop μ-loop
 put-requires c κs =
     let l = c .before .before in
@@ -56,7 +51,6 @@ put-requires c κs =
     let long = lm-to-end (a .args .image .now) (a .args .s) (a .pre .0) (a .args .e) _ (a .pre .1 .0) (d .entry-at .ensures) in
     omega (arith, l .loop .inv .more, l .loop .inv .same, a .pre .1 .1, long)
 
--- src/lib.rt:27:9
 add-i : tie.Need-add-i Inv-loop μ-loop
 add-i c =
     let l = c .before .before .before .before .before in
@@ -65,11 +59,9 @@ add-i c =
     let long = lm-to-end (a .args .image .now) (a .args .s) (a .pre .0) (a .args .e) _ (a .pre .1 .0) (d .entry-at .ensures) in
     omega (arith, l .loop .inv .more, a .good, a .pre .1 .1, long)
 
--- src/lib.rt:28:12
 kind-requires : tie.Need-kind-requires Inv-loop μ-loop
 kind-requires c κs = search needs
 
--- src/lib.rt:29:13
 same-length : tie.Need-same-length Inv-loop μ-loop
 same-length c =
     let g = c .before .before .before .before .before .before in
@@ -82,7 +74,6 @@ same-length c =
     one-same W (d .entry-at .result) (a .args .out .now) (l .loop .out) (l .loop .i) (l .loop .inv) room
     (g .get .result) (g .get .ensures) _ (c .before .before .before .before .put .ensures)
 
--- src/lib.rt:29:13
 returns : tie.Need-returns Inv-loop μ-loop
 returns c =
     let g = c .before .before .before .before .before .before in
@@ -98,13 +89,11 @@ returns c =
     let all = one-more W (d .entry-at .result) (a .args .out .now) (l .loop .out) (l .loop .i) (l .loop .inv) room (g .get .result) (g .get .ensures) _ p in
     (last ∙ long, all ∙ ap (pasteW (a .args .out .now) 0) (lm-part (a .args .image .now) (a .args .s) (a .pre .0) (a .args .e) _ (a .pre .1 .0) (d .entry-at .ensures) _ last))
 
--- src/lib.rt:24:5
 loop-less : tie.Need-loop-less Inv-loop μ-loop
 loop-less c =
     let l = c .before .before .before .before .before .before .before in
     omega (arith, l .loop .inv .more)
 
--- src/lib.rt:24:5
 loop-again : tie.Need-loop-again Inv-loop μ-loop
 loop-again c =
     let g = c .before .before .before .before .before .before in

@@ -13,28 +13,22 @@ use Rattle.monomial.proofs.canonical_at.Reads as reads
 use Rattle.monomial.proofs.canonical_at.Lts as lts
 use Rattle.monomial.proofs.canonical_words.Reads as canonical-words-reads
 
--- src/lib.rt:95:9
 canonical-words-requires : tie.Need-canonical-words-requires
 canonical-words-requires c κs = search needs
 
--- src/lib.rt:97:16
 sub-result : tie.Need-sub-result
 sub-result c = search needs
 
--- src/lib.rt:97:16
 part-result-start : tie.Need-part-result-start
 part-result-start c = search needs
 
--- src/lib.rt:97:16
 part-result-end : tie.Need-part-result-end
 part-result-end c = search needs
 
--- src/lib.rt:97:9
 returns : tie.Need-returns
 unfolding found
 returns c = rw (← (c .before .before .canonical-words .ensures), c .before .if1 .taken)
 
--- src/lib.rt:99:13
 mul-a : tie.Need-mul-a
 mul-a c =
     let start = c .before .before .before in
@@ -45,7 +39,6 @@ mul-a c =
       length-words (start .args .s .now),
     )
 
--- src/lib.rt:100:17
 mul-e : tie.Need-mul-e
 mul-e c =
     let start = c .before .before .before in
@@ -56,7 +49,6 @@ mul-e c =
       length-words (start .args .s .now),
     )
 
--- src/lib.rt:100:13
 add-e : tie.Need-add-e
 add-e c =
     let start = c .before .before .before in
@@ -67,15 +59,12 @@ add-e c =
       length-words (start .args .s .now),
     )
 
--- src/lib.rt:101:5
 sub-result-2 : tie.Need-sub-result-2
 sub-result-2 c = search needs
 
--- src/lib.rt:101:5
 part-result-start-2 : tie.Need-part-result-start-2
 part-result-start-2 c = search needs
 
--- src/lib.rt:101:5
 part-result-end-2 : tie.Need-part-result-end-2
 part-result-end-2 c =
     let start = c .before .before .before in
@@ -86,7 +75,6 @@ part-result-end-2 c =
       length-words (start .args .s .now),
     )
 
--- src/lib.rt:91:1
 returns-2 : tie.Need-returns-2
 unfolding found
 returns-2 c =

@@ -25,31 +25,24 @@ Inv-loop s at kind variables end i₀ bound₀ n₀ i bound n = (n + min bound 4
 abbrev μ-loop : tie.MeasureT-loop
 μ-loop s at kind variables end i₀ bound₀ n₀ i bound n = end - i
 
--- src/lib.rt:60:5
 loop-holds : tie.Need-loop-holds Inv-loop μ-loop
 loop-holds c = (omega arith, refl)
 
--- src/lib.rt:61:13
 get-requires : tie.Need-get-requires Inv-loop μ-loop
 get-requires c κs = search needs
 
--- src/lib.rt:62:12
 is-end-requires : tie.Need-is-end-requires Inv-loop μ-loop
 is-end-requires c κs = search needs
 
--- src/lib.rt:63:16
 payload-requires : tie.Need-payload-requires Inv-loop μ-loop
 payload-requires c κs = search needs
 
--- src/lib.rt:64:24
 cast-result : tie.Need-cast-result Inv-loop μ-loop
 cast-result c = search needs
 
--- src/lib.rt:64:24
 add-result : tie.Need-add-result Inv-loop μ-loop
 add-result c = search needs
 
--- src/lib.rt:64:17
 returns : tie.Need-returns Inv-loop μ-loop
 returns c =
     let get = c .before .before .before .before .get in
@@ -59,7 +52,6 @@ returns c =
     (get .ensures)) (front-end _ _ _ _ _ (is-end-true _ (c .before .before .before .is-end .ensures) (c .before .before .if1 .taken))
     (sym (c .before .payload .ensures) ∙ c .if2 .taken)))
 
--- src/lib.rt:66:13
 returns-2 : tie.Need-returns-2 Inv-loop μ-loop
 returns-2 c =
     let get = c .before .before .before .before .get in
@@ -69,11 +61,9 @@ returns-2 c =
     (get .ensures)) (front-bad-end _ _ _ _ _ (is-end-true _ (c .before .before .before .is-end .ensures) (c .before .before .if1 .taken))
     (λ q. (c .if2 .left) (c .before .payload .ensures ∙ q))))
 
--- src/lib.rt:68:13
 is-variable-requires : tie.Need-is-variable-requires Inv-loop μ-loop
 is-variable-requires c κs = search needs
 
--- src/lib.rt:69:13
 returns-3 : tie.Need-returns-3 Inv-loop μ-loop
 returns-3 c =
     let get = c .before .before .before .before .get in
@@ -83,24 +73,19 @@ returns-3 c =
     (get .ensures)) (front-bad-var _ _ _ _ _ (is-end-false _ (c .before .before .before .is-end .ensures) (c .before .before .if1 .left))
     (sym (c .before .is-variable .ensures) ∙ not-true _ (c .if3 .taken))))
 
--- src/lib.rt:71:9
 id-requires : tie.Need-id-requires Inv-loop μ-loop
 id-requires c κs = search needs
 
--- src/lib.rt:72:9
 add-n : tie.Need-add-n Inv-loop μ-loop
 add-n c = let v = sym (c .before .before .is-variable .ensures) ∙ not-false _ (c .before .if3 .left) in
     omega (arith, is-var _ _ _ v .below)
 
--- src/lib.rt:73:9
 add-i : tie.Need-add-i Inv-loop μ-loop
 add-i c = search needs
 
--- src/lib.rt:60:5
 loop-less : tie.Need-loop-less Inv-loop μ-loop
 loop-less c = search needs
 
--- src/lib.rt:60:5
 loop-again : tie.Need-loop-again Inv-loop μ-loop
 loop-again c =
     let is-end = c .before .before .before .before .is-end in
@@ -115,7 +100,6 @@ loop-again c =
           (get .ensures)) (front-var _ _ _ _ _ (is-end-false _ (is-end .ensures) (c .before .before .before .if1 .left)) v)),
     )
 
--- src/lib.rt:52:1
 returns-4 : tie.Need-returns-4 Inv-loop μ-loop
 returns-4 c =
     let start = c .before .before .before in

@@ -25,29 +25,23 @@ Inv-loop a b i₀ j₀ i j = Dividing (first 1 (words a)) (first 1 (words b)) i 
 abbrev μ-loop : tie.MeasureT-loop
 μ-loop a b i₀ j₀ i j = length (first 1 (words b)) - j
 
--- src/lib.rt:185:5
 loop-holds : tie.Need-loop-holds Inv-loop μ-loop
 loop-holds c = begin (begins (omega arith) (c .before .before .pre .0)) (begins (omega arith) (c .before .before .pre .1))
 
--- src/lib.rt:186:13
 get-requires : tie.Need-get-requires Inv-loop μ-loop
 get-requires c κs = omega (arith, within (c .loop .inv .ra), first-bytes 1 (c .before .before .before .args .a .now))
 
--- src/lib.rt:187:12
 is-end-requires : tie.Need-is-end-requires Inv-loop μ-loop
 is-end-requires c κs = search needs
 
--- src/lib.rt:188:13
 returns : tie.Need-returns Inv-loop μ-loop
 returns c =
     let loop = c .before .before .before .loop in
     all-passed (loop .inv) (seen _ (loop .inv .ra) (c .before .before .get .ensures)) (is-end-true _ (c .before .is-end .ensures) (c .if1 .taken))
 
--- src/lib.rt:190:13
 get-requires-2 : tie.Need-get-requires-2 Inv-loop μ-loop
 get-requires-2 c κs = omega (arith, within (c .before .before .before .loop .inv .rb), first-bytes 1 (c .before .before .before .before .before .before .args .b .now))
 
--- src/lib.rt:192:13
 returns-2 : tie.Need-returns-2 Inv-loop μ-loop
 returns-2 c =
     let get = c .before .before .before .before .get in
@@ -55,29 +49,24 @@ returns-2 c =
     exceeds (loop .inv) (seen _ (loop .inv .ra) (get .ensures)) (seen _ (loop .inv .rb) (c .before .get2 .ensures))
     (is-end-false _ (c .before .before .before .is-end .ensures) (c .before .before .if1 .left)) (c .if2 .taken)
 
--- src/lib.rt:194:37
 upper-half-requires : tie.Need-upper-half-requires Inv-loop μ-loop
 upper-half-requires c κs = search needs
 
--- src/lib.rt:194:9
 step-requires : tie.Need-step-requires Inv-loop μ-loop
 step-requires c κs =
     let loop = c .before .before .before .before .before .before .loop in
     let start = c .before .before .before .before .before .before .before .before .before in
     omega (arith, within (loop .inv .ra), first-bytes 1 (start .args .a .now))
 
--- src/lib.rt:195:9
 add-j : tie.Need-add-j Inv-loop μ-loop
 add-j c =
     let b7 = c .before .before .before .before .before .before .before in
     let start = b7 .before .before .before in
     omega (arith, within (b7 .loop .inv .rb), first-bytes 1 (start .args .b .now))
 
--- src/lib.rt:185:5
 loop-less : tie.Need-loop-less Inv-loop μ-loop
 loop-less c = omega (arith, within (c .before .before .before .before .before .before .before .loop .inv .rb))
 
--- src/lib.rt:185:5
 loop-again : tie.Need-loop-again Inv-loop μ-loop
 loop-again c =
     let if1 = c .before .before .before .before .if1 in

@@ -19,26 +19,21 @@ Inv-loop a b n i₀ i = (i ≤ n) × (equal (words a) (words b) ≡ equal (drop 
 abbrev μ-loop : tie.MeasureT-loop
 μ-loop a b n i₀ i = n - i
 
--- src/lib.rt:176:9
 returns : tie.Need-returns Inv-loop μ-loop
 returns c =
     let start = c .before .before .before in
     sym (other-length (words (start .args .a .now)) (words (start .args .b .now))
     (λ e. (c .if1 .taken) (omega (arith, length-words (start .args .a .now), length-words (start .args .b .now)))))
 
--- src/lib.rt:179:5
 loop-holds : tie.Need-loop-holds Inv-loop μ-loop
 loop-holds c = (omega arith, refl)
 
--- src/lib.rt:180:12
 get-requires : tie.Need-get-requires Inv-loop μ-loop
 get-requires c κs = search needs
 
--- src/lib.rt:180:32
 get-requires-2 : tie.Need-get-requires-2 Inv-loop μ-loop
 get-requires-2 c κs = search needs
 
--- src/lib.rt:181:13
 returns-2 : tie.Need-returns-2 Inv-loop μ-loop
 returns-2 c =
     let loop = c .before .before .before .before .loop in
@@ -48,15 +43,12 @@ returns-2 c =
     (omega (arith, length-words (start .args .a .now), length-words (start .args .b .now)))
     (λ e. (c .if2 .taken) (c .before .before .get .ensures ∙ e ∙ sym (c .before .get2 .ensures))))
 
--- src/lib.rt:183:9
 add-i : tie.Need-add-i Inv-loop μ-loop
 add-i c = search needs
 
--- src/lib.rt:179:5
 loop-less : tie.Need-loop-less Inv-loop μ-loop
 loop-less c = search needs
 
--- src/lib.rt:179:5
 loop-again : tie.Need-loop-again Inv-loop μ-loop
 loop-again c =
     let loop = c .before .before .before .before .loop in
@@ -68,7 +60,6 @@ loop-again c =
           (sym (c .before .before .get .ensures) ∙ c .if2 .left ∙ c .before .get2 .ensures),
     )
 
--- src/lib.rt:171:1
 returns-3 : tie.Need-returns-3 Inv-loop μ-loop
 returns-3 c =
     let start = c .before .before .before .before .before in

@@ -22,27 +22,21 @@ Inv-loop m kind v upper i₀ i = Finding kind (first kind (words m)) v i
 abbrev μ-loop : tie.MeasureT-loop
 μ-loop m kind v upper i₀ i = length (first kind (words m)) - i
 
--- src/lib.rt:150:17
 mul-upper : tie.Need-mul-upper Inv-loop μ-loop
 mul-upper c = search needs
 
--- src/lib.rt:150:17
 add-upper : tie.Need-add-upper Inv-loop μ-loop
 add-upper c = search needs
 
--- src/lib.rt:152:5
 loop-holds : tie.Need-loop-holds Inv-loop μ-loop
 loop-holds c = record { b = 4096; below = c .before .pre .0 .1 .1; ra = begins (c .before .pre .0 .0) (c .before .pre .1) }
 
--- src/lib.rt:153:13
 get-requires : tie.Need-get-requires Inv-loop μ-loop
 get-requires c κs = omega (arith, within (c .loop .inv .ra), first-bytes (c .before .before .args .kind) (c .before .before .args .m .now))
 
--- src/lib.rt:154:13
 upper-half-requires : tie.Need-upper-half-requires Inv-loop μ-loop
 upper-half-requires c κs = search needs
 
--- src/lib.rt:156:13
 returns : tie.Need-returns Inv-loop μ-loop
 returns c =
     let loop = c .before .before .before .loop in
@@ -51,11 +45,9 @@ returns c =
     absent-here k (first-canonical k (start .pre .1)) (loop .inv) (seen _ (loop .inv .ra) (c .before .before .get .ensures))
     (omega (arith, c .before .upper-half .ensures))
 
--- src/lib.rt:159:33
 power-requires : tie.Need-power-requires Inv-loop μ-loop
 power-requires c κs = search needs
 
--- src/lib.rt:159:13
 returns-2 : tie.Need-returns-2 Inv-loop μ-loop
 returns-2 c =
     let get = c .before .before .before .before .get in
@@ -65,18 +57,15 @@ returns-2 c =
     rw (c .power .ensures) (found-here k (first-canonical k (start .pre .1)) (loop .inv) (seen _ (loop .inv .ra) (get .ensures))
     (omega (arith, c .before .before .before .upper-half .ensures)))
 
--- src/lib.rt:161:9
 add-i : tie.Need-add-i Inv-loop μ-loop
 add-i c =
     let loop = c .before .before .before .before .loop in
     let start = c .before .before .before .before .before .before in
     omega (arith, within (loop .inv .ra), first-bytes (start .args .kind) (start .args .m .now))
 
--- src/lib.rt:152:5
 loop-less : tie.Need-loop-less Inv-loop μ-loop
 loop-less c = omega (arith, within (c .before .before .before .before .loop .inv .ra))
 
--- src/lib.rt:152:5
 loop-again : tie.Need-loop-again Inv-loop μ-loop
 loop-again c =
     let loop = c .before .before .before .before .loop in

@@ -12,16 +12,13 @@ use Rattle.monomial.proofs.is_canonical.Reads as reads
 use Rattle.monomial.proofs.is_canonical.Lts as lts
 use Rattle.monomial.proofs.canonical_words.Reads as canonical-words-reads
 
--- src/lib.rt:84:9
 returns : tie.Need-returns
 unfolding lent
 returns c = simp (le-ltb 0 (length (c .before .before .args .s .now)) (omega arith))
 
--- src/lib.rt:86:9
 canonical-words-requires : tie.Need-canonical-words-requires
 canonical-words-requires c κs = search needs
 
--- src/lib.rt:87:5
 mul-result : tie.Need-mul-result
 mul-result c =
     let start = c .before .before .before in
@@ -32,7 +29,6 @@ mul-result c =
       length-words (start .args .s .now),
     )
 
--- src/lib.rt:79:1
 returns-2 : tie.Need-returns-2
 unfolding lent
 returns-2 c = rw (c .canonical-words .ensures, lt-ltb 0 (length (c .before .before .before .args .s .now)) (omega arith))

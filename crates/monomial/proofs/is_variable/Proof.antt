@@ -11,29 +11,23 @@ use Rattle.words.proofs.id.Reads as id-reads
 use Rattle.words.proofs.kind.Reads as kind-reads
 use Rattle.words.proofs.power.Reads as power-reads
 
--- src/lib.rt:32:8
 kind-requires : tie.Need-kind-requires
 kind-requires c κs = search needs
 
--- src/lib.rt:33:9
 returns : tie.Need-returns
 unfolding isVar
 returns c = simp (ne-eqb _ _ (rw (c .before .kind .ensures) at (c .if1 .taken)))
 
--- src/lib.rt:35:17
 id-requires : tie.Need-id-requires
 id-requires c κs = search needs
 
--- src/lib.rt:36:9
 returns-2 : tie.Need-returns-2
 unfolding isVar
 returns-2 c = simp (eq-eqb _ _ (rw (c .before .before .before .kind .ensures) at (c .before .before .if1 .left)), le-ltb _ _ (rw (c .before .id .ensures) at (c .if2 .taken)))
 
--- src/lib.rt:38:9
 power-requires : tie.Need-power-requires
 power-requires c κs = search needs
 
--- src/lib.rt:40:9
 returns-3 : tie.Need-returns-3
 unfolding isVar
 returns-3 c =
@@ -46,19 +40,15 @@ returns-3 c =
       le-ltb 0 (power (start .args .w)) (omega (arith, c .before .power .ensures)),
     )
 
--- src/lib.rt:42:25
 sub-if4 : tie.Need-sub-if4
 sub-if4 c = search needs
 
--- src/lib.rt:42:16
 mul-if4 : tie.Need-mul-if4
 mul-if4 c = search needs
 
--- src/lib.rt:42:8
 add-if4 : tie.Need-add-if4
 add-if4 c = search needs
 
--- src/lib.rt:43:9
 returns-4 : tie.Need-returns-4
 unfolding isVar
 returns-4 c =
@@ -74,15 +64,12 @@ returns-4 c =
       lt-leb _ _ (rw (the-power .ensures) at (c .if4 .taken)),
     )
 
--- src/lib.rt:45:22
 sub-if5 : tie.Need-sub-if5
 sub-if5 c = search needs
 
--- src/lib.rt:45:13
 mul-if5 : tie.Need-mul-if5
 mul-if5 c = search needs
 
--- src/lib.rt:46:9
 returns-5 : tie.Need-returns-5
 unfolding isVar
 returns-5 c =
@@ -100,7 +87,6 @@ returns-5 c =
       eq-eqb _ _ (rw (the-power .ensures) at (c .if5 .taken)),
     )
 
--- src/lib.rt:28:1
 returns-6 : tie.Need-returns-6
 unfolding isVar
 returns-6 c =

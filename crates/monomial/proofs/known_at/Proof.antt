@@ -12,28 +12,22 @@ use Rattle.monomial.proofs.known_at.Reads as reads
 use Rattle.monomial.proofs.known_at.Lts as lts
 use Rattle.monomial.proofs.words_to_end.Reads as words-to-end-reads
 
--- src/lib.rt:135:9
 words-to-end-requires : tie.Need-words-to-end-requires
 words-to-end-requires c κs = search needs
 
--- src/lib.rt:137:16
 sub-result : tie.Need-sub-result
 sub-result c = search needs
 
--- src/lib.rt:137:16
 part-result-start : tie.Need-part-result-start
 part-result-start c = search needs
 
--- src/lib.rt:137:16
 part-result-end : tie.Need-part-result-end
 part-result-end c = search needs
 
--- src/lib.rt:137:9
 returns : tie.Need-returns
 unfolding ended
 returns c = rw (← (c .before .before .words-to-end .ensures), c .before .if1 .taken)
 
--- src/lib.rt:139:13
 mul-a : tie.Need-mul-a
 mul-a c =
     let start = c .before .before .before in
@@ -44,7 +38,6 @@ mul-a c =
       length-words (start .args .s .now),
     )
 
--- src/lib.rt:140:17
 mul-e : tie.Need-mul-e
 mul-e c =
     let start = c .before .before .before in
@@ -55,7 +48,6 @@ mul-e c =
       length-words (start .args .s .now),
     )
 
--- src/lib.rt:140:13
 add-e : tie.Need-add-e
 add-e c =
     let start = c .before .before .before in
@@ -66,15 +58,12 @@ add-e c =
       length-words (start .args .s .now),
     )
 
--- src/lib.rt:141:5
 sub-result-2 : tie.Need-sub-result-2
 sub-result-2 c = search needs
 
--- src/lib.rt:141:5
 part-result-start-2 : tie.Need-part-result-start-2
 part-result-start-2 c = search needs
 
--- src/lib.rt:141:5
 part-result-end-2 : tie.Need-part-result-end-2
 part-result-end-2 c =
     let start = c .before .before .before in
@@ -85,7 +74,6 @@ part-result-end-2 c =
       length-words (start .args .s .now),
     )
 
--- src/lib.rt:132:1
 returns-2 : tie.Need-returns-2
 unfolding ended
 returns-2 c =

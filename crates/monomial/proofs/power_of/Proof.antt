@@ -8,32 +8,25 @@ use Rattle.monomial.proofs.power_of.Reads as reads
 use Rattle.monomial.proofs.power_of.Lts as lts
 use Rattle.monomial.proofs.find_power.Reads as find-power-reads
 
--- src/lib.rt:142:27
 find-power-requires : tie.Need-find-power-requires
 find-power-requires c κs = search needs
 
--- src/lib.rt:142:22
 enum-known-p : tie.Need-enum-known-p
 enum-known-p c = search needs
 
--- src/lib.rt:143:25
 enum-told : tie.Need-enum-told
 enum-told c = search needs
 
--- src/lib.rt:143:25
 sub-result : tie.Need-sub-result
 sub-result c = search needs
 
--- src/lib.rt:143:16
 mul-result : tie.Need-mul-result
 mul-result c = search needs
 
--- src/lib.rt:143:9
 returns : tie.Need-returns
 unfolding pow powerOf
 returns c = ap (powerOf (c .before .before .before .before .args .kind)) (sym (c .enum-told .given .1) ∙ c .before .before .find-power .ensures)
 
--- src/lib.rt:137:1
 returns-2 : tie.Need-returns-2
 unfolding pow powerOf
 returns-2 c = ap (powerOf (c .before .before .before .before .before .args .kind)) (sym (c .before .p .given .1) ∙ c .before .before .before .find-power .ensures)

@@ -9,24 +9,19 @@ use Rattle.monomial.proofs.whole_division.Lts as lts
 use Rattle.monomial.proofs.divides.Reads as divides-reads
 use Rattle.monomial.proofs.ordered_ops.sum.Reads as sum-reads
 
--- src/lib.rt:229:8
 divides-requires : tie.Need-divides-requires
 divides-requires c κs = search needs
 
--- src/lib.rt:230:25
 sum-requires : tie.Need-sum-requires
 sum-requires c κs = search needs
 
--- src/lib.rt:222:1
 same-length : tie.Need-same-length
 same-length c = search needs
 
--- src/lib.rt:222:1
 returns : tie.Need-returns
 unfolding divided
 returns c = rw (sym (c .before .before .before .before .before .divides .ensures) ∙ c .before .before .before .before .if1 .taken) (ap Whole (c .before .before .sum .ensures .0), c .before .before .sum .ensures .1)
 
--- src/lib.rt:222:1
 returns-2 : tie.Need-returns-2
 unfolding divided
 returns-2 c = rw (sym (c .before .divides .ensures) ∙ c .if1 .left) (refl, refl)

@@ -21,27 +21,21 @@ Inv-loop s at end i₀ i = (at ≤ i) × (toEnd 0 (drop at (words s)) ≡ toEnd 
 abbrev μ-loop : tie.MeasureT-loop
 μ-loop s at end i₀ i = end - i
 
--- src/lib.rt:122:5
 loop-holds : tie.Need-loop-holds Inv-loop μ-loop
 loop-holds c = (omega arith, let z : (c .before .args .at) - (c .before .args .at) ≡ 0 = omega arith in rw z)
 
--- src/lib.rt:123:26
 get-requires : tie.Need-get-requires Inv-loop μ-loop
 get-requires c κs = search needs
 
--- src/lib.rt:123:12
 is-end-requires : tie.Need-is-end-requires Inv-loop μ-loop
 is-end-requires c κs = search needs
 
--- src/lib.rt:124:20
 sub-result : tie.Need-sub-result Inv-loop μ-loop
 sub-result c = search needs
 
--- src/lib.rt:124:20
 add-result : tie.Need-add-result Inv-loop μ-loop
 add-result c = search needs
 
--- src/lib.rt:124:13
 returns : tie.Need-returns Inv-loop μ-loop
 returns c =
     let get = c .before .before .get in
@@ -50,15 +44,12 @@ returns c =
     sym (loop .inv .1 ∙ rw (word-and-rest (words (start .args .s .now)) (loop .i) (get .result) (omega (arith, length-words (start .args .s .now)))
     (get .ensures)) (end-here _ _ _ (is-end-true _ (c .before .is-end .ensures) (c .if1 .taken))))
 
--- src/lib.rt:126:9
 add-i : tie.Need-add-i Inv-loop μ-loop
 add-i c = search needs
 
--- src/lib.rt:122:5
 loop-less : tie.Need-loop-less Inv-loop μ-loop
 loop-less c = search needs
 
--- src/lib.rt:122:5
 loop-again : tie.Need-loop-again Inv-loop μ-loop
 loop-again c =
     let get = c .before .before .get in
@@ -70,7 +61,6 @@ loop-again c =
           (end-past _ _ _ (is-end-false _ (c .before .is-end .ensures) (c .if1 .left))) ∙ ap (λ (n : ℕ). toEnd n (drop ((loop .i) + 1) (words (start .args .s .now)))) z,
     )
 
--- src/lib.rt:117:1
 returns-2 : tie.Need-returns-2 Inv-loop μ-loop
 returns-2 c =
     let start = c .before .before .before in

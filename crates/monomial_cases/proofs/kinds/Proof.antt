@@ -12,35 +12,27 @@ Inv-loop k₀ k = k ≤ 16
 abbrev μ-loop : tie.MeasureT-loop
 μ-loop k₀ k = 16 - k
 
--- src/main.rt:92:5
 loop-holds : tie.Need-loop-holds Inv-loop μ-loop
 loop-holds c = search needs
 
--- src/main.rt:93:33
 mul-t5 : tie.Need-mul-t5 Inv-loop μ-loop
 mul-t5 c = search needs
 
--- src/main.rt:93:22
 slice-aggregate-canonical : tie.Need-slice-aggregate-canonical Inv-loop μ-loop
 slice-aggregate-canonical c = search needs
 
--- src/main.rt:93:9
 canonical-requires : tie.Need-canonical-requires Inv-loop μ-loop
 canonical-requires c κs = search needs
 
--- src/main.rt:94:9
 add-k : tie.Need-add-k Inv-loop μ-loop
 add-k c = search needs
 
--- src/main.rt:92:5
 loop-less : tie.Need-loop-less Inv-loop μ-loop
 loop-less c = search needs
 
--- src/main.rt:92:5
 loop-again : tie.Need-loop-again Inv-loop μ-loop
 loop-again c = search needs
 
--- src/main.rt:90:1
 returns : tie.Need-returns Inv-loop μ-loop
 returns c = search needs
 

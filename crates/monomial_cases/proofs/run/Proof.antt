@@ -10,35 +10,27 @@ use Rattle.io.proofs.print_decimal.Reads as print-decimal-reads
 use Rattle.monomial_cases.proofs.show.Reads as show-reads
 use Rattle.monomial_work.proofs.serve.Reads as serve-reads
 
--- src/main.rt:8:9
 returns : tie.Need-returns
 returns c = search needs
 
--- src/main.rt:10:54
 array-borrow-prefix-out : tie.Need-array-borrow-prefix-out
 array-borrow-prefix-out c = search needs
 
--- src/main.rt:10:54
 slice-aggregate-serve : tie.Need-slice-aggregate-serve
 slice-aggregate-serve c = sym (length-take-le (c .before .before .before .before .args .room) _ (omega arith))
 
--- src/main.rt:10:9
 serve-requires : tie.Need-serve-requires
 serve-requires c κs = search needs
 
--- src/main.rt:11:26
 cast-print-decimal : tie.Need-cast-print-decimal
 cast-print-decimal c = search needs
 
--- src/main.rt:11:5
 print-decimal-requires : tie.Need-print-decimal-requires
 print-decimal-requires c κs = search needs
 
--- src/main.rt:12:5
 show-requires : tie.Need-show-requires
 show-requires c κs = search needs
 
--- src/main.rt:5:1
 returns-2 : tie.Need-returns-2
 returns-2 c = search needs
 

@@ -14,11 +14,9 @@ use Rattle.monomial.proofs.gcd.Reads as gcd-reads
 use Rattle.monomial.proofs.mul.Reads as mul-reads
 use Rattle.monomial_work.proofs.quotient.Reads as quotient-reads
 
--- src/lib.rt:73:40
 enum-told : tie.Need-enum-told
 enum-told c = search needs
 
--- src/lib.rt:73:20
 gcd-requires : tie.Need-gcd-requires
 gcd-requires c κs =
     let start = c .before .before .before .before .before .before in
@@ -27,11 +25,9 @@ gcd-requires c κs =
     let t = start .args .out .now in
     ready Op.Gcd (words a) (words b) t (start .pre .0) (start .pre .1 .0) (start .pre .1 .1)
 
--- src/lib.rt:74:44
 enum-told-2 : tie.Need-enum-told-2
 enum-told-2 c = search needs
 
--- src/lib.rt:74:24
 mul-requires : tie.Need-mul-requires
 mul-requires c κs =
     let start = c .before .before .before .before .before .before in
@@ -40,11 +36,9 @@ mul-requires c κs =
     let t = start .args .out .now in
     ready Op.Product (words a) (words b) t (start .pre .0) (start .pre .1 .0) (start .pre .1 .1)
 
--- src/lib.rt:75:40
 enum-told-3 : tie.Need-enum-told-3
 enum-told-3 c = search needs
 
--- src/lib.rt:75:25
 quotient-requires : tie.Need-quotient-requires
 quotient-requires c κs =
     let start = c .before .before .before .before .before .before in
@@ -54,11 +48,9 @@ quotient-requires c κs =
     let r = ready Op.Quotient (words a) (words b) t (start .pre .0) (start .pre .1 .0) (start .pre .1 .1) in
     (r .0, (r .1 .0, (omega arith, r .1 .1)))
 
--- src/lib.rt:76:56
 enum-told-4 : tie.Need-enum-told-4
 enum-told-4 c = search needs
 
--- src/lib.rt:76:22
 fraction-division-requires : tie.Need-fraction-division-requires
 fraction-division-requires c κs =
     let start = c .before .before .before .before .before .before in
@@ -67,11 +59,9 @@ fraction-division-requires c κs =
     let t = start .args .out .now in
     ready Op.Ratio (words a) (words b) t (start .pre .0) (start .pre .1 .0) (start .pre .1 .1)
 
--- src/lib.rt:66:1
 same-length : tie.Need-same-length
 same-length c = search needs
 
--- src/lib.rt:66:1
 returns : tie.Need-returns
 unfolding answer
 returns c =
@@ -79,11 +69,9 @@ returns c =
     let start = c .before .before .before .before .before .before .before .before .before in
     rw (enum-told .given .1) (rw (first-whole (start .pre .0), first-whole (start .pre .1 .0)) at (c .before .before .gcd .ensures))
 
--- src/lib.rt:66:1
 same-length-2 : tie.Need-same-length-2
 same-length-2 c = search needs
 
--- src/lib.rt:66:1
 returns-2 : tie.Need-returns-2
 unfolding answer
 returns-2 c =
@@ -91,11 +79,9 @@ returns-2 c =
     let start = c .before .before .before .before .before .before .before .before .before in
     rw (enum-told2 .given .1) (rw (first-whole (start .pre .0), first-whole (start .pre .1 .0)) at (c .before .before .mul .ensures))
 
--- src/lib.rt:66:1
 same-length-3 : tie.Need-same-length-3
 same-length-3 c = search needs
 
--- src/lib.rt:66:1
 returns-3 : tie.Need-returns-3
 unfolding answer
 returns-3 c =
@@ -103,11 +89,9 @@ returns-3 c =
     let start = c .before .before .before .before .before .before .before .before .before in
     rw (enum-told3 .given .1) (rw (first-whole (start .pre .0), first-whole (start .pre .1 .0)) at (c .before .before .quotient .ensures))
 
--- src/lib.rt:66:1
 same-length-4 : tie.Need-same-length-4
 same-length-4 c = search needs
 
--- src/lib.rt:66:1
 returns-4 : tie.Need-returns-4
 unfolding answer
 returns-4 c =

@@ -15,11 +15,9 @@ use Rattle.monomial_work.proofs.refusal.Reads as refusal-reads
 use Rattle.monomial_work.proofs.tell.Reads as tell-reads
 use Rattle.monomial_work.proofs.yes.Reads as yes-reads
 
--- src/lib.rt:186:9
 refusal-requires : tie.Need-refusal-requires
 refusal-requires c κs = search needs
 
--- src/lib.rt:188:9
 returns : tie.Need-returns
 returns c =
     let m = c .before .before .before .before .before .args .variables in
@@ -28,7 +26,6 @@ returns c =
     let t = c .before .before .before .before .before .args .out .now in
     asked-no Divides m a b t (c .before .refusal .ensures) (c .if1 .taken)
 
--- src/lib.rt:190:19
 divides-requires : tie.Need-divides-requires
 divides-requires c κs =
     let m = c .before .before .before .before .before .before .args .variables in
@@ -39,19 +36,15 @@ divides-requires c κs =
     let cb = canonical-64 1 m b (omega arith) (f .few) (f .lb) in
     (starts ca, starts cb)
 
--- src/lib.rt:190:15
 yes-requires : tie.Need-yes-requires
 yes-requires c κs = search needs
 
--- src/lib.rt:190:5
 tell-requires : tie.Need-tell-requires
 tell-requires c κs = rw (c .yes .ensures) (yes-small (c .before .divides .result))
 
--- src/lib.rt:182:1
 same-length : tie.Need-same-length
 same-length c = search needs
 
--- src/lib.rt:182:1
 returns-2 : tie.Need-returns-2
 unfolding answer small
 returns-2 c =

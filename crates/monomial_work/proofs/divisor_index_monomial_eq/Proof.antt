@@ -13,11 +13,9 @@ use Rattle.monomial_work.proofs.refusal.Reads as refusal-reads
 use Rattle.monomial_work.proofs.tell.Reads as tell-reads
 use Rattle.monomial_work.proofs.yes.Reads as yes-reads
 
--- src/lib.rt:198:9
 refusal-requires : tie.Need-refusal-requires
 refusal-requires c κs = search needs
 
--- src/lib.rt:200:9
 returns : tie.Need-returns
 returns c =
     let m = c .before .before .before .before .before .args .variables in
@@ -26,23 +24,18 @@ returns c =
     let t = c .before .before .before .before .before .args .out .now in
     asked-no Eq m a b t (c .before .refusal .ensures) (c .if1 .taken)
 
--- src/lib.rt:202:19
 eq-requires : tie.Need-eq-requires
 eq-requires c κs = search needs
 
--- src/lib.rt:202:15
 yes-requires : tie.Need-yes-requires
 yes-requires c κs = search needs
 
--- src/lib.rt:202:5
 tell-requires : tie.Need-tell-requires
 tell-requires c κs = rw (c .yes .ensures) (yes-small (c .before .eq .result))
 
--- src/lib.rt:194:1
 same-length : tie.Need-same-length
 same-length c = search needs
 
--- src/lib.rt:194:1
 returns-2 : tie.Need-returns-2
 unfolding answer small
 returns-2 c =

@@ -15,11 +15,9 @@ use Rattle.monomial_work.proofs.number.Reads as number-reads
 use Rattle.monomial_work.proofs.refusal.Reads as refusal-reads
 use Rattle.monomial_work.proofs.tell.Reads as tell-reads
 
--- src/lib.rt:234:9
 refusal-requires : tie.Need-refusal-requires
 refusal-requires c κs = search needs
 
--- src/lib.rt:236:9
 returns : tie.Need-returns
 returns c =
     let m = c .before .before .before .before .before .args .variables in
@@ -28,7 +26,6 @@ returns c =
     let t = c .before .before .before .before .before .args .out .now in
     asked-no RatioCmp m a b t (c .before .refusal .ensures) (c .if1 .taken)
 
--- src/lib.rt:238:22
 ord-requires : tie.Need-ord-requires
 ord-requires c κs =
     let m = c .before .before .before .before .before .before .args .variables in
@@ -39,19 +36,15 @@ ord-requires c κs =
     let cb = canonical-64 2 m b (omega arith) (f .few) (f .lb) in
     ((omega arith, omega arith), (starts ca, starts cb))
 
--- src/lib.rt:238:15
 number-requires : tie.Need-number-requires
 number-requires c κs = search needs
 
--- src/lib.rt:238:5
 tell-requires : tie.Need-tell-requires
 tell-requires c κs = rw (c .number .ensures) (number-small (c .before .ord .result))
 
--- src/lib.rt:230:1
 same-length : tie.Need-same-length
 same-length c = search needs
 
--- src/lib.rt:230:1
 returns-2 : tie.Need-returns-2
 unfolding answer small
 returns-2 c =

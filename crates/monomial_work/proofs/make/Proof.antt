@@ -32,42 +32,33 @@ made-at c =
 
 -- end of helpers
 
--- src/lib.rt:116:9
 refusal-requires : tie.Need-refusal-requires
 refusal-requires c κs = search needs
 
--- src/lib.rt:118:9
 returns : tie.Need-returns
 returns c = let s = (c .before .before .before .before .before .args) in
     asked-no (workOf (s .op)) (s .variables) (s .a .now) (s .b .now) (s .out .now) (rw (← kinds (s .op)) at (c .before .refusal .ensures)) (c .if1 .taken)
 
--- src/lib.rt:121:34
 slice-aggregate-answer : tie.Need-slice-aggregate-answer
 slice-aggregate-answer c = search needs
 
--- src/lib.rt:121:17
 answer-requires : tie.Need-answer-requires
 answer-requires c κs = let s = (c .before .before .before .before .before .before .args) in
     let f = fine-at (c .before) in
     (canonical-64 1 (s .variables) (s .a .now) (omega arith) (f .few) (f .la), (canonical-64 1 (s .variables) (s .b .now) (omega arith) (f .few) (f .lb), omega arith))
 
--- src/lib.rt:121:13
 mul-e : tie.Need-mul-e
 mul-e c = omega (arith, made-at (c .before) .few)
 
--- src/lib.rt:122:22
 array-share-prefix-made : tie.Need-array-share-prefix-made
 array-share-prefix-made c = made-at (c .before) .room
 
--- src/lib.rt:122:22
 slice-aggregate-too-large : tie.Need-slice-aggregate-too-large
 slice-aggregate-too-large c = sym (made-at (c .before .before) .size)
 
--- src/lib.rt:122:8
 too-large-requires : tie.Need-too-large-requires
 too-large-requires c κs = search needs
 
--- src/lib.rt:123:9
 returns-2 : tie.Need-returns-2
 returns-2 c =
     let answer = c .before .before .before .before .answer in
@@ -77,7 +68,6 @@ returns-2 c =
     power-too-large (s .op) (s .variables) (s .a .now) (s .b .now) (s .out .now) (fine-at before) _ (answer .last .1 .1 .1 .0) (answer .result)
     (answer .ensures .0) (answer .ensures .1) (sym (c .before .too-large .ensures) ∙ c .if2 .taken)
 
--- src/lib.rt:126:9
 returns-3 : tie.Need-returns-3
 returns-3 c =
     let answer = c .before .before .before .before .before .answer in
@@ -87,23 +77,18 @@ returns-3 c =
     no-room (s .op) (s .variables) (s .a .now) (s .b .now) (s .out .now) (fine-at before) _ (answer .last .1 .1 .1 .0) (answer .result) (answer .ensures .0)
     (answer .ensures .1) (sym (c .before .before .too-large .ensures) ∙ c .before .if2 .left) (c .if3 .taken)
 
--- src/lib.rt:128:17
 array-share-prefix-made-2 : tie.Need-array-share-prefix-made-2
 array-share-prefix-made-2 c = made-at (c .before .before .before .before .before) .room
 
--- src/lib.rt:128:17
 slice-aggregate-copy : tie.Need-slice-aggregate-copy
 slice-aggregate-copy c = sym (made-at (c .before .before .before .before .before .before) .size)
 
--- src/lib.rt:128:5
 copy-requires : tie.Need-copy-requires
 copy-requires c κs = omega (arith, made-at (c .before .before .before .before .before .before .before) .size)
 
--- src/lib.rt:113:1
 same-length : tie.Need-same-length
 same-length c = search needs
 
--- src/lib.rt:113:1
 returns-4 : tie.Need-returns-4
 returns-4 c =
     let if3 = c .before .before .before .before .before .if3 in

@@ -10,19 +10,15 @@ use Rattle.monomial_work.proofs.put_answer.Lts as lts
 use Rattle.words.proofs.answer_word.Reads as answer-word-reads
 use Rattle.words.proofs.put.Reads as put-reads
 
--- src/lib.rt:67:24
 answer-word-requires : tie.Need-answer-word-requires
 answer-word-requires c κs = search needs
 
--- src/lib.rt:67:5
 put-requires : tie.Need-put-requires
 put-requires c κs = search needs
 
--- src/lib.rt:63:1
 same-length : tie.Need-same-length
 same-length c = search needs
 
--- src/lib.rt:63:1
 returns : tie.Need-returns
 returns c = (refl, c .before .before .put .ensures ∙ rw (c .before .before .before .answer-word .ensures) (putW-paste _ 0 _ (omega arith)))
 

@@ -13,27 +13,21 @@ use Rattle.monomial_work.proofs.quotient.Lts as lts
 use Rattle.monomial.proofs.whole_division.Reads as whole-division-reads
 use Rattle.monomial_work.proofs.put_answer.Reads as put-answer-reads
 
--- src/lib.rt:78:30
 whole-division-requires : tie.Need-whole-division-requires
 whole-division-requires c κs = search needs
 
--- src/lib.rt:78:25
 enum-known-n : tie.Need-enum-known-n
 enum-known-n c = search needs
 
--- src/lib.rt:79:27
 enum-told : tie.Need-enum-told
 enum-told c = search needs
 
--- src/lib.rt:79:9
 put-answer-requires : tie.Need-put-answer-requires
 put-answer-requires c κs = search needs
 
--- src/lib.rt:79:9
 same-length : tie.Need-same-length
 same-length c = search needs
 
--- src/lib.rt:79:9
 returns : tie.Need-returns
 unfolding answer
 returns c =
@@ -47,11 +41,9 @@ returns c =
     let e = not-whole a b (sym (whole-division .ensures .0) ∙ enum-told .given .1) in
     rw (division-words a b, e) (put-answer .ensures .0, put-answer .ensures .1 ∙ ap (λ (l : List ℕ). pasteW l 0 (1073741824 ∷ [])) (whole-division .ensures .1 ∙ rw e))
 
--- src/lib.rt:72:1
 same-length-2 : tie.Need-same-length-2
 same-length-2 c = search needs
 
--- src/lib.rt:72:1
 returns-2 : tie.Need-returns-2
 unfolding answer
 returns-2 c =

@@ -9,22 +9,18 @@ use Rattle.monomial_work.proofs.refusal.Lts as lts
 use Rattle.monomial.proofs.is_canonical.Reads as is-canonical-reads
 use Rattle.monomial.proofs.sizes.variables_fit.Reads as variables-fit-reads
 
--- src/lib.rt:97:9
 variables-fit-requires : tie.Need-variables-fit-requires
 variables-fit-requires c κs = search needs
 
--- src/lib.rt:98:9
 returns : tie.Need-returns
 returns c =
     let start = c .before .before .before .before in
     no-variables (start .args .kind) (start .args .variables) (start .args .a .now) (start .args .b .now)
     (sym (c .before .variables-fit .ensures) ∙ not-true _ (c .if1 .taken))
 
--- src/lib.rt:100:9
 is-canonical-requires : tie.Need-is-canonical-requires
 is-canonical-requires c κs = search needs
 
--- src/lib.rt:101:9
 returns-2 : tie.Need-returns-2
 returns-2 c =
     let start = c .before .before .before .before .before .before in
@@ -32,11 +28,9 @@ returns-2 c =
     (sym (c .before .before .before .variables-fit .ensures) ∙ not-false _ (c .before .before .if1 .left))
     (sym (c .before .is-canonical .ensures) ∙ not-true _ (c .if2 .taken))
 
--- src/lib.rt:103:9
 is-canonical-requires-2 : tie.Need-is-canonical-requires-2
 is-canonical-requires-2 c κs = search needs
 
--- src/lib.rt:104:9
 returns-3 : tie.Need-returns-3
 returns-3 c =
     let if1 = c .before .before .before .before .if1 in
@@ -46,7 +40,6 @@ returns-3 c =
     (sym (c .before .before .before .is-canonical .ensures) ∙ not-false _ (c .before .before .if2 .left))
     (sym (c .before .is-canonical2 .ensures) ∙ not-true _ (c .if3 .taken))
 
--- src/lib.rt:93:1
 returns-4 : tie.Need-returns-4
 returns-4 c =
     let if1 = c .before .before .before .before .if1 in

@@ -11,23 +11,18 @@ use Rattle.monomial_work.proofs.tell.Lts as lts
 use Rattle.words.proofs.answer_word.Reads as answer-word-reads
 use Rattle.words.proofs.put.Reads as put-reads
 
--- src/lib.rt:138:9
 returns : tie.Need-returns
 returns c = record { number-is = rw (lt-leb 4 (length (c .before .before .args .out .now)) (c .if1 .taken)); bytes-are = rw (lt-leb 4 (length (c .before .before .args .out .now)) (c .if1 .taken)) }
 
--- src/lib.rt:140:24
 answer-word-requires : tie.Need-answer-word-requires
 answer-word-requires c κs = search needs
 
--- src/lib.rt:140:5
 put-requires : tie.Need-put-requires
 put-requires c κs = search needs
 
--- src/lib.rt:133:1
 same-length : tie.Need-same-length
 same-length c = search needs
 
--- src/lib.rt:133:1
 returns-2 : tie.Need-returns-2
 returns-2 c =
     let t = c .before .before .before .before .before .before .before .args .out .now in

@@ -7,39 +7,30 @@ use Rattle.monomial_work.proofs.too_large.Reads as reads
 use Rattle.monomial_work.proofs.too_large.Lts as lts
 use Rattle.monomial.proofs.is_canonical.Reads as is-canonical-reads
 
--- src/lib.rt:85:20
 enum-told : tie.Need-enum-told
 enum-told c = search needs
 
--- src/lib.rt:86:25
 enum-told-2 : tie.Need-enum-told-2
 enum-told-2 c = search needs
 
--- src/lib.rt:86:25
 is-canonical-requires : tie.Need-is-canonical-requires
 is-canonical-requires c κs = search needs
 
--- src/lib.rt:87:25
 enum-told-3 : tie.Need-enum-told-3
 enum-told-3 c = search needs
 
--- src/lib.rt:88:22
 enum-told-4 : tie.Need-enum-told-4
 enum-told-4 c = search needs
 
--- src/lib.rt:81:1
 returns : tie.Need-returns
 returns c = search needs
 
--- src/lib.rt:81:1
 returns-2 : tie.Need-returns-2
 returns-2 c = rw (c .before .enum-told2 .given .1) (ap not (c .is-canonical .ensures))
 
--- src/lib.rt:81:1
 returns-3 : tie.Need-returns-3
 returns-3 c = search needs
 
--- src/lib.rt:81:1
 returns-4 : tie.Need-returns-4
 returns-4 c = search needs
 

@@ -9,39 +9,30 @@ use Rattle.oracle_replay.proofs.growth.Lts as lts
 use Rattle.divmask.proofs.doors.divisor_index_divmask_growth.Reads as divisor-index-divmask-growth-reads
 use Rattle.oracle_replay.proofs.holds.Reads as holds-reads
 
--- src/main.rt:96:9
 returns : tie.Need-returns
 returns c = search needs
 
--- src/main.rt:99:9
 returns-2 : tie.Need-returns-2
 returns-2 c = search needs
 
--- src/main.rt:101:60
 shared-slice-read-divisor-index-divmask-growth : tie.Need-shared-slice-read-divisor-index-divmask-growth
 shared-slice-read-divisor-index-divmask-growth c = search needs
 
--- src/main.rt:101:66
 array-borrow-prefix-out : tie.Need-array-borrow-prefix-out
 array-borrow-prefix-out c = search needs
 
--- src/main.rt:101:66
 slice-aggregate-divisor-index-divmask-growth : tie.Need-slice-aggregate-divisor-index-divmask-growth
 slice-aggregate-divisor-index-divmask-growth c = sym (length-take-le (c .before .before .before .before .before .before .before .args .c .room) _ (omega arith))
 
--- src/main.rt:101:9
 divisor-index-divmask-growth-requires : tie.Need-divisor-index-divmask-growth-requires
 divisor-index-divmask-growth-requires c κs = search needs
 
--- src/main.rt:103:9
 returns-3 : tie.Need-returns-3
 returns-3 c = search needs
 
--- src/main.rt:136:5
 holds-requires : tie.Need-holds-requires
 holds-requires c κs = search needs
 
--- src/main.rt:92:1
 returns-4 : tie.Need-returns-4
 returns-4 c = search needs
 

@@ -16,79 +16,60 @@ Inv-loop s operation vectors₀ differences₀ at₀ vectors differences at = (a
 abbrev μ-loop : tie.MeasureT-loop
 μ-loop s operation vectors₀ differences₀ at₀ vectors differences at = length s - at
 
--- src/main.rt:223:5
 loop-holds : tie.Need-loop-holds Inv-loop μ-loop
 loop-holds c = search needs
 
--- src/main.rt:224:24
 sub-record : tie.Need-sub-record Inv-loop μ-loop
 sub-record c = search needs
 
--- src/main.rt:224:24
 part-record-start : tie.Need-part-record-start Inv-loop μ-loop
 part-record-start c = search needs
 
--- src/main.rt:224:24
 part-record-end : tie.Need-part-record-end Inv-loop μ-loop
 part-record-end c = search needs
 
--- src/main.rt:224:13
 record-requires : tie.Need-record-requires Inv-loop μ-loop
 record-requires c κs = search needs
 
--- src/main.rt:226:13
 returns : tie.Need-returns Inv-loop μ-loop
 returns c = search needs
 
--- src/main.rt:231:17
 add-e : tie.Need-add-e Inv-loop μ-loop
 add-e c = search needs
 
--- src/main.rt:232:27
 sub-vector : tie.Need-sub-vector Inv-loop μ-loop
 sub-vector c = search needs
 
--- src/main.rt:232:27
 part-vector-start : tie.Need-part-vector-start Inv-loop μ-loop
 part-vector-start c = search needs
 
--- src/main.rt:232:27
 part-vector-end : tie.Need-part-vector-end Inv-loop μ-loop
 part-vector-end c = search needs
 
--- src/main.rt:232:20
 vector-requires : tie.Need-vector-requires Inv-loop μ-loop
 vector-requires c κs = search needs
 
--- src/main.rt:232:9
 add-vectors : tie.Need-add-vectors Inv-loop μ-loop
 add-vectors c = omega (arith, c .before .before .before .before .before .loop .inv .1 .0, c .vector .ensures)
 
--- src/main.rt:233:35
 sub-difference : tie.Need-sub-difference Inv-loop μ-loop
 sub-difference c = search needs
 
--- src/main.rt:233:35
 part-difference-start : tie.Need-part-difference-start Inv-loop μ-loop
 part-difference-start c = search needs
 
--- src/main.rt:233:35
 part-difference-end : tie.Need-part-difference-end Inv-loop μ-loop
 part-difference-end c = search needs
 
--- src/main.rt:233:24
 difference-requires : tie.Need-difference-requires Inv-loop μ-loop
 difference-requires c κs = search needs
 
--- src/main.rt:233:9
 add-differences : tie.Need-add-differences Inv-loop μ-loop
 add-differences c = omega (arith, c .before .before .before .before .before .before .before .loop .inv .1 .1, c .difference .ensures)
 
--- src/main.rt:223:5
 loop-less : tie.Need-loop-less Inv-loop μ-loop
 loop-less c = omega arith
 
--- src/main.rt:223:5
 loop-again : tie.Need-loop-again Inv-loop μ-loop
 loop-again c = (omega arith, (omega (arith, c .before .before .before .before .before .before .before .loop .inv .1 .0, c .before .before .vector .ensures), omega (arith, c .before .before .before .before .before .before .before .loop .inv .1 .1, c .difference .ensures)))
 

@@ -9,31 +9,24 @@ use Rattle.oracle_replay.proofs.two.Lts as lts
 use Rattle.monomial_work.proofs.serve.Reads as serve-reads
 use Rattle.oracle_replay.proofs.holds.Reads as holds-reads
 
--- src/main.rt:46:9
 returns : tie.Need-returns
 returns c = search needs
 
--- src/main.rt:48:56
 array-borrow-prefix-out : tie.Need-array-borrow-prefix-out
 array-borrow-prefix-out c = search needs
 
--- src/main.rt:48:56
 slice-aggregate-serve : tie.Need-slice-aggregate-serve
 slice-aggregate-serve c = sym (length-take-le (c .before .before .before .before .before .args .c .room) _ (omega arith))
 
--- src/main.rt:48:9
 serve-requires : tie.Need-serve-requires
 serve-requires c κs = search needs
 
--- src/main.rt:50:9
 returns-2 : tie.Need-returns-2
 returns-2 c = search needs
 
--- src/main.rt:52:5
 holds-requires : tie.Need-holds-requires
 holds-requires c κs = search needs
 
--- src/main.rt:42:1
 returns-3 : tie.Need-returns-3
 returns-3 c = search needs
 

@@ -14,43 +14,33 @@ Inv-loop s at₀ at = at ≤ length s
 abbrev μ-loop : tie.MeasureT-loop
 μ-loop s at₀ at = length s - at
 
--- src/main.rt:241:5
 loop-holds : tie.Need-loop-holds Inv-loop μ-loop
 loop-holds c = search needs
 
--- src/main.rt:242:24
 sub-record : tie.Need-sub-record Inv-loop μ-loop
 sub-record c = search needs
 
--- src/main.rt:242:24
 part-record-start : tie.Need-part-record-start Inv-loop μ-loop
 part-record-start c = search needs
 
--- src/main.rt:242:24
 part-record-end : tie.Need-part-record-end Inv-loop μ-loop
 part-record-end c = search needs
 
--- src/main.rt:242:13
 record-requires : tie.Need-record-requires Inv-loop μ-loop
 record-requires c κs = search needs
 
--- src/main.rt:244:20
 sub-result : tie.Need-sub-result Inv-loop μ-loop
 sub-result c = search needs
 
--- src/main.rt:244:13
 returns : tie.Need-returns Inv-loop μ-loop
 returns c = search needs
 
--- src/main.rt:246:9
 add-at : tie.Need-add-at Inv-loop μ-loop
 add-at c = omega arith
 
--- src/main.rt:241:5
 loop-less : tie.Need-loop-less Inv-loop μ-loop
 loop-less c = omega arith
 
--- src/main.rt:241:5
 loop-again : tie.Need-loop-again Inv-loop μ-loop
 loop-again c = omega arith
 

@@ -11,39 +11,30 @@ use Rattle.bytes.proofs.copy.Reads as copy-reads
 use Rattle.divmask.proofs.doors.divisor_index_divmask_update.Reads as divisor-index-divmask-update-reads
 use Rattle.oracle_replay.proofs.holds.Reads as holds-reads
 
--- src/main.rt:82:9
 returns : tie.Need-returns
 returns c = search needs
 
--- src/main.rt:84:20
 slice-aggregate-copy : tie.Need-slice-aggregate-copy
 slice-aggregate-copy c = search needs
 
--- src/main.rt:84:5
 copy-requires : tie.Need-copy-requires
 copy-requires c κs = search needs
 
--- src/main.rt:85:57
 array-borrow-prefix-out : tie.Need-array-borrow-prefix-out
 array-borrow-prefix-out c = search needs
 
--- src/main.rt:85:57
 slice-aggregate-divisor-index-divmask-update : tie.Need-slice-aggregate-divisor-index-divmask-update
 slice-aggregate-divisor-index-divmask-update c = sym (length-take-le (length (c .before .before .before .before .before .before .before .before .args .a .now)) _ (omega (arith, c .before .before .copy .kept)))
 
--- src/main.rt:85:9
 divisor-index-divmask-update-requires : tie.Need-divisor-index-divmask-update-requires
 divisor-index-divmask-update-requires c κs = search needs
 
--- src/main.rt:87:9
 returns-2 : tie.Need-returns-2
 returns-2 c = search needs
 
--- src/main.rt:89:5
 holds-requires : tie.Need-holds-requires
 holds-requires c κs = search needs
 
--- src/main.rt:78:1
 returns-3 : tie.Need-returns-3
 returns-3 c = search needs
 

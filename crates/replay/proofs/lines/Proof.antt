@@ -13,35 +13,27 @@ Inv-loop answers n i₀ i = i ≤ n
 abbrev μ-loop : tie.MeasureT-loop
 μ-loop answers n i₀ i = n - i
 
--- src/main.rt:15:5
 loop-holds : tie.Need-loop-holds Inv-loop μ-loop
 loop-holds c = search needs
 
--- src/main.rt:16:14
 get-requires : tie.Need-get-requires Inv-loop μ-loop
 get-requires c κs = search needs
 
--- src/main.rt:16:14
 cast-line : tie.Need-cast-line Inv-loop μ-loop
 cast-line c = search needs
 
--- src/main.rt:16:9
 line-requires : tie.Need-line-requires Inv-loop μ-loop
 line-requires c κs = search needs
 
--- src/main.rt:17:9
 add-i : tie.Need-add-i Inv-loop μ-loop
 add-i c = search needs
 
--- src/main.rt:15:5
 loop-less : tie.Need-loop-less Inv-loop μ-loop
 loop-less c = search needs
 
--- src/main.rt:15:5
 loop-again : tie.Need-loop-again Inv-loop μ-loop
 loop-again c = search needs
 
--- src/main.rt:12:1
 returns : tie.Need-returns Inv-loop μ-loop
 returns c = search needs
 

@@ -18,59 +18,45 @@ few c =
     let s = c .before .before .before .before .before .before .before .before .before .before
     in omega (arith, c .count .ensures, calls-few (s .args .list .now) (s .pre))
 
--- src/main.rt:26:59
 slice-aggregate-divisor-index-run : tie.Need-slice-aggregate-divisor-index-run
 slice-aggregate-divisor-index-run c = search needs
 
--- src/main.rt:26:9
 divisor-index-run-requires : tie.Need-divisor-index-run-requires
 divisor-index-run-requires c κs = search needs
 
--- src/main.rt:28:34
 cast-line : tie.Need-cast-line
 cast-line c = search needs
 
--- src/main.rt:28:21
 add-line : tie.Need-add-line
 add-line c = search needs
 
--- src/main.rt:28:9
 line-requires : tie.Need-line-requires
 line-requires c κs = search needs
 
--- src/main.rt:28:9
 same-length : tie.Need-same-length
 same-length c = search needs
 
--- src/main.rt:28:9
 returns : tie.Need-returns
 returns c = search needs
 
--- src/main.rt:30:17
 count-requires : tie.Need-count-requires
 count-requires c κs = search needs
 
--- src/main.rt:30:13
 mul-n : tie.Need-mul-n
 mul-n c = omega (arith, few c)
 
--- src/main.rt:31:11
 array-share-prefix-answers : tie.Need-array-share-prefix-answers
 array-share-prefix-answers c = omega (arith, few c)
 
--- src/main.rt:31:11
 slice-aggregate-lines : tie.Need-slice-aggregate-lines
 slice-aggregate-lines c = sym (length-take-le _ _ (omega (arith, few (c .before))))
 
--- src/main.rt:31:5
 lines-requires : tie.Need-lines-requires
 lines-requires c κs = search needs
 
--- src/main.rt:22:1
 same-length-2 : tie.Need-same-length-2
 same-length-2 c = search needs
 
--- src/main.rt:22:1
 returns-2 : tie.Need-returns-2
 returns-2 c = search needs
 

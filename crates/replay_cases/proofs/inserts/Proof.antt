@@ -9,35 +9,27 @@ use Rattle.replay_cases.proofs.inserts.Lts as lts
 use Rattle.replay_cases.proofs.monomials.Reads as monomials-reads
 use Rattle.replay_cases.proofs.one.Reads as one-reads
 
--- src/main.rt:178:15
 slice-aggregate-monomials : tie.Need-slice-aggregate-monomials
 slice-aggregate-monomials c = search needs
 
--- src/main.rt:178:5
 monomials-requires : tie.Need-monomials-requires
 monomials-requires c κs = search needs
 
--- src/main.rt:179:13
 mul-e : tie.Need-mul-e
 mul-e c = search needs
 
--- src/main.rt:179:13
 add-e : tie.Need-add-e
 add-e c = search needs
 
--- src/main.rt:180:18
 array-share-prefix-list : tie.Need-array-share-prefix-list
 array-share-prefix-list c = search needs
 
--- src/main.rt:180:18
 slice-aggregate-one : tie.Need-slice-aggregate-one
 slice-aggregate-one c = sym (length-take-le _ _ (omega arith))
 
--- src/main.rt:180:5
 one-requires : tie.Need-one-requires
 one-requires c κs = search needs
 
--- src/main.rt:174:1
 returns : tie.Need-returns
 returns c = search needs
 

@@ -9,27 +9,21 @@ use Rattle.replay_cases.proofs.long.Lts as lts
 use Rattle.replay_cases.proofs.four.Reads as four-reads
 use Rattle.replay_cases.proofs.nines.Reads as nines-reads
 
--- src/main.rt:135:11
 slice-aggregate-nines : tie.Need-slice-aggregate-nines
 slice-aggregate-nines c = search needs
 
--- src/main.rt:135:5
 nines-requires : tie.Need-nines-requires
 nines-requires c κs = search needs
 
--- src/main.rt:136:16
 array-share-prefix-list : tie.Need-array-share-prefix-list
 array-share-prefix-list c = search needs
 
--- src/main.rt:136:16
 slice-aggregate-four : tie.Need-slice-aggregate-four
 slice-aggregate-four c = sym (length-take-le _ _ (omega arith))
 
--- src/main.rt:136:5
 four-requires : tie.Need-four-requires
 four-requires c κs = search needs
 
--- src/main.rt:131:1
 returns : tie.Need-returns
 returns c = search needs
 

@@ -15,47 +15,36 @@ Inv-loop list₀ n equal i₀ list i = (i ≤ n) × (length list ≡ length list
 abbrev μ-loop : tie.MeasureT-loop
 μ-loop list₀ n equal i₀ list i = n - i
 
--- src/main.rt:167:5
 loop-holds : tie.Need-loop-holds Inv-loop μ-loop
 loop-holds c = search needs
 
--- src/main.rt:168:29
 mul-monomial-call : tie.Need-mul-monomial-call Inv-loop μ-loop
 mul-monomial-call c = search needs
 
--- src/main.rt:168:39
 power-requires : tie.Need-power-requires Inv-loop μ-loop
 power-requires c κs = search needs
 
--- src/main.rt:168:9
 monomial-call-requires : tie.Need-monomial-call-requires Inv-loop μ-loop
 monomial-call-requires c κs = search needs
 
--- src/main.rt:169:9
 add-i : tie.Need-add-i Inv-loop μ-loop
 add-i c = search needs
 
--- src/main.rt:167:5
 loop-less : tie.Need-loop-less Inv-loop μ-loop
 loop-less c = search needs
 
--- src/main.rt:167:5
 loop-again : tie.Need-loop-again Inv-loop μ-loop
 loop-again c = search needs
 
--- src/main.rt:171:25
 mul-monomial-call-2 : tie.Need-mul-monomial-call-2 Inv-loop μ-loop
 mul-monomial-call-2 c = search needs
 
--- src/main.rt:171:5
 monomial-call-requires-2 : tie.Need-monomial-call-requires-2 Inv-loop μ-loop
 monomial-call-requires-2 c κs = search needs
 
--- src/main.rt:163:1
 same-length : tie.Need-same-length Inv-loop μ-loop
 same-length c = search needs
 
--- src/main.rt:163:1
 returns : tie.Need-returns Inv-loop μ-loop
 returns c = search needs
 

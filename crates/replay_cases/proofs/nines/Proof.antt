@@ -15,35 +15,27 @@ Inv-loop list₀ n i₀ list i = (i ≤ n) × (length list ≡ length list₀)
 abbrev μ-loop : tie.MeasureT-loop
 μ-loop list₀ n i₀ list i = n - i
 
--- src/main.rt:125:5
 loop-holds : tie.Need-loop-holds Inv-loop μ-loop
 loop-holds c = search needs
 
--- src/main.rt:126:29
 call-word-requires : tie.Need-call-word-requires Inv-loop μ-loop
 call-word-requires c κs = search needs
 
--- src/main.rt:126:9
 put-requires : tie.Need-put-requires Inv-loop μ-loop
 put-requires c κs = search needs
 
--- src/main.rt:127:9
 add-i : tie.Need-add-i Inv-loop μ-loop
 add-i c = search needs
 
--- src/main.rt:125:5
 loop-less : tie.Need-loop-less Inv-loop μ-loop
 loop-less c = search needs
 
--- src/main.rt:125:5
 loop-again : tie.Need-loop-again Inv-loop μ-loop
 loop-again c = search needs
 
--- src/main.rt:122:1
 same-length : tie.Need-same-length Inv-loop μ-loop
 same-length c = search needs
 
--- src/main.rt:122:1
 returns : tie.Need-returns Inv-loop μ-loop
 returns c = search needs
 

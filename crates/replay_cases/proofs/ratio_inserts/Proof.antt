@@ -9,35 +9,27 @@ use Rattle.replay_cases.proofs.ratio_inserts.Lts as lts
 use Rattle.replay_cases.proofs.one.Reads as one-reads
 use Rattle.replay_cases.proofs.ratios.Reads as ratios-reads
 
--- src/main.rt:210:12
 slice-aggregate-ratios : tie.Need-slice-aggregate-ratios
 slice-aggregate-ratios c = search needs
 
--- src/main.rt:210:5
 ratios-requires : tie.Need-ratios-requires
 ratios-requires c κs = search needs
 
--- src/main.rt:211:13
 mul-e : tie.Need-mul-e
 mul-e c = search needs
 
--- src/main.rt:211:13
 add-e : tie.Need-add-e
 add-e c = search needs
 
--- src/main.rt:212:18
 array-share-prefix-list : tie.Need-array-share-prefix-list
 array-share-prefix-list c = search needs
 
--- src/main.rt:212:18
 slice-aggregate-one : tie.Need-slice-aggregate-one
 slice-aggregate-one c = sym (length-take-le _ _ (omega arith))
 
--- src/main.rt:212:5
 one-requires : tie.Need-one-requires
 one-requires c κs = search needs
 
--- src/main.rt:206:1
 returns : tie.Need-returns
 returns c = search needs
 

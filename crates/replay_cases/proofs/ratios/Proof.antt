@@ -15,47 +15,36 @@ Inv-loop list₀ n equal i₀ list i = (i ≤ n) × (length list ≡ length list
 abbrev μ-loop : tie.MeasureT-loop
 μ-loop list₀ n equal i₀ list i = n - i
 
--- src/main.rt:199:5
 loop-holds : tie.Need-loop-holds Inv-loop μ-loop
 loop-holds c = search needs
 
--- src/main.rt:200:26
 mul-ratio-call : tie.Need-mul-ratio-call Inv-loop μ-loop
 mul-ratio-call c = search needs
 
--- src/main.rt:200:36
 power-requires : tie.Need-power-requires Inv-loop μ-loop
 power-requires c κs = search needs
 
--- src/main.rt:200:9
 ratio-call-requires : tie.Need-ratio-call-requires Inv-loop μ-loop
 ratio-call-requires c κs = search needs
 
--- src/main.rt:201:9
 add-i : tie.Need-add-i Inv-loop μ-loop
 add-i c = search needs
 
--- src/main.rt:199:5
 loop-less : tie.Need-loop-less Inv-loop μ-loop
 loop-less c = search needs
 
--- src/main.rt:199:5
 loop-again : tie.Need-loop-again Inv-loop μ-loop
 loop-again c = search needs
 
--- src/main.rt:203:22
 mul-ratio-call-2 : tie.Need-mul-ratio-call-2 Inv-loop μ-loop
 mul-ratio-call-2 c = search needs
 
--- src/main.rt:203:5
 ratio-call-requires-2 : tie.Need-ratio-call-requires-2 Inv-loop μ-loop
 ratio-call-requires-2 c κs = search needs
 
--- src/main.rt:195:1
 same-length : tie.Need-same-length Inv-loop μ-loop
 same-length c = search needs
 
--- src/main.rt:195:1
 returns : tie.Need-returns Inv-loop μ-loop
 returns c = search needs
 

@@ -15,43 +15,33 @@ Inv-loop answers n i₀ i = i ≤ n
 abbrev μ-loop : tie.MeasureT-loop
 μ-loop answers n i₀ i = n - i
 
--- src/main.rt:35:9
 written-requires : tie.Need-written-requires Inv-loop μ-loop
 written-requires c κs = search needs
 
--- src/main.rt:36:9
 last-six-requires : tie.Need-last-six-requires Inv-loop μ-loop
 last-six-requires c κs = search needs
 
--- src/main.rt:37:5
 loop-holds : tie.Need-loop-holds Inv-loop μ-loop
 loop-holds c = search needs
 
--- src/main.rt:38:14
 get-requires : tie.Need-get-requires Inv-loop μ-loop
 get-requires c κs = search needs
 
--- src/main.rt:38:14
 cast-word : tie.Need-cast-word Inv-loop μ-loop
 cast-word c = search needs
 
--- src/main.rt:38:9
 word-requires : tie.Need-word-requires Inv-loop μ-loop
 word-requires c κs = search needs
 
--- src/main.rt:39:9
 add-i : tie.Need-add-i Inv-loop μ-loop
 add-i c = search needs
 
--- src/main.rt:37:5
 loop-less : tie.Need-loop-less Inv-loop μ-loop
 loop-less c = search needs
 
--- src/main.rt:37:5
 loop-again : tie.Need-loop-again Inv-loop μ-loop
 loop-again c = search needs
 
--- src/main.rt:34:1
 returns : tie.Need-returns Inv-loop μ-loop
 returns c = search needs
 

@@ -13,31 +13,24 @@ Inv-loop list₀ at₀ i₀ list at i = (at ≤ 4096) × (i ≤ 240)
 abbrev μ-loop : tie.MeasureT-loop
 μ-loop list₀ at₀ i₀ list at i = 240 - i
 
--- src/main.rt:107:5
 loop-holds : tie.Need-loop-holds Inv-loop μ-loop
 loop-holds c = search needs
 
--- src/main.rt:110:41
 element-requires : tie.Need-element-requires Inv-loop μ-loop
 element-requires c κs = search needs
 
--- src/main.rt:110:9
 put-call-requires : tie.Need-put-call-requires Inv-loop μ-loop
 put-call-requires c κs = search needs
 
--- src/main.rt:111:9
 add-i : tie.Need-add-i Inv-loop μ-loop
 add-i c = search needs
 
--- src/main.rt:107:5
 loop-less : tie.Need-loop-less Inv-loop μ-loop
 loop-less c = search needs
 
--- src/main.rt:107:5
 loop-again : tie.Need-loop-again Inv-loop μ-loop
 loop-again c = search needs
 
--- src/main.rt:102:1
 returns : tie.Need-returns Inv-loop μ-loop
 returns c = search needs
 

@@ -8,27 +8,21 @@ use Rattle.show_index.proofs.run.Reads as reads
 use Rattle.show_index.proofs.run.Lts as lts
 use Rattle.divisor_index.proofs.divisor_index_run.Reads as divisor-index-run-reads
 
--- src/main.rt:128:13
 mul-e : tie.Need-mul-e
 mul-e c = search needs
 
--- src/main.rt:129:45
 slice-aggregate-divisor-index-run : tie.Need-slice-aggregate-divisor-index-run
 slice-aggregate-divisor-index-run c = sym (length-take-le _ _ (omega arith))
 
--- src/main.rt:129:5
 divisor-index-run-requires : tie.Need-divisor-index-run-requires
 divisor-index-run-requires c κs = search needs
 
--- src/main.rt:125:1
 same-length : tie.Need-same-length
 same-length c = search needs
 
--- src/main.rt:125:1
 same-length-2 : tie.Need-same-length-2
 same-length-2 c = search needs
 
--- src/main.rt:125:1
 returns : tie.Need-returns
 returns c = search needs
 

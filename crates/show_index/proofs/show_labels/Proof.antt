@@ -8,43 +8,33 @@ use Rattle.index_image.proofs.head.read.Reads as read-reads
 use Rattle.show_index.proofs.notation.text.Reads as text-reads
 use Rattle.show_index.proofs.tree.labels.Reads as labels-reads
 
--- src/main.rt:141:10
 slice-aggregate-text : tie.Need-slice-aggregate-text
 slice-aggregate-text c = search needs
 
--- src/main.rt:141:5
 text-requires : tie.Need-text-requires
 text-requires c κs = search needs
 
--- src/main.rt:142:11
 read-requires : tie.Need-read-requires
 read-requires c κs = search needs
 
--- src/main.rt:143:21
 enum-known-s : tie.Need-enum-known-s
 enum-known-s c = search needs
 
--- src/main.rt:143:27
 labels-requires : tie.Need-labels-requires
 labels-requires c κs = head-is _ _ _ _ (c .before .before .s .given .1) (c .before .before .before .before .read .ensures) .range
 
--- src/main.rt:144:27
 enum-told : tie.Need-enum-told
 enum-told c = search needs
 
--- src/main.rt:144:27
 slice-aggregate-text-2 : tie.Need-slice-aggregate-text-2
 slice-aggregate-text-2 c = search needs
 
--- src/main.rt:144:22
 text-requires-2 : tie.Need-text-requires-2
 text-requires-2 c κs = search needs
 
--- src/main.rt:140:1
 returns : tie.Need-returns
 returns c = search needs
 
--- src/main.rt:140:1
 returns-2 : tie.Need-returns-2
 returns-2 c = search needs
 

@@ -20,7 +20,6 @@ below-at t = and 1 below-kinds.ps (is 1 below-kinds.ps μ-below t) below.Pre
 abbrev below-below : ℕ → In 1 below-kinds.ps
 below-below t = and 1 below-kinds.ps (falls 1 below-kinds.ps _<_ μ-below t) below.Pre
 
--- src/main.rt:13:30
 below-slice-aggregate-read-full : (t : ℕ) → below-lts.Need-slice-aggregate-read-full (
   read-full-reads.Asked,
   read-full-reads.Learnt,
@@ -31,7 +30,6 @@ below-slice-aggregate-read-full : (t : ℕ) → below-lts.Need-slice-aggregate-r
 ) (below-at t) below.Post
 below-slice-aggregate-read-full t c = search needs
 
--- src/main.rt:13:9
 below-read-full-requires : (t : ℕ) → below-lts.Need-read-full-requires (
   read-full-reads.Asked,
   read-full-reads.Learnt,
@@ -42,7 +40,6 @@ below-read-full-requires : (t : ℕ) → below-lts.Need-read-full-requires (
 ) (below-at t) below.Post
 below-read-full-requires t c κs = search needs
 
--- src/main.rt:15:9
 below-returns : (t : ℕ) → below-lts.Need-returns (
   read-full-reads.Asked,
   read-full-reads.Learnt,
@@ -53,7 +50,6 @@ below-returns : (t : ℕ) → below-lts.Need-returns (
 ) (below-at t) below.Post
 below-returns t c = search needs
 
--- src/main.rt:18:9
 below-sound-requires : (t : ℕ) → below-lts.Need-sound-requires (
   read-full-reads.Asked,
   read-full-reads.Learnt,
@@ -64,7 +60,6 @@ below-sound-requires : (t : ℕ) → below-lts.Need-sound-requires (
 ) (below-at t) below.Post
 below-sound-requires t c κs = search needs
 
--- src/main.rt:18:9
 below-returns-2 : (t : ℕ) → below-lts.Need-returns-2 (
   read-full-reads.Asked,
   read-full-reads.Learnt,
@@ -75,7 +70,6 @@ below-returns-2 : (t : ℕ) → below-lts.Need-returns-2 (
 ) (below-at t) below.Post
 below-returns-2 t c = search needs
 
--- src/main.rt:20:21
 below-sub-below : (t : ℕ) → below-lts.Need-sub-below (
   read-full-reads.Asked,
   read-full-reads.Learnt,
@@ -86,7 +80,6 @@ below-sub-below : (t : ℕ) → below-lts.Need-sub-below (
 ) (below-at t) below.Post
 below-sub-below t c = omega (arith, c .if2 .left)
 
--- src/main.rt:20:8
 below-below-requires : (t : ℕ) → below-lts.Need-below-requires (
   read-full-reads.Asked,
   read-full-reads.Learnt,
@@ -97,7 +90,6 @@ below-below-requires : (t : ℕ) → below-lts.Need-below-requires (
 ) (below-at t) below.Post
 below-below-requires t c κs = (omega (arith, c .before .before .before .before .before .before .pre .0, c .if2 .left), omega (arith, c .before .before .before .before .before .before .pre .1))
 
--- src/main.rt:20:35
 below-array-read-result : (t : ℕ) → below-lts.Need-array-read-result (
   read-full-reads.Asked,
   read-full-reads.Learnt,
@@ -108,7 +100,6 @@ below-array-read-result : (t : ℕ) → below-lts.Need-array-read-result (
 ) (below-at t) below.Post
 below-array-read-result t c = omega (arith, c .before .before .before .before .before .before .before .before .pre .1)
 
--- src/main.rt:9:1
 below-returns-3 : (t : ℕ) → below-lts.Need-returns-3 (
   read-full-reads.Asked,
   read-full-reads.Learnt,
@@ -119,7 +110,6 @@ below-returns-3 : (t : ℕ) → below-lts.Need-returns-3 (
 ) (below-at t) below.Post
 below-returns-3 t c = search needs
 
--- src/main.rt:9:1
 below-returns-4 : (t : ℕ) → below-lts.Need-returns-4 (
   read-full-reads.Asked,
   read-full-reads.Learnt,

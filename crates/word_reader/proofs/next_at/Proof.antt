@@ -10,22 +10,18 @@ use Rattle.word_reader.proofs.next_at.Reads as reads
 use Rattle.word_reader.proofs.next_at.Lts as lts
 use Rattle.call_list.proofs.body_end.Reads as body-end-reads
 
--- src/lib.rt:33:42
 add-body-end : tie.Need-add-body-end
 add-body-end c = search needs
 
--- src/lib.rt:33:9
 body-end-requires : tie.Need-body-end-requires
 body-end-requires c κs =
     omega (arith, length-words (c .before .before .args .list .now), c .if1 .taken)
 
--- src/lib.rt:33:9
 returns : tie.Need-returns
 returns c =
     let d = c .before .before .before .args in
     c .body-end .ensures ∙ sym (end-of-call (words (d .list .now)) (d .at) (omega (arith, length-words (d .list .now), c .before .if1 .taken)))
 
--- src/lib.rt:29:1
 returns-2 : tie.Need-returns-2
 returns-2 c =
     let d = c .before .before .args in

@@ -10,19 +10,15 @@ use Rattle.word_reader.proofs.number_at.Lts as lts
 use Rattle.words.proofs.get.Reads as get-reads
 use Rattle.words.proofs.payload.Reads as payload-reads
 
--- src/lib.rt:23:31
 get-requires : tie.Need-get-requires
 get-requires c κs = search needs
 
--- src/lib.rt:23:9
 payload-requires : tie.Need-payload-requires
 payload-requires c κs = search needs
 
--- src/lib.rt:23:9
 returns : tie.Need-returns
 returns c = search needs
 
--- src/lib.rt:19:1
 returns-2 : tie.Need-returns-2
 returns-2 c =
     let d = c .before .before .args in

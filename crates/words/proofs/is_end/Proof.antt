@@ -5,11 +5,9 @@ use Rattle.words.proofs.is_end.Reads as reads
 use Rattle.words.proofs.is_end.Lts as lts
 use Rattle.words.proofs.kind.Reads as kind-reads
 
--- src/lib.rt:75:5
 kind-requires : tie.Need-kind-requires
 kind-requires c κs = search needs
 
--- src/lib.rt:72:1
 returns : tie.Need-returns
 returns c = rw (c .kind .ensures)
 

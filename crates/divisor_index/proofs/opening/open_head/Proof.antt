@@ -8,47 +8,36 @@ use Rattle.divisor_index.proofs.opening.open_head.Lts as lts
 use Rattle.words.proofs.put.Reads as put-reads
 use Rattle.words.proofs.runs.clear.Reads as clear-reads
 
--- src/opening.rt:23:5
 put-requires : tie.Need-put-requires
 put-requires c κs = search needs
 
--- src/opening.rt:24:37
 cast-put : tie.Need-cast-put
 cast-put c = search needs
 
--- src/opening.rt:24:5
 put-requires-2 : tie.Need-put-requires-2
 put-requires-2 c κs = search needs
 
--- src/opening.rt:25:42
 cast-put-2 : tie.Need-cast-put-2
 cast-put-2 c = search needs
 
--- src/opening.rt:25:5
 put-requires-3 : tie.Need-put-requires-3
 put-requires-3 c κs = search needs
 
--- src/opening.rt:26:41
 cast-put-3 : tie.Need-cast-put-3
 cast-put-3 c = search needs
 
--- src/opening.rt:26:5
 put-requires-4 : tie.Need-put-requires-4
 put-requires-4 c κs = search needs
 
--- src/opening.rt:27:5
 put-requires-5 : tie.Need-put-requires-5
 put-requires-5 c κs = search needs
 
--- src/opening.rt:28:5
 put-requires-6 : tie.Need-put-requires-6
 put-requires-6 c κs = search needs
 
--- src/opening.rt:29:45
 sub-clear : tie.Need-sub-clear
 sub-clear c = search needs
 
--- src/opening.rt:29:5
 clear-requires : tie.Need-clear-requires
 clear-requires c κs =
     let b = c .before .before .before in
@@ -60,11 +49,9 @@ clear-requires c κs =
     let a = i .before .before .before in
     omega (arith, a .pre .1, i .put .kept .0, h .put2 .kept .0, g .put3 .kept .0, f .put4 .kept .0, d .put5 .kept .0, b .put6 .kept .0)
 
--- src/opening.rt:18:1
 same-length : tie.Need-same-length
 same-length c = search needs
 
--- src/opening.rt:18:1
 returns : tie.Need-returns
 returns c =
     let b = c .before .before .before .before .before .before in

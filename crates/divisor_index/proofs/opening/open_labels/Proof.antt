@@ -11,54 +11,42 @@ use Rattle.fast_compare.proofs.open.Reads as open-reads
 use Rattle.index_image.proofs.Shape.labels_at.Reads as labels-at-reads
 use Rattle.index_image.proofs.Shape.labels_size.Reads as labels-size-reads
 
--- src/opening.rt:39:9
 returns : tie.Need-returns
 returns c = labels-none _ _ _ _ (c .if1 .taken)
 
--- src/opening.rt:41:17
 labels-at-requires : tie.Need-labels-at-requires
 labels-at-requires c κs = search needs
 
--- src/opening.rt:41:13
 mul-a : tie.Need-mul-a
 mul-a c = search needs
 
--- src/opening.rt:42:21
 labels-size-requires : tie.Need-labels-size-requires
 labels-size-requires c κs = search needs
 
--- src/opening.rt:42:17
 mul-b : tie.Need-mul-b
 mul-b c = search needs
 
--- src/opening.rt:42:13
 add-b : tie.Need-add-b
 add-b c = search needs
 
--- src/opening.rt:43:24
 sub-open : tie.Need-sub-open
 sub-open c = search needs
 
--- src/opening.rt:43:24
 part-open-start : tie.Need-part-open-start
 part-open-start c = search needs
 
--- src/opening.rt:43:24
 part-open-end : tie.Need-part-open-end
 part-open-end c = search needs
 
--- src/opening.rt:43:5
 open-requires : tie.Need-open-requires
 open-requires c κs =
     let b = c .before .before .before in
     let a = b .before .before .before in
     (asked-labels _ (a .pre .0), part-room _ _ (a .pre .0) (a .pre .1) (b .if1 .left) _ _ (c .before .before .labels-at .ensures) (c .before .labels-size .ensures))
 
--- src/opening.rt:33:1
 same-length : tie.Need-same-length
 same-length c = search needs
 
--- src/opening.rt:33:1
 returns-2 : tie.Need-returns-2
 returns-2 c =
     let b = c .before .before .before .before in

@@ -13,63 +13,48 @@ use Rattle.index_image.proofs.Shape.size.Reads as size-reads
 use Rattle.words.proofs.runs.clear.Reads as clear-reads
 use Rattle.words.proofs.runs.paste.Reads as paste-reads
 
--- src/opening.rt:55:5
 open-head-requires : tie.Need-open-head-requires
 open-head-requires c κs = search needs
 
--- src/opening.rt:56:5
 paste-requires : tie.Need-paste-requires
 paste-requires c κs = search needs
 
--- src/opening.rt:57:31
 add-paste : tie.Need-add-paste
 add-paste c = search needs
 
--- src/opening.rt:57:5
 paste-requires-2 : tie.Need-paste-requires-2
 paste-requires-2 c κs = search needs
 
--- src/opening.rt:58:9
 entry-at-requires : tie.Need-entry-at-requires
 entry-at-requires c κs = search needs
 
--- src/opening.rt:59:40
 labels-at-requires : tie.Need-labels-at-requires
 labels-at-requires c κs = search needs
 
--- src/opening.rt:59:40
 sub-clear : tie.Need-sub-clear
 sub-clear c = search needs
 
--- src/opening.rt:59:5
 clear-requires : tie.Need-clear-requires
 clear-requires c κs = search needs
 
--- src/opening.rt:60:5
 open-labels-requires : tie.Need-open-labels-requires
 open-labels-requires c κs = search needs
 
--- src/opening.rt:61:9
 node-at-requires : tie.Need-node-at-requires
 node-at-requires c κs = search needs
 
--- src/opening.rt:62:38
 size-requires : tie.Need-size-requires
 size-requires c κs = search needs
 
--- src/opening.rt:62:38
 sub-clear-2 : tie.Need-sub-clear-2
 sub-clear-2 c = search needs
 
--- src/opening.rt:62:5
 clear-requires-2 : tie.Need-clear-requires-2
 clear-requires-2 c κs = search needs
 
--- src/opening.rt:47:1
 same-length : tie.Need-same-length
 same-length c = search needs
 
--- src/opening.rt:47:1
 returns : tie.Need-returns
 returns c =
     let b = c .before .before .before in

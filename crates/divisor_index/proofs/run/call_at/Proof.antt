@@ -14,17 +14,14 @@ use Rattle.indices.proofs.call.Reads as call-reads
 use Rattle.word_reader.proofs.read_call.Reads as read-call-reads
 use Rattle.words.proofs.put.Reads as put-reads
 
--- src/run.rt:27:9
 read-call-requires : tie.Need-read-call-requires
 read-call-requires c κs = search needs
 
--- src/run.rt:28:62
 add-call : tie.Need-add-call
 add-call c =
     let a = c .before .before .before .before .before .before .before .before .before in
     omega (arith, a .good, a .pre .1 .1 .0, length-words (a .args .list .now))
 
--- src/run.rt:28:9
 call-requires : tie.Need-call-requires
 call-requires c κs =
     let a = c .before .before .before .before .before .before .before .before .before in
@@ -32,27 +29,21 @@ call-requires c κs =
     let ends = ap (λ (x : Step). x .next) r ∙ end-of-call (words (a .args .list .now)) (a .args .at) (a .pre .1 .1 .0) in
     (a .pre .0, (a .pre .1 .0, (omega (arith, a .pre .1 .1 .0), ends)))
 
--- src/run.rt:29:5
 put-requires : tie.Need-put-requires
 put-requires c κs = search needs
 
--- src/run.rt:13:1
 same-length : tie.Need-same-length
 same-length c = search needs
 
--- src/run.rt:13:1
 same-length-2 : tie.Need-same-length-2
 same-length-2 c = search needs
 
--- src/run.rt:13:1
 same-length-3 : tie.Need-same-length-3
 same-length-3 c = search needs
 
--- src/run.rt:13:1
 same-length-4 : tie.Need-same-length-4
 same-length-4 c = search needs
 
--- src/run.rt:13:1
 returns : tie.Need-returns
 returns c =
     let d = c .before .before .before .before .before .before .before .before .before .before in

@@ -20,46 +20,38 @@ Inv-loop image₀ list out₀ q₀ scratch₀ end n₀ at₀ image out q scratch
 abbrev μ-loop : tie.MeasureT-loop
 μ-loop image₀ list out₀ q₀ scratch₀ end n₀ at₀ image out q scratch n at = end - at
 
--- src/run.rt:47:5
 loop-holds : tie.Need-loop-holds Inv-loop μ-loop
 loop-holds c =
     let a = c .before .before .before in
     (running-none _ _ _ (a .pre .0) (λ j. (c .before .before .slice-known .given) j .fits) (list-first _ (a .pre .1 .0)), (refl, refl))
 
--- src/run.rt:48:17
 mul-o : tie.Need-mul-o Inv-loop μ-loop
 mul-o c =
     let l = c .before in
     let a = l .before .before .before .before in
     omega (arith, a .good, place-small _ _ _ (a .pre .0) _ _ _ _ (l .loop .inv .0) (a .pre .1 .1), l .loop .inv .0 .same-out)
 
--- src/run.rt:49:29
 slice-aggregate-call-at : tie.Need-slice-aggregate-call-at Inv-loop μ-loop
 slice-aggregate-call-at c = search needs
 
--- src/run.rt:49:37
 slice-aggregate-call-at-2 : tie.Need-slice-aggregate-call-at-2 Inv-loop μ-loop
 slice-aggregate-call-at-2 c = search needs
 
--- src/run.rt:49:61
 sub-call-at : tie.Need-sub-call-at Inv-loop μ-loop
 sub-call-at c =
     let l = c .before .before .before .before in
     let a = l .before .before .before .before in
     place-small _ _ _ (a .pre .0) _ _ _ _ (l .loop .inv .0) (a .pre .1 .1)
 
--- src/run.rt:49:61
 part-call-at-start : tie.Need-part-call-at-start Inv-loop μ-loop
 part-call-at-start c =
     let l = c .before .before .before .before in
     let a = l .before .before .before .before in
     place-small _ _ _ (a .pre .0) _ _ _ _ (l .loop .inv .0) (a .pre .1 .1)
 
--- src/run.rt:49:61
 part-call-at-end : tie.Need-part-call-at-end Inv-loop μ-loop
 part-call-at-end c = search needs
 
--- src/run.rt:49:9
 call-at-requires : tie.Need-call-at-requires Inv-loop μ-loop
 call-at-requires c κs =
     let l = c .before .before .before .before .before in
@@ -72,14 +64,12 @@ call-at-requires c κs =
       ),
     )
 
--- src/run.rt:50:9
 add-n : tie.Need-add-n Inv-loop μ-loop
 add-n c =
     let l = c .before .before .before .before .before .before .before .before .before .before .before .before in
     let a = l .before .before .before .before in
     omega (arith, a .good, place-small _ _ _ (a .pre .0) _ _ _ _ (l .loop .inv .0) (a .pre .1 .1), l .loop .inv .0 .same-out)
 
--- src/run.rt:47:5
 loop-less : tie.Need-loop-less Inv-loop μ-loop
 loop-less c =
     let d = c .before .before .before .before .before .before in
@@ -90,7 +80,6 @@ loop-less c =
     let far = end-inside (words L) (t .before .loop .at) inside .0 in
     omega (arith, d .call-at .ensures .0, t .loop-test .taken, far)
 
--- src/run.rt:47:5
 loop-again : tie.Need-loop-again Inv-loop μ-loop
 loop-again c =
     let d = c .before .before .before .before .before .before in
@@ -102,15 +91,12 @@ loop-again c =
     (d .call-at .ensures .1) (d .call-at .kept .0) in
     (ran, (d .call-at .kept .1 .0 ∙ t .before .loop .inv .1 .0, d .call-at .kept .1 .1 .0 ∙ t .before .loop .inv .1 .1))
 
--- src/run.rt:36:1
 same-length : tie.Need-same-length Inv-loop μ-loop
 same-length c = c .before .loop .inv .0 .same-image
 
--- src/run.rt:36:1
 same-length-2 : tie.Need-same-length-2 Inv-loop μ-loop
 same-length-2 c = c .before .loop .inv .0 .same-out
 
--- src/run.rt:36:1
 returns : tie.Need-returns Inv-loop μ-loop
 returns c =
     let a = c .before .before .before .before .before in

@@ -7,24 +7,19 @@ use Rattle.divmask.proofs.doors.divisor_index_divmask_divides.Reads as 
 use Rattle.divmask.proofs.doors.divisor_index_divmask_divides.Lts as lts
 use Rattle.divmask.proofs.divides.Reads as divides-reads
 
--- src/doors.rt:33:11
 divides-requires : tie.Need-divides-requires
 divides-requires c κs = search needs
 
--- src/doors.rt:34:44
 enum-told : tie.Need-enum-told
 enum-told c = search needs
 
--- src/doors.rt:35:38
 enum-told-2 : tie.Need-enum-told-2
 enum-told-2 c = search needs
 
--- src/doors.rt:29:1
 returns : tie.Need-returns
 unfolding testNumber
 returns c = ap testNumber (sym (c .enum-told .given .1) ∙ c .before .before .divides .ensures)
 
--- src/doors.rt:29:1
 returns-2 : tie.Need-returns-2
 unfolding testNumber
 returns-2 c = ap testNumber (sym (c .enum-told2 .given .1) ∙ c .before .before .divides .ensures)

@@ -19,41 +19,33 @@ use Rattle.divmask.proofs.tracker.maxima_good.Reads as maxima-good-read
 use Rattle.words.proofs.answer_word.Reads as answer-word-reads
 use Rattle.words.proofs.put.Reads as put-reads
 
--- src/doors.rt:61:9
 maxima-good-requires : tie.Need-maxima-good-requires
 maxima-good-requires c κs = search needs
 
--- src/doors.rt:62:9
 returns : tie.Need-returns
 unfolding growthNumber growthBytes
 returns c = rw (sym (c .before .maxima-good .ensures) ∙ not-true _ (c .if1 .taken)) (refl, refl)
 
--- src/doors.rt:65:9
 returns-2 : tie.Need-returns-2
 unfolding growthNumber growthBytes
 returns-2 c =
     let start = c .before .before .before .before .before in
     rw (sym (c .before .before .maxima-good .ensures) ∙ not-false _ (c .before .if1 .left), lt-leb 4 (length (start .args .out .now)) (omega arith)) (refl, refl)
 
--- src/doors.rt:68:8
 has-grown-beyond-percentage-requires : tie.Need-has-grown-beyond-percentage-requires
 has-grown-beyond-percentage-requires c κs =
     let start = c .before .before .before .before .before in
     lent-maxima (start .args .variables) (start .args .maxima .now) .0 (sym (c .before .before .maxima-good .ensures) ∙ not-false _ (c .before .if1 .left)) .1
 
--- src/doors.rt:71:24
 answer-word-requires : tie.Need-answer-word-requires
 answer-word-requires c κs = ⊎-elim (λ w. omega arith) (λ w. omega arith) (c .before .if3 .came)
 
--- src/doors.rt:71:5
 put-requires : tie.Need-put-requires
 put-requires c κs = search needs
 
--- src/doors.rt:56:1
 same-length : tie.Need-same-length
 same-length c = search needs
 
--- src/doors.rt:56:1
 returns-3 : tie.Need-returns-3
 unfolding growthNumber growthBytes
 returns-3 c =

@@ -19,20 +19,16 @@ use Rattle.divmask.proofs.tracker.maxima_good.Reads as maxima-good-read
 use Rattle.monomial.proofs.is_canonical.Reads as is-canonical-reads
 use Rattle.words.proofs.put.Reads as put-reads
 
--- src/doors.rt:15:9
 maxima-good-requires : tie.Need-maxima-good-requires
 maxima-good-requires c κs = search needs
 
--- src/doors.rt:16:9
 returns : tie.Need-returns
 unfolding maskNumber maskBytes
 returns c = rw (sym (c .before .maxima-good .ensures) ∙ not-true _ (c .if1 .taken)) (refl, refl)
 
--- src/doors.rt:18:9
 is-canonical-requires : tie.Need-is-canonical-requires
 is-canonical-requires c κs = search needs
 
--- src/doors.rt:19:9
 returns-2 : tie.Need-returns-2
 unfolding maskNumber maskBytes
 returns-2 c =
@@ -41,7 +37,6 @@ returns-2 c =
       sym (c .before .is-canonical .ensures) ∙ not-true _ (c .if2 .taken),
     ) (refl, refl)
 
--- src/doors.rt:22:9
 returns-3 : tie.Need-returns-3
 unfolding maskNumber maskBytes
 returns-3 c =
@@ -53,7 +48,6 @@ returns-3 c =
       lt-leb 4 (length (start .args .out .now)) (omega arith),
     ) (refl, refl)
 
--- src/doors.rt:24:24
 map-requires : tie.Need-map-requires
 map-requires c κs =
     let if1 = c .before .before .before .before .if1 in
@@ -64,15 +58,12 @@ map-requires c κs =
           (sym (c .before .before .before .is-canonical .ensures) ∙ not-false _ (c .before .before .if2 .left)) .1),
     )
 
--- src/doors.rt:24:5
 put-requires : tie.Need-put-requires
 put-requires c κs = search needs
 
--- src/doors.rt:10:1
 same-length : tie.Need-same-length
 same-length c = search needs
 
--- src/doors.rt:10:1
 returns-4 : tie.Need-returns-4
 unfolding maskNumber maskBytes
 returns-4 c =

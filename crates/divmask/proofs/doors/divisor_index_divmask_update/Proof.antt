@@ -13,28 +13,22 @@ use Rattle.divmask.proofs.tracker.maxima_good.Reads as maxima-good-read
 use Rattle.divmask.proofs.tracker.update.Reads as update-reads
 use Rattle.monomial.proofs.is_canonical.Reads as is-canonical-reads
 
--- src/doors.rt:45:9
 maxima-good-requires : tie.Need-maxima-good-requires
 maxima-good-requires c κs = search needs
 
--- src/doors.rt:46:9
 same-length : tie.Need-same-length
 same-length c = search needs
 
--- src/doors.rt:46:9
 returns : tie.Need-returns
 unfolding updateNumber updateBytes
 returns c = rw (sym (c .before .maxima-good .ensures) ∙ not-true _ (c .if1 .taken)) (refl, refl)
 
--- src/doors.rt:48:9
 is-canonical-requires : tie.Need-is-canonical-requires
 is-canonical-requires c κs = search needs
 
--- src/doors.rt:49:9
 same-length-2 : tie.Need-same-length-2
 same-length-2 c = search needs
 
--- src/doors.rt:49:9
 returns-2 : tie.Need-returns-2
 unfolding updateNumber updateBytes
 returns-2 c =
@@ -43,7 +37,6 @@ returns-2 c =
       sym (c .before .is-canonical .ensures) ∙ not-true _ (c .if2 .taken),
     ) (refl, refl)
 
--- src/doors.rt:51:5
 update-requires : tie.Need-update-requires
 update-requires c κs =
     let maxima-good = c .before .before .before .before .maxima-good in
@@ -57,11 +50,9 @@ update-requires c κs =
       ),
     )
 
--- src/doors.rt:40:1
 same-length-3 : tie.Need-same-length-3
 same-length-3 c = search needs
 
--- src/doors.rt:40:1
 returns-3 : tie.Need-returns-3
 unfolding updateNumber updateBytes
 returns-3 c =

@@ -83,15 +83,12 @@ short-at c =
 
 -- end of helpers
 
--- src/pairs.rt:32:17
 div-whole : tie.Need-div-whole Inv-loop μ-loop
 div-whole c = omega (arith, c .before .before .pre .0 .some)
 
--- src/pairs.rt:33:17
 rem-extra : tie.Need-rem-extra Inv-loop μ-loop
 rem-extra c = omega (arith, c .before .before .pre .0 .some)
 
--- src/pairs.rt:37:5
 loop-holds : tie.Need-loop-holds Inv-loop μ-loop
 loop-holds c =
     let start = c .before .before in (
@@ -99,15 +96,12 @@ loop-holds c =
       begin (bitCounts (start .args .variables)) (start .pre .0 .few) (first-canonical (omega arith) (start .pre .1)),
     )
 
--- src/pairs.rt:38:13
 get-requires : tie.Need-get-requires Inv-loop μ-loop
 get-requires c κs = omega (arith, first-bytes 1 (c .before .before .before .args .monomial .now), within (c .loop .inv .0 .ra))
 
--- src/pairs.rt:39:12
 is-end-requires : tie.Need-is-end-requires Inv-loop μ-loop
 is-end-requires c κs = search needs
 
--- src/pairs.rt:40:27
 mul-result : tie.Need-mul-result Inv-loop μ-loop
 mul-result c =
     let loop = c .before .before .before .loop in
@@ -119,7 +113,6 @@ mul-result c =
       vector-small (start .args .variables) (pow 1 (first 1 (words (start .args .monomial .now)))),
     )
 
--- src/pairs.rt:40:20
 add-result : tie.Need-add-result Inv-loop μ-loop
 add-result c =
     let get = c .before .before .get in
@@ -133,7 +126,6 @@ add-result c =
       vector-small (start .args .variables) (pow 1 (first 1 (words (start .args .monomial .now)))),
     )
 
--- src/pairs.rt:40:13
 returns : tie.Need-returns Inv-loop μ-loop
 returns c =
     let get = c .before .before .get in
@@ -143,29 +135,23 @@ returns c =
       vector-mapped (loop .inv .1) (seen _ (loop .inv .0 .ra) (get .ensures)) (is-end-true _ (c .before .is-end .ensures) (c .if1 .taken)),
     )
 
--- src/pairs.rt:42:13
 id-requires : tie.Need-id-requires Inv-loop μ-loop
 id-requires c κs = search needs
 
--- src/pairs.rt:43:13
 power-requires : tie.Need-power-requires Inv-loop μ-loop
 power-requires c κs = search needs
 
--- src/pairs.rt:44:36
 cast-get : tie.Need-cast-get Inv-loop μ-loop
 cast-get c = omega arith
 
--- src/pairs.rt:44:13
 get-requires-2 : tie.Need-get-requires-2 Inv-loop μ-loop
 get-requires-2 c κs =
     let start = c .before .before .before .before .before .before .before .before in
     omega (arith, variable (c .before .before) .known, c .before .id .ensures, length-words (start .args .maxima .now), start .pre .0 .one-each)
 
--- src/pairs.rt:45:13
 bits-of-requires : tie.Need-bits-of-requires Inv-loop μ-loop
 bits-of-requires c κs = div-le-self 32 (c .before .before .before .before .before .before .before .before .before .args .variables)
 
--- src/pairs.rt:46:13
 first-bit-requires : tie.Need-first-bit-requires Inv-loop μ-loop
 first-bit-requires c κs =
     let start = c .before .before .before .before .before .before .before .before .before .before in (
@@ -178,7 +164,6 @@ first-bit-requires c κs =
       ),
     )
 
--- src/pairs.rt:47:17
 field-requires : tie.Need-field-requires Inv-loop μ-loop
 field-requires c κs =
     let get2 = c .before .before .get2 in
@@ -200,19 +185,15 @@ field-requires c κs =
       (omega (arith, power .ensures, k .low), omega (arith, power .ensures, k .high)),
     )
 
--- src/pairs.rt:47:42
 cast-mask : tie.Need-cast-mask Inv-loop μ-loop
 cast-mask c = omega arith
 
--- src/pairs.rt:47:17
 shl-mask : tie.Need-shl-mask Inv-loop μ-loop
 shl-mask c = omega (arith, stepped-at (c) .shift)
 
--- src/pairs.rt:47:9
 add-mask : tie.Need-add-mask Inv-loop μ-loop
 add-mask c = omega (arith, stepped-at (c) .fits)
 
--- src/pairs.rt:48:19
 short-field-requires : tie.Need-short-field-requires Inv-loop μ-loop
 short-field-requires c κs =
     let bits-of = c .before .before .bits-of in
@@ -223,30 +204,24 @@ short-field-requires c κs =
     let e = bits-are (start .args .variables) (id .result) (bits-of .result) (bits-of .ensures) in
     omega (arith, rw (id .ensures) at e, k .few)
 
--- src/pairs.rt:48:40
 cast-vector : tie.Need-cast-vector Inv-loop μ-loop
 cast-vector c = omega arith
 
--- src/pairs.rt:48:19
 shl-vector : tie.Need-shl-vector Inv-loop μ-loop
 shl-vector c = omega (arith, short-at (c) .shift)
 
--- src/pairs.rt:48:9
 add-vector : tie.Need-add-vector Inv-loop μ-loop
 add-vector c = omega (arith, short-at (c) .fits)
 
--- src/pairs.rt:49:9
 add-i : tie.Need-add-i Inv-loop μ-loop
 add-i c =
     let b10 = c .before .before .before .before .before .before .before .before .before .before in
     let start = b10 .before .before .before in
     omega (arith, first-bytes 1 (start .args .monomial .now), within (b10 .loop .inv .0 .ra))
 
--- src/pairs.rt:37:5
 loop-less : tie.Need-loop-less Inv-loop μ-loop
 loop-less c = omega (arith, within (c .before .before .before .before .before .before .before .before .before .before .loop .inv .0 .ra))
 
--- src/pairs.rt:37:5
 loop-again : tie.Need-loop-again Inv-loop μ-loop
 loop-again c = (stepped-at (c .before) .rest, short-at (c) .rest)
 

@@ -16,15 +16,12 @@ counted c = ⊎-elim (λ w. omega arith) (λ w. omega arith) (c .before .if1 .ca
 
 -- end of helpers
 
--- src/pairs.rt:23:6
 shl-result : tie.Need-shl-result
 shl-result c = omega (arith, counted c)
 
--- src/pairs.rt:23:5
 sub-result : tie.Need-sub-result
 sub-result c = omega (arith, ones (c .before .if1 .count) (omega (arith, counted c)), pow-pos (c .before .if1 .count))
 
--- src/pairs.rt:18:1
 returns : tie.Need-returns
 returns c = short-is (c .before .before .args .bits) (c .before .before .args .power) (c .before .if1 .count) (c .before .before .pre) (counted c)
 

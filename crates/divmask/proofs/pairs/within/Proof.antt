@@ -5,7 +5,6 @@ use Rattle.divmask.proofs.pairs.within.Tie as tie
 use Rattle.divmask.proofs.pairs.within.Reads as reads
 use Rattle.divmask.proofs.pairs.within.Lts as lts
 
--- src/pairs.rt:8:1
 returns : tie.Need-returns
 returns c = both-within (c .args .a) (c .args .b) (omega arith)
 

@@ -16,27 +16,21 @@ use Rattle.divmask.proofs.first_bit.Reads as first-bit-reads
 use Rattle.divmask.proofs.pairs.short_field.Reads as short-field-reads
 use Rattle.words.proofs.get.Reads as get-reads
 
--- src/table.rt:18:17
 div-whole : tie.Need-div-whole
 div-whole c = search needs
 
--- src/table.rt:19:17
 rem-extra : tie.Need-rem-extra
 rem-extra c = search needs
 
--- src/table.rt:20:9
 get-requires : tie.Need-get-requires
 get-requires c κs = omega (arith, c .before .pre .0 .one-each, length-words (c .before .args .maxima .now), c .before .pre .1 .0)
 
--- src/table.rt:21:9
 bits-of-requires : tie.Need-bits-of-requires
 bits-of-requires c κs = div-le-self 32 (c .before .before .args .variables)
 
--- src/table.rt:22:9
 first-bit-requires : tie.Need-first-bit-requires
 first-bit-requires c κs = (div-le-self 32 (c .before .before .before .args .variables), omega (arith, c .before .before .before .pre .0 .few, c .before .before .before .pre .1 .0))
 
--- src/table.rt:23:16
 field-requires : tie.Need-field-requires
 field-requires c κs =
     let start = c .before .before .before .before in
@@ -52,11 +46,9 @@ field-requires c κs =
       p .1 .1,
     )
 
--- src/table.rt:23:45
 cast-mask : tie.Need-cast-mask
 cast-mask c = search needs
 
--- src/table.rt:23:16
 shl-mask : tie.Need-shl-mask
 shl-mask c =
     let start = c .before .before .before .before .before in
@@ -67,7 +59,6 @@ shl-mask c =
       in-all (start .args .variables) (start .args .v) (start .pre .1 .0),
     )
 
--- src/table.rt:24:18
 short-field-requires : tie.Need-short-field-requires
 short-field-requires c κs =
     let start = c .before .before .before .before .before in
@@ -75,11 +66,9 @@ short-field-requires c κs =
     let e = bits-are (start .args .variables) (start .args .v) (bits-of .result) (bits-of .ensures) in
     omega (arith, in-all (start .args .variables) (start .args .v) (start .pre .1 .0))
 
--- src/table.rt:24:50
 cast-vector : tie.Need-cast-vector
 cast-vector c = search needs
 
--- src/table.rt:24:18
 shl-vector : tie.Need-shl-vector
 shl-vector c =
     let start = c .before .before .before .before .before .before in
@@ -90,7 +79,6 @@ shl-vector c =
       in-all (start .args .variables) (start .args .v) (start .pre .1 .0),
     )
 
--- src/table.rt:25:12
 mul-result : tie.Need-mul-result
 mul-result c =
     let start = c .before .before .before .before .before .before in
@@ -102,7 +90,6 @@ mul-result c =
           (get .ensures) (bits-of .ensures) (c .before .field .ensures) (c .short-field .ensures) (c .before .before .first-bit .ensures) .high,
     )
 
--- src/table.rt:25:5
 add-result : tie.Need-add-result
 add-result c =
     let start = c .before .before .before .before .before .before in
@@ -114,7 +101,6 @@ add-result c =
     (get .ensures) (bits-of .ensures) (field .ensures) (c .short-field .ensures) (first-bit .ensures) in
     omega (arith, k .low, k .high)
 
--- src/table.rt:13:1
 returns : tie.Need-returns
 returns c =
     let start = c .before .before .before .before .before .before in

@@ -18,43 +18,33 @@ Inv-loop maxima variables table₀ n k₀ table k = (length table ≡ 8192) × (
 abbrev μ-loop : tie.MeasureT-loop
 μ-loop maxima variables table₀ n k₀ table k = n - k
 
--- src/table.rt:44:13
 mul-n : tie.Need-mul-n Inv-loop μ-loop
 mul-n c = omega (arith, c .before .before .pre .0 .few)
 
--- src/table.rt:46:5
 loop-holds : tie.Need-loop-holds Inv-loop μ-loop
 loop-holds c = (c .before .before .pre .1, (c .before .before .pre .0 .few, (refl, (omega arith, filled-none _ _ _))))
 
--- src/table.rt:47:52
 add-bits-at : tie.Need-add-bits-at Inv-loop μ-loop
 add-bits-at c = omega arith
 
--- src/table.rt:47:13
 bits-at-requires : tie.Need-bits-at-requires Inv-loop μ-loop
 bits-at-requires c κs = (c .before .before .before .before .pre .0, (omega (arith, c .before .loop .inv .1 .1 .0), (omega arith, omega arith)))
 
--- src/table.rt:48:29
 cast-put-pair : tie.Need-cast-put-pair Inv-loop μ-loop
 cast-put-pair c = omega (arith, c .before .before .before .loop .inv .1 .0, c .before .before .before .loop .inv .1 .1 .0)
 
--- src/table.rt:48:25
 mul-put-pair : tie.Need-mul-put-pair Inv-loop μ-loop
 mul-put-pair c = omega (arith, c .before .before .before .loop .inv .1 .0, c .before .before .before .loop .inv .1 .1 .0)
 
--- src/table.rt:48:9
 put-pair-requires : tie.Need-put-pair-requires Inv-loop μ-loop
 put-pair-requires c κs = omega (arith, c .before .before .before .loop .inv .0, c .before .before .before .loop .inv .1 .0, c .before .before .before .loop .inv .1 .1 .0)
 
--- src/table.rt:49:9
 add-k : tie.Need-add-k Inv-loop μ-loop
 add-k c = omega (arith, c .before .before .before .before .before .before .loop .inv .1 .0, c .before .before .before .before .before .before .loop .inv .1 .1 .0)
 
--- src/table.rt:46:5
 loop-less : tie.Need-loop-less Inv-loop μ-loop
 loop-less c = omega arith
 
--- src/table.rt:46:5
 loop-again : tie.Need-loop-again Inv-loop μ-loop
 loop-again c =
     let loop = c .before .before .before .before .before .before .loop in
@@ -76,11 +66,9 @@ loop-again c =
       ),
     )
 
--- src/table.rt:38:1
 same-length : tie.Need-same-length Inv-loop μ-loop
 same-length c = c .before .loop .inv .0 ∙ sym (c .before .before .before .before .pre .1)
 
--- src/table.rt:38:1
 returns : tie.Need-returns Inv-loop μ-loop
 returns c = (c .before .loop .inv .0, tabled _ _ _ _ _ (c .before .loop .inv .1 .1 .0) (omega arith) (c .before .loop .inv .1 .1 .1 .1))
 

@@ -24,38 +24,30 @@ Inv-loop maxima variables table limit s at end i₀ bound₀ masks₀ i bound ma
 abbrev μ-loop : tie.MeasureT-loop
 μ-loop maxima variables table limit s at end i₀ bound₀ masks₀ i bound masks = end - i
 
--- src/table.rt:114:5
 loop-holds : tie.Need-loop-holds Inv-loop μ-loop
 loop-holds c =
     let start = c .before .before .before in
     going (start .args .variables) (words (start .args .maxima .now)) (words (start .args .s .now)) (start .args .at) (start .pre .0 .few)
 
--- src/table.rt:115:13
 get-requires : tie.Need-get-requires Inv-loop μ-loop
 get-requires c κs = omega arith
 
--- src/table.rt:116:12
 kind-requires : tie.Need-kind-requires Inv-loop μ-loop
 kind-requires c κs = tt
 
--- src/table.rt:117:21
 sub-n : tie.Need-sub-n Inv-loop μ-loop
 sub-n c = c .before .before .before .before .loop .inv .from
 
--- src/table.rt:118:16
 payload-requires : tie.Need-payload-requires Inv-loop μ-loop
 payload-requires c κs = tt
 
--- src/table.rt:118:16
 cast-if2 : tie.Need-cast-if2 Inv-loop μ-loop
 cast-if2 c = omega arith
 
--- src/table.rt:120:28
 add-t20 : tie.Need-add-t20 Inv-loop μ-loop
 add-t20 c =
     omega (arith, c .before .before .before .before .before .before .loop .inv .few, c .before .before .before .before .before .before .before .before .before .before .pre .0 .few)
 
--- src/table.rt:119:17
 returns : tie.Need-returns Inv-loop μ-loop
 returns c =
     let start = c .before .before .before .before .before .before .before .before .before .before in
@@ -67,7 +59,6 @@ returns c =
     (loop .i - start .args .at) refl (sym (kind .ensures) ∙ c .before .before .if1 .taken)
     (sym (c .before .payload .ensures) ∙ c .if2 .taken)
 
--- src/table.rt:124:13
 returns-2 : tie.Need-returns-2 Inv-loop μ-loop
 returns-2 c =
     let start = c .before .before .before .before .before .before .before .before .before .before in
@@ -79,11 +70,9 @@ returns-2 c =
     (get .ensures) (loop .i - start .args .at) 0 refl (sym (kind .ensures) ∙ c .before .before .if1 .taken)
     (λ q. c .if2 .left (c .before .payload .ensures ∙ q))
 
--- src/table.rt:126:13
 is-variable-requires : tie.Need-is-variable-requires Inv-loop μ-loop
 is-variable-requires c κs = (omega arith, omega arith)
 
--- src/table.rt:127:13
 returns-3 : tie.Need-returns-3 Inv-loop μ-loop
 returns-3 c =
     let start = c .before .before .before .before .before .before .before .before .before .before in
@@ -95,15 +84,12 @@ returns-3 c =
     (get .ensures) 0 (λ q. c .before .before .if1 .left (kind .ensures ∙ q))
     (sym (c .before .is-variable .ensures) ∙ not-true _ (c .if3 .taken))
 
--- src/table.rt:129:9
 id-requires : tie.Need-id-requires Inv-loop μ-loop
 id-requires c κs = tt
 
--- src/table.rt:130:65
 power-requires : tie.Need-power-requires Inv-loop μ-loop
 power-requires c κs = tt
 
--- src/table.rt:130:13
 look-up-requires : tie.Need-look-up-requires Inv-loop μ-loop
 look-up-requires c κs =
     let start = c .before .before .before .before .before .before .before .before .before .before .before .before in
@@ -126,19 +112,15 @@ look-up-requires c κs =
       ),
     )
 
--- src/table.rt:131:9
 wrapping-add-u64-requires : tie.Need-wrapping-add-u64-requires Inv-loop μ-loop
 wrapping-add-u64-requires c κs = tt
 
--- src/table.rt:132:9
 add-i : tie.Need-add-i Inv-loop μ-loop
 add-i c = omega arith
 
--- src/table.rt:114:5
 loop-less : tie.Need-loop-less Inv-loop μ-loop
 loop-less c = omega arith
 
--- src/table.rt:114:5
 loop-again : tie.Need-loop-again Inv-loop μ-loop
 loop-again c =
     let start = c .before .before .before .before .before .before .before .before .before .before .before .before .before .before in
@@ -157,7 +139,6 @@ loop-again c =
     (sym (is-variable .ensures) ∙ not-false _ (if3 .left)) (look-up .result) (c .wrapping-add-u64 .result)
     (rw (id .ensures, c .before .before .power .ensures) at (look-up .ensures)) (c .wrapping-add-u64 .ensures))
 
--- src/table.rt:104:1
 returns-4 : tie.Need-returns-4 Inv-loop μ-loop
 returns-4 c =
     let start = c .before .before .before .before .before in

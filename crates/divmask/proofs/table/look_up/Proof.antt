@@ -8,39 +8,30 @@ use Rattle.divmask.proofs.table.look_up.Lts as lts
 use Rattle.divmask.proofs.table.bits_at.Reads as bits-at-reads
 use Rattle.words.proofs.pairs.get.Reads as get-reads
 
--- src/table.rt:76:9
 bits-at-requires : tie.Need-bits-at-requires
 bits-at-requires c κs = search needs
 
--- src/table.rt:76:9
 returns : tie.Need-returns
 returns c = search needs
 
--- src/table.rt:78:35
 mul-get : tie.Need-mul-get
 mul-get c = search needs
 
--- src/table.rt:78:45
 sub-get : tie.Need-sub-get
 sub-get c = search needs
 
--- src/table.rt:78:35
 add-get : tie.Need-add-get
 add-get c = search needs
 
--- src/table.rt:78:34
 cast-get : tie.Need-cast-get
 cast-get c = search needs
 
--- src/table.rt:78:30
 mul-get-2 : tie.Need-mul-get-2
 mul-get-2 c = search needs
 
--- src/table.rt:78:5
 get-requires : tie.Need-get-requires
 get-requires c κs = search needs
 
--- src/table.rt:68:1
 returns-2 : tie.Need-returns-2
 returns-2 c =
     let start = c .before .before .before .before in

@@ -6,31 +6,24 @@ use Rattle.divmask.proofs.table.put_pair.Reads as reads
 use Rattle.divmask.proofs.table.put_pair.Lts as lts
 use Rattle.words.proofs.put.Reads as put-reads
 
--- src/table.rt:33:26
 cast-put : tie.Need-cast-put
 cast-put c = search needs
 
--- src/table.rt:33:5
 put-requires : tie.Need-put-requires
 put-requires c κs = search needs
 
--- src/table.rt:34:23
 add-put : tie.Need-add-put
 add-put c = search needs
 
--- src/table.rt:34:30
 cast-put-2 : tie.Need-cast-put-2
 cast-put-2 c = search needs
 
--- src/table.rt:34:5
 put-requires-2 : tie.Need-put-requires-2
 put-requires-2 c κs = search needs
 
--- src/table.rt:29:1
 same-length : tie.Need-same-length
 same-length c = search needs
 
--- src/table.rt:29:1
 returns : tie.Need-returns
 returns c = c .before .before .put2 .ensures ∙ rw (c .before .before .before .before .before .before .put .ensures)
 

@@ -9,19 +9,15 @@ use Rattle.divmask.proofs.tracker.has_grown_beyond_percentage.Reads as 
 use Rattle.divmask.proofs.tracker.has_grown_beyond_percentage.Lts as lts
 use Rattle.divmask.proofs.tracker.total.Reads as total-reads
 
--- src/tracker.rt:84:9
 total-requires : tie.Need-total-requires
 total-requires c κs = search needs
 
--- src/tracker.rt:85:28
 sub-result : tie.Need-sub-result
 sub-result c = omega (arith, c .total .ensures, total-low (c .before .before .args .variables) (words (c .before .before .args .maxima .now)) (c .before .before .pre))
 
--- src/tracker.rt:85:27
 mul-result : tie.Need-mul-result
 mul-result c = omega (arith, c .total .ensures, total-high (c .before .before .args .variables) (words (c .before .before .args .maxima .now)) (c .before .before .pre))
 
--- src/tracker.rt:85:27
 div-result : tie.Need-div-result
 div-result c =
     omega (
@@ -32,7 +28,6 @@ div-result c =
       c .before .before .pre .some,
     )
 
--- src/tracker.rt:80:1
 returns : tie.Need-returns
 unfolding grown
 returns c = rw (c .total .ensures)

@@ -19,15 +19,12 @@ Inv-loop s n i₀ i = allInRange (words s) ≡ allInRange (drop i (words s))
 abbrev μ-loop : tie.MeasureT-loop
 μ-loop s n i₀ i = n - i
 
--- src/tracker.rt:13:5
 loop-holds : tie.Need-loop-holds Inv-loop μ-loop
 loop-holds c = refl
 
--- src/tracker.rt:14:13
 get-requires : tie.Need-get-requires Inv-loop μ-loop
 get-requires c κs = search needs
 
--- src/tracker.rt:16:13
 returns : tie.Need-returns Inv-loop μ-loop
 returns c =
     let get = c .before .get in
@@ -36,7 +33,6 @@ returns c =
     sym (loop .inv ∙ rw (word-and-rest (words (start .args .s .now)) (loop .i) (get .result) (omega (arith, length-words (start .args .s .now))) (get .ensures))
     (range-low (get .result) _ (c .if1 .taken)))
 
--- src/tracker.rt:19:13
 returns-2 : tie.Need-returns-2 Inv-loop μ-loop
 returns-2 c =
     let get = c .before .before .get in
@@ -45,15 +41,12 @@ returns-2 c =
     sym (loop .inv ∙ rw (word-and-rest (words (start .args .s .now)) (loop .i) (get .result) (omega (arith, length-words (start .args .s .now))) (get .ensures))
     (range-high (get .result) _ (omega arith) (c .if2 .taken)))
 
--- src/tracker.rt:21:9
 add-i : tie.Need-add-i Inv-loop μ-loop
 add-i c = search needs
 
--- src/tracker.rt:13:5
 loop-less : tie.Need-loop-less Inv-loop μ-loop
 loop-less c = search needs
 
--- src/tracker.rt:13:5
 loop-again : tie.Need-loop-again Inv-loop μ-loop
 loop-again c =
     let get = c .before .before .get in
@@ -62,7 +55,6 @@ loop-again c =
     loop .inv ∙ rw (word-and-rest (words (start .args .s .now)) (loop .i) (get .result) (omega (arith, length-words (start .args .s .now))) (get .ensures))
     (range-in (get .result) _ (omega arith) (omega arith))
 
--- src/tracker.rt:8:1
 returns-3 : tie.Need-returns-3 Inv-loop μ-loop
 returns-3 c =
     let start = c .before .before .before in

@@ -13,20 +13,16 @@ use Rattle.divmask.proofs.tracker.maxima_good.Lts as lts
 use Rattle.divmask.proofs.tracker.in_range.Reads as in-range-reads
 use Rattle.monomial.proofs.sizes.variables_fit.Reads as variables-fit-reads
 
--- src/tracker.rt:32:9
 variables-fit-requires : tie.Need-variables-fit-requires
 variables-fit-requires c κs = search needs
 
--- src/tracker.rt:33:9
 returns : tie.Need-returns
 unfolding maximaLent
 returns c = simp (sym (c .before .variables-fit .ensures) ∙ not-true _ (c .if1 .taken))
 
--- src/tracker.rt:35:24
 mul-if2 : tie.Need-mul-if2
 mul-if2 c = omega (arith, variables-fit (c .before .before .before .args .variables) .0 (sym (c .before .variables-fit .ensures) ∙ not-false _ (c .if1 .left)) .1)
 
--- src/tracker.rt:36:9
 returns-2 : tie.Need-returns-2
 unfolding maximaLent
 returns-2 c =
@@ -36,11 +32,9 @@ returns-2 c =
       ne-eqb (length (start .args .maxima .now)) (4 * (start .args .variables)) (c .if2 .taken),
     )
 
--- src/tracker.rt:38:5
 in-range-requires : tie.Need-in-range-requires
 in-range-requires c κs = search needs
 
--- src/tracker.rt:29:1
 returns-3 : tie.Need-returns-3
 unfolding maximaLent
 returns-3 c =

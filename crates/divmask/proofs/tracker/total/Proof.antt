@@ -18,15 +18,12 @@ Inv-loop maxima variables n sum₀ i₀ sum i = sum + total (drop i (words maxim
 abbrev μ-loop : tie.MeasureT-loop
 μ-loop maxima variables n sum₀ i₀ sum i = n - i
 
--- src/tracker.rt:72:5
 loop-holds : tie.Need-loop-holds Inv-loop μ-loop
 loop-holds c = omega arith
 
--- src/tracker.rt:73:16
 get-requires : tie.Need-get-requires Inv-loop μ-loop
 get-requires c κs = omega (arith, length-words (c .before .before .before .args .maxima .now), c .before .before .before .pre .one-each)
 
--- src/tracker.rt:73:9
 add-sum : tie.Need-add-sum Inv-loop μ-loop
 add-sum c =
     let loop = c .before .before .loop in
@@ -38,15 +35,12 @@ add-sum c =
       total-high (start .args .variables) (words (start .args .maxima .now)) (start .pre),
     )
 
--- src/tracker.rt:74:9
 add-i : tie.Need-add-i Inv-loop μ-loop
 add-i c = omega arith
 
--- src/tracker.rt:72:5
 loop-less : tie.Need-loop-less Inv-loop μ-loop
 loop-less c = omega arith
 
--- src/tracker.rt:72:5
 loop-again : tie.Need-loop-again Inv-loop μ-loop
 loop-again c =
     let loop = c .before .before .loop in
@@ -54,7 +48,6 @@ loop-again c =
     total-step (words (start .args .maxima .now)) (loop .i) (loop .sum) (c .get .result) (loop .inv)
     (omega (arith, length-words (start .args .maxima .now), start .pre .one-each)) (c .get .ensures)
 
--- src/tracker.rt:65:1
 returns : tie.Need-returns Inv-loop μ-loop
 returns c =
     let loop = c .before .loop in

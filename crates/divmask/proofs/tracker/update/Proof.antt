@@ -25,44 +25,35 @@ Inv-loop maxima₀ variables monomial i₀ maxima i = Updating variables (first 
 abbrev μ-loop : tie.MeasureT-loop
 μ-loop maxima₀ variables monomial i₀ maxima i = length (first 1 (words monomial)) - i
 
--- src/tracker.rt:52:5
 loop-holds : tie.Need-loop-holds Inv-loop μ-loop
 loop-holds c =
     let start = c .before .before in
     begin (start .args .maxima .now) (first-canonical (omega arith) (start .pre .1 .1)) (start .pre .1 .0) (start .pre .0)
     (λ k. omega (arith, (c .before .slice-known .given) k))
 
--- src/tracker.rt:53:13
 get-requires : tie.Need-get-requires Inv-loop μ-loop
 get-requires c κs = omega (arith, first-bytes 1 (c .before .before .before .args .monomial .now), within (c .loop .inv .ra))
 
--- src/tracker.rt:54:12
 is-end-requires : tie.Need-is-end-requires Inv-loop μ-loop
 is-end-requires c κs = search needs
 
--- src/tracker.rt:55:13
 same-length : tie.Need-same-length Inv-loop μ-loop
 same-length c = c .before .before .before .loop .inv .kept
 
--- src/tracker.rt:55:13
 returns : tie.Need-returns Inv-loop μ-loop
 returns c =
     let loop = c .before .before .before .loop in
     at-end (loop .inv) (seen _ (loop .inv .ra) (c .before .before .get .ensures)) (is-end-true _ (c .before .is-end .ensures) (c .if1 .taken))
 
--- src/tracker.rt:57:17
 id-requires : tie.Need-id-requires Inv-loop μ-loop
 id-requires c κs = search needs
 
--- src/tracker.rt:57:17
 cast-v : tie.Need-cast-v Inv-loop μ-loop
 cast-v c = omega arith
 
--- src/tracker.rt:58:13
 power-requires : tie.Need-power-requires Inv-loop μ-loop
 power-requires c κs = search needs
 
--- src/tracker.rt:59:17
 get-requires-2 : tie.Need-get-requires-2 Inv-loop μ-loop
 get-requires-2 c κs =
     let is-end = c .before .before .before .before .is-end in
@@ -76,11 +67,9 @@ get-requires-2 c κs =
       loop .inv .whole,
     )
 
--- src/tracker.rt:60:13
 same-length-2 : tie.Need-same-length-2 Inv-loop μ-loop
 same-length-2 c = c .before .before .before .before .before .before .before .before .loop .inv .kept
 
--- src/tracker.rt:60:13
 returns-2 : tie.Need-returns-2 Inv-loop μ-loop
 returns-2 c =
     let id = c .before .before .before .before .id in
@@ -91,7 +80,6 @@ returns-2 c =
     not-above (loop .inv) (seen _ (loop .inv .ra) (b7 .get .ensures)) (is-end-false _ (is-end .ensures) (if1 .left))
     (omega (arith, rw (id .ensures) at (c .before .get2 .ensures), c .before .before .before .power .ensures))
 
--- src/tracker.rt:62:9
 put-requires : tie.Need-put-requires Inv-loop μ-loop
 put-requires c κs =
     let id = c .before .before .before .before .before .id in
@@ -106,18 +94,15 @@ put-requires c κs =
       loop .inv .whole,
     )
 
--- src/tracker.rt:63:9
 add-i : tie.Need-add-i Inv-loop μ-loop
 add-i c =
     let b12 = c .before .before .before .before .before .before .before .before .before .before .before .before in
     let start = b12 .before .before .before in
     omega (arith, first-bytes 1 (start .args .monomial .now), within (b12 .loop .inv .ra))
 
--- src/tracker.rt:52:5
 loop-less : tie.Need-loop-less Inv-loop μ-loop
 loop-less c = omega (arith, within (c .before .before .before .before .before .before .before .before .before .before .before .before .loop .inv .ra))
 
--- src/tracker.rt:52:5
 loop-again : tie.Need-loop-again Inv-loop μ-loop
 loop-again c =
     let get2 = c .before .before .before .before .before .get2 in

@@ -17,25 +17,20 @@ use Rattle.fast_compare.proofs.soundness.sound.Reads as sound-reads
 use Rattle.monomial.proofs.is_canonical.Reads as is-canonical-reads
 use Rattle.words.proofs.get.Reads as get-reads
 
--- src/doors.rt:32:9
 sound-requires : tie.Need-sound-requires
 sound-requires c κs = search needs
 
--- src/doors.rt:33:9
 same-length : tie.Need-same-length
 same-length c = search needs
 
--- src/doors.rt:33:9
 returns : tie.Need-returns
 returns c =
     let start = c .before .before .before .before .before in
     asking-unsound (start .args .index) (start .args .ratio .now) (start .args .image .now) (failed _ (c .before .sound .ensures) (c .if1 .taken))
 
--- src/doors.rt:36:9
 same-length-2 : tie.Need-same-length-2
 same-length-2 c = search needs
 
--- src/doors.rt:36:9
 returns-2 : tie.Need-returns-2
 returns-2 c =
     let slice-known = c .before .before .before .before .before .slice-known in
@@ -43,21 +38,17 @@ returns-2 c =
     asking-bad (start .args .index) (start .args .ratio .now) (start .args .image .now) (λ j. (slice-known .given) j .fits)
     (passed _ (c .before .before .sound .ensures) (c .before .if1 .left)) (λ st i. large-index _ (start .args .index) (start .args .ratio .now) (omega arith))
 
--- src/doors.rt:38:9
 get-requires : tie.Need-get-requires
 get-requires c κs =
     let start = c .before .before .before .before .before .before .before in
     omega (arith, head (start .args .image .now) (passed _ (c .before .before .before .sound .ensures) (c .before .before .if1 .left)) .room)
 
--- src/doors.rt:39:9
 is-canonical-requires : tie.Need-is-canonical-requires
 is-canonical-requires c κs = search needs
 
--- src/doors.rt:40:9
 same-length-3 : tie.Need-same-length-3
 same-length-3 c = search needs
 
--- src/doors.rt:40:9
 returns-3 : tie.Need-returns-3
 returns-3 c =
     let if1 = c .before .before .before .before .before .if1 in
@@ -68,7 +59,6 @@ returns-3 c =
     (passed _ (sound .ensures) (if1 .left)) (λ st i. bad-ratio (st .variables) (start .args .index) (start .args .ratio .now)
     (rw (← vars-of (start .args .image .now) st i, ← (c .before .before .get .ensures)) (sym (c .before .is-canonical .ensures) ∙ not-true _ (c .if3 .taken))))
 
--- src/doors.rt:42:9
 get-comparer-requires : tie.Need-get-comparer-requires
 get-comparer-requires c κs =
     let if1 = c .before .before .before .before .before .before .if1 in
@@ -79,15 +69,12 @@ get-comparer-requires c κs =
           (omega arith) (rw (← (c .before .before .before .get .ensures)) (sym (c .before .before .is-canonical .ensures) ∙ not-false _ (c .before .if3 .left))) .1,
     )
 
--- src/doors.rt:43:5
 told-requires : tie.Need-told-requires
 told-requires c κs = search needs
 
--- src/doors.rt:29:1
 same-length-4 : tie.Need-same-length-4
 same-length-4 c = search needs
 
--- src/doors.rt:29:1
 returns-4 : tie.Need-returns-4
 returns-4 c =
     let get-comparer = c .before .before .before .get-comparer in

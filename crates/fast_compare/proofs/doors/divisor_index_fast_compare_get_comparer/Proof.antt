@@ -7,19 +7,15 @@ use Rattle.fast_compare.proofs.doors.divisor_index_fast_compare_get_com
 use Rattle.fast_compare.proofs.doors.ask.Reads as ask-reads
 use Rattle.fast_compare.proofs.doors.number.Reads as number-reads
 
--- src/doors.rt:93:9
 ask-requires : tie.Need-ask-requires
 ask-requires c κs = search needs
 
--- src/doors.rt:94:5
 number-requires : tie.Need-number-requires
 number-requires c κs = search needs
 
--- src/doors.rt:89:1
 same-length : tie.Need-same-length
 same-length c = search needs
 
--- src/doors.rt:89:1
 returns : tie.Need-returns
 returns c =
     let number = c .number in

@@ -11,25 +11,20 @@ use Rattle.fast_compare.proofs.doors.divisor_index_fast_compare_length.
 use Rattle.monomial.proofs.sizes.sizes_fit.Reads as sizes-fit-reads
 use Rattle.fast_compare.proofs.length.Reads as length-reads
 
--- src/doors.rt:65:9
 sizes-fit-requires : tie.Need-sizes-fit-requires
 sizes-fit-requires c κs = search needs
 
--- src/doors.rt:66:9
 returns : tie.Need-returns
 returns c = length-refused (c .before .before .args .variables) (c .before .before .args .capacity) (failed _ (sizes-asked _ _ (c .before .sizes-fit .ensures)) (c .if1 .taken))
 
--- src/doors.rt:68:5
 length-requires : tie.Need-length-requires
 length-requires c κs = let a = passed _ (sizes-asked _ _ (c .before .sizes-fit .ensures)) (c .if1 .left) in (a .vars-to, a .cap-to)
 
--- src/doors.rt:68:5
 cast-result : tie.Need-cast-result
 cast-result c =
     let a = passed _ (sizes-asked _ _ (c .before .before .sizes-fit .ensures)) (c .before .if1 .left) in
     omega (arith, c .length .ensures, length-small (c .before .before .before .args .variables) (c .before .before .before .args .capacity) a)
 
--- src/doors.rt:61:1
 returns-2 : tie.Need-returns-2
 returns-2 c = c .length .ensures ∙ length-served (c .before .before .before .args .variables) (c .before .before .before .args .capacity) (passed _ (sizes-asked _ _ (c .before .before .sizes-fit .ensures)) (c .before .if1 .left))
 

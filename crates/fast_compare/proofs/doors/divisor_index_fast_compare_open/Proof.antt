@@ -11,38 +11,31 @@ use Rattle.monomial.proofs.sizes.sizes_fit.Reads as sizes-fit-reads
 use Rattle.fast_compare.proofs.length.Reads as length-reads
 use Rattle.fast_compare.proofs.open.Reads as open-reads
 
--- src/doors.rt:78:9
 sizes-fit-requires : tie.Need-sizes-fit-requires
 sizes-fit-requires c κs = search needs
 
--- src/doors.rt:79:9
 returns : tie.Need-returns
 returns c =
     let start = c .before .before .before in
     open-unasked (start .args .variables) (start .args .capacity) (start .args .image .now) (failed _ (sizes-asked _ _ (c .before .sizes-fit .ensures)) (c .if1 .taken))
 
--- src/doors.rt:81:22
 length-requires : tie.Need-length-requires
 length-requires c κs = let a = passed _ (sizes-asked _ _ (c .before .sizes-fit .ensures)) (c .if1 .left) in (a .vars-to, a .cap-to)
 
--- src/doors.rt:82:9
 returns-2 : tie.Need-returns-2
 returns-2 c =
     let start = c .before .before .before .before .before in
     open-short (start .args .variables) (start .args .capacity) (start .args .image .now)
     (passed _ (sizes-asked _ _ (c .before .before .before .sizes-fit .ensures)) (c .before .before .if1 .left)) (omega (arith, c .before .length .ensures))
 
--- src/doors.rt:84:5
 open-requires : tie.Need-open-requires
 open-requires c κs =
     let sizes-fit = c .before .before .before .before .sizes-fit in
     (passed _ (sizes-asked _ _ (sizes-fit .ensures)) (c .before .before .before .if1 .left), omega (arith, c .before .before .length .ensures))
 
--- src/doors.rt:72:1
 same-length : tie.Need-same-length
 same-length c = search needs
 
--- src/doors.rt:72:1
 returns-3 : tie.Need-returns-3
 returns-3 c =
     let length = c .before .before .before .before .before .length in

@@ -8,27 +8,21 @@ use Rattle.fast_compare.proofs.doors.divisor_index_fast_compare_rebuild
 use Rattle.fast_compare.proofs.rebuild.Reads as rebuild-reads
 use Rattle.fast_compare.proofs.soundness.sound.Reads as sound-reads
 
--- src/doors.rt:102:9
 sound-requires : tie.Need-sound-requires
 sound-requires c κs = search needs
 
--- src/doors.rt:103:9
 same-length : tie.Need-same-length
 same-length c = search needs
 
--- src/doors.rt:103:9
 returns : tie.Need-returns
 returns c = rebuilt-unsound (c .before .before .before .before .args .image .now) (failed _ (c .before .sound .ensures) (c .if1 .taken))
 
--- src/doors.rt:105:5
 rebuild-requires : tie.Need-rebuild-requires
 rebuild-requires c κs = passed _ (c .before .before .sound .ensures) (c .before .if1 .left)
 
--- src/doors.rt:98:1
 same-length-2 : tie.Need-same-length-2
 same-length-2 c = search needs
 
--- src/doors.rt:98:1
 returns-2 : tie.Need-returns-2
 returns-2 c =
     let if1 = c .before .before .before .before .if1 in

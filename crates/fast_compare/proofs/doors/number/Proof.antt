@@ -8,67 +8,52 @@ use Rattle.fast_compare.proofs.doors.number.Tie as tie
 use Rattle.fast_compare.proofs.doors.number.Reads as reads
 use Rattle.fast_compare.proofs.doors.number.Lts as lts
 
--- src/doors.rt:52:23
 enum-known-a : tie.Need-enum-known-a
 enum-known-a c = search needs
 
--- src/doors.rt:52:29
 cast-result : tie.Need-cast-result
 cast-result c = search needs
 
--- src/doors.rt:53:28
 enum-told : tie.Need-enum-told
 enum-told c = search needs
 
--- src/doors.rt:53:28
 mul-result : tie.Need-mul-result
 mul-result c = search needs
 
--- src/doors.rt:54:29
 enum-told-2 : tie.Need-enum-told-2
 enum-told-2 c = search needs
 
--- src/doors.rt:54:29
 mul-result-2 : tie.Need-mul-result-2
 mul-result-2 c = search needs
 
--- src/doors.rt:55:27
 enum-told-3 : tie.Need-enum-told-3
 enum-told-3 c = search needs
 
--- src/doors.rt:55:27
 mul-result-3 : tie.Need-mul-result-3
 mul-result-3 c = search needs
 
--- src/doors.rt:56:27
 enum-told-4 : tie.Need-enum-told-4
 enum-told-4 c = search needs
 
--- src/doors.rt:56:27
 mul-result-4 : tie.Need-mul-result-4
 mul-result-4 c = search needs
 
--- src/doors.rt:47:1
 returns : tie.Need-returns
 unfolding number
 returns c = search needs
 
--- src/doors.rt:47:1
 returns-2 : tie.Need-returns-2
 unfolding number
 returns-2 c = (sym (ap number (c .enum-told .given .1)), λ x e. let z : _≡_ {A = ℕ} 0 1 = cc (sym (c .enum-told .given .1) ∙ e) in absurd (omega arith))
 
--- src/doors.rt:47:1
 returns-3 : tie.Need-returns-3
 unfolding number
 returns-3 c = (sym (ap number (c .enum-told2 .given .1)), λ x e. let z : _≡_ {A = ℕ} 0 1 = cc (sym (c .enum-told2 .given .1) ∙ e) in absurd (omega arith))
 
--- src/doors.rt:47:1
 returns-4 : tie.Need-returns-4
 unfolding number
 returns-4 c = (sym (ap number (c .enum-told3 .given .1)), λ x e. let z : _≡_ {A = ℕ} 0 1 = cc (sym (c .enum-told3 .given .1) ∙ e) in absurd (omega arith))
 
--- src/doors.rt:47:1
 returns-5 : tie.Need-returns-5
 unfolding number
 returns-5 c = (sym (ap number (c .enum-told4 .given .1)), λ x e. let z : _≡_ {A = ℕ} 0 1 = cc (sym (c .enum-told4 .given .1) ∙ e) in absurd (omega arith))

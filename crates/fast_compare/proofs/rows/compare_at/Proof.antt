@@ -16,47 +16,37 @@ use Rattle.monomial.proofs.monomial_ordering.ord_by_totals.Reads as ord-by-tota
 use Rattle.words.proofs.get.Reads as get-reads
 use Rattle.words.proofs.payload.Reads as payload-reads
 
--- src/rows.rt:39:28
 get-requires : tie.Need-get-requires
 get-requires c κs = omega (arith, row-fits (c .before .before .args .map .now) (c .before .before .args .at) (c .before .before .pre .0))
 
--- src/rows.rt:39:9
 payload-requires : tie.Need-payload-requires
 payload-requires c κs = search needs
 
--- src/rows.rt:41:9
 returns : tie.Need-returns
 returns c = λ m s. let W = words (c .before .before .before .before .before .args .map .now) in
     let q = valueOf (c .before .before .before .before .before .args .index) (first 2 (words (c .before .before .before .before .before .args .ratio .now))) in
     cmp-less (valueAt W m (c .before .before .before .before .before .args .at)) q (omega (arith, value-index W m (c .before .before .before .before .before .args .at), c .before .before .get .ensures, c .before .payload .ensures))
 
--- src/rows.rt:44:9
 returns-2 : tie.Need-returns-2
 returns-2 c = λ m s. let W = words (c .before .before .before .before .before .before .args .map .now) in
     let q = valueOf (c .before .before .before .before .before .before .args .index) (first 2 (words (c .before .before .before .before .before .before .args .ratio .now))) in
     cmp-greater (valueAt W m (c .before .before .before .before .before .before .args .at)) q (omega (arith, value-index W m (c .before .before .before .before .before .before .args .at), c .before .before .before .get .ensures, c .before .before .payload .ensures))
 
--- src/rows.rt:46:18
 add-a : tie.Need-add-a
 add-a c = omega (arith, row-fits (c .before .before .before .before .before .before .args .map .now) (c .before .before .before .before .before .before .args .at) (c .before .before .before .before .before .before .pre .0))
 
--- src/rows.rt:46:13
 mul-a : tie.Need-mul-a
 mul-a c = omega (arith, row-fits (c .before .before .before .before .before .before .args .map .now) (c .before .before .before .before .before .before .args .at) (c .before .before .before .before .before .before .pre .0))
 
--- src/rows.rt:47:48
 sub-ord-by-totals : tie.Need-sub-ord-by-totals
 sub-ord-by-totals c = omega (arith, row-fits (c .before .before .before .before .before .before .args .map .now) (c .before .before .before .before .before .before .args .at) (c .before .before .before .before .before .before .pre .0))
 
--- src/rows.rt:47:48
 part-ord-by-totals-start : tie.Need-part-ord-by-totals-start
 part-ord-by-totals-start c = omega (arith, row-fits (c .before .before .before .before .before .before .args .map .now) (c .before .before .before .before .before .before .args .at) (c .before .before .before .before .before .before .pre .0))
 
--- src/rows.rt:47:48
 part-ord-by-totals-end : tie.Need-part-ord-by-totals-end
 part-ord-by-totals-end c = search needs
 
--- src/rows.rt:47:5
 ord-by-totals-requires : tie.Need-ord-by-totals-requires
 ord-by-totals-requires c κs = let start = (c .before .before .before .before .before .before .before) in (
   (omega arith, omega arith),
@@ -66,7 +56,6 @@ ord-by-totals-requires c κs = let start = (c .before .before .before .before .b
   ),
 )
 
--- src/rows.rt:25:1
 returns-3 : tie.Need-returns-3
 returns-3 c = let start = (c .before .before .before .before .before .before .before .before) in
     λ m s. let W = words (start .args .map .now) in

@@ -38,35 +38,27 @@ compared c =
 
 -- end of helpers
 
--- src/rows.rt:60:28
 get-requires : tie.Need-get-requires
 get-requires c κs = search needs
 
--- src/rows.rt:60:9
 payload-requires : tie.Need-payload-requires
 payload-requires c κs = search needs
 
--- src/rows.rt:61:18
 add-x : tie.Need-add-x
 add-x c = search needs
 
--- src/rows.rt:61:13
 mul-x : tie.Need-mul-x
 mul-x c = search needs
 
--- src/rows.rt:62:38
 sub-compare-at : tie.Need-sub-compare-at
 sub-compare-at c = search needs
 
--- src/rows.rt:62:38
 part-compare-at-start : tie.Need-part-compare-at-start
 part-compare-at-start c = search needs
 
--- src/rows.rt:62:38
 part-compare-at-end : tie.Need-part-compare-at-end
 part-compare-at-end c = search needs
 
--- src/rows.rt:62:9
 compare-at-requires : tie.Need-compare-at-requires
 compare-at-requires c κs = let s = (c .before .before .before .before) in
     let h : HasRatio (words (s .args .map .now)) (s .args .a + 1) = record { vars = s .args .variables; few = omega arith; some = s .pre .1 .0 .some } in (
@@ -80,43 +72,33 @@ compare-at-requires c κs = let s = (c .before .before .before .before) in
       ),
     )
 
--- src/rows.rt:64:46
 enum-told : tie.Need-enum-told
 enum-told c = search needs
 
--- src/rows.rt:64:46
 add-get : tie.Need-add-get
 add-get c = search needs
 
--- src/rows.rt:64:41
 add-get-2 : tie.Need-add-get-2
 add-get-2 c = search needs
 
--- src/rows.rt:64:25
 get-requires-2 : tie.Need-get-requires-2
 get-requires-2 c κs = search needs
 
--- src/rows.rt:64:85
 add-get-3 : tie.Need-add-get-3
 add-get-3 c = search needs
 
--- src/rows.rt:64:80
 add-get-4 : tie.Need-add-get-4
 add-get-4 c = search needs
 
--- src/rows.rt:64:64
 get-requires-3 : tie.Need-get-requires-3
 get-requires-3 c κs = search needs
 
--- src/rows.rt:65:26
 enum-told-2 : tie.Need-enum-told-2
 enum-told-2 c = search needs
 
--- src/rows.rt:66:28
 enum-told-3 : tie.Need-enum-told-3
 enum-told-3 c = search needs
 
--- src/rows.rt:51:1
 returns : tie.Need-returns
 returns c = (
   λ z. record {
@@ -126,11 +108,9 @@ returns c = (
   λ h. lt-ltb (c .before .get2 .result) (c .get3 .result) (omega (arith, h .labels, c .before .get2 .ensures, c .get3 .ensures)),
 )
 
--- src/rows.rt:51:1
 returns-2 : tie.Need-returns-2
 returns-2 c = (λ z. never z, λ h. less-equal (sym (h .values) ∙ sym (compared (c .before .before)) ∙ c .enum-told2 .given .1))
 
--- src/rows.rt:51:1
 returns-3 : tie.Need-returns-3
 returns-3 c = (λ z. never z, λ h. less-greater (sym (h .values) ∙ sym (compared (c .before .before)) ∙ c .enum-told3 .given .1))
 

@@ -8,31 +8,24 @@ use Rattle.fast_compare.proofs.rows.total_at.Reads as reads
 use Rattle.fast_compare.proofs.rows.total_at.Lts as lts
 use Rattle.monomial.proofs.monomial_ordering.total_of.Reads as total-of-reads
 
--- src/rows.rt:20:18
 add-a : tie.Need-add-a
 add-a c = omega (arith, row-fits (c .before .args .map .now) (c .before .args .at) (c .before .pre))
 
--- src/rows.rt:20:13
 mul-a : tie.Need-mul-a
 mul-a c = omega (arith, row-fits (c .before .args .map .now) (c .before .args .at) (c .before .pre))
 
--- src/rows.rt:21:43
 sub-total-of : tie.Need-sub-total-of
 sub-total-of c = omega (arith, row-fits (c .before .args .map .now) (c .before .args .at) (c .before .pre))
 
--- src/rows.rt:21:43
 part-total-of-start : tie.Need-part-total-of-start
 part-total-of-start c = omega (arith, row-fits (c .before .args .map .now) (c .before .args .at) (c .before .pre))
 
--- src/rows.rt:21:43
 part-total-of-end : tie.Need-part-total-of-end
 part-total-of-end c = search needs
 
--- src/rows.rt:21:5
 total-of-requires : tie.Need-total-of-requires
 total-of-requires c κs = ((omega arith, omega arith), ratio-starts (c .before .before .args .map .now) (c .before .before .pre .vars) ((c .before .before .args .at) + 1) (c .before .before .pre .some))
 
--- src/rows.rt:16:1
 returns : tie.Need-returns
 returns c = total-lent (c .before .before .before .args .map .now) (c .before .before .before .args .at) (c .total-of .result) .1 (c .total-of .ensures)
 

@@ -12,63 +12,48 @@ use Rattle.monomial.proofs.sizes.sizes_fit.Reads as sizes-fit-reads
 use Rattle.fast_compare.proofs.length.Reads as length-reads
 use Rattle.words.proofs.get.Reads as get-reads
 
--- src/soundness.rt:106:9
 sizes-fit-requires : tie.Need-sizes-fit-requires
 sizes-fit-requires c κs = search needs
 
--- src/soundness.rt:107:9
 returns : tie.Need-returns
 returns c = refuse (λ h. failed _ (sizes-asked _ _ (c .before .sizes-fit .ensures)) (c .if1 .taken) (record { vars-from = h .vars-from; vars-to = h .vars-to; cap-from = h .cap-from; cap-to = h .cap-to }))
 
--- src/soundness.rt:109:20
 length-requires : tie.Need-length-requires
 length-requires c κs = let a = passed _ (sizes-asked _ _ (c .before .sizes-fit .ensures)) (c .if1 .left) in (a .vars-to, a .cap-to)
 
--- src/soundness.rt:110:9
 returns-2 : tie.Need-returns-2
 returns-2 c = refuse (λ h. omega (arith, h .room, c .before .length .ensures))
 
--- src/soundness.rt:112:8
 get-requires : tie.Need-get-requires
 get-requires c κs = omega (arith, c .before .length .ensures)
 
--- src/soundness.rt:113:9
 returns-3 : tie.Need-returns-3
 returns-3 c = refuse (λ h. (c .if3 .taken) (c .before .get .ensures ∙ h .layout))
 
--- src/soundness.rt:115:8
 get-requires-2 : tie.Need-get-requires-2
 get-requires-2 c κs = omega (arith, c .before .before .before .length .ensures)
 
--- src/soundness.rt:115:8
 cast-if4 : tie.Need-cast-if4
 cast-if4 c = search needs
 
--- src/soundness.rt:116:9
 returns-4 : tie.Need-returns-4
 returns-4 c = refuse (λ h. (c .if4 .taken) (c .before .get2 .ensures ∙ h .variables))
 
--- src/soundness.rt:118:8
 get-requires-3 : tie.Need-get-requires-3
 get-requires-3 c κs = omega (arith, c .before .before .before .before .before .length .ensures)
 
--- src/soundness.rt:118:8
 cast-if5 : tie.Need-cast-if5
 cast-if5 c = search needs
 
--- src/soundness.rt:119:9
 returns-5 : tie.Need-returns-5
 returns-5 c = refuse (λ h. (c .if5 .taken) (c .before .get3 .ensures ∙ h .capacity))
 
--- src/soundness.rt:121:5
 get-requires-4 : tie.Need-get-requires-4
 get-requires-4 c κs = omega (arith, c .before .before .before .before .before .before .before .length .ensures)
 
--- src/soundness.rt:121:5
 cast-result : tie.Need-cast-result
 cast-result c = search needs
 
--- src/soundness.rt:103:1
 returns-6 : tie.Need-returns-6
 returns-6 c = let a = passed _ (sizes-asked _ _ (c .before .before .before .before .before .before .before .before .before .before .sizes-fit .ensures)) (c .before .before .before .before .before .before .before .before .before .if1 .left) in (
   λ z. record {

@@ -18,39 +18,30 @@ Inv-loop map at n i₀ i = (i ≤ n) × ((k : ℕ) → k < i → getD (words map
 abbrev μ-loop : tie.MeasureT-loop
 μ-loop map at n i₀ i = n - i
 
--- src/soundness.rt:50:5
 loop-holds : tie.Need-loop-holds Inv-loop μ-loop
 loop-holds c = (omega arith, λ k h. absurd (omega arith))
 
--- src/soundness.rt:51:33
 add-get : tie.Need-add-get Inv-loop μ-loop
 add-get c = search needs
 
--- src/soundness.rt:51:17
 get-requires : tie.Need-get-requires Inv-loop μ-loop
 get-requires c κs = search needs
 
--- src/soundness.rt:51:17
 cast-if1 : tie.Need-cast-if1 Inv-loop μ-loop
 cast-if1 c = search needs
 
--- src/soundness.rt:52:13
 returns : tie.Need-returns Inv-loop μ-loop
 returns c = refuse (λ h. omega (arith, h (c .before .before .before .loop .i) (omega arith), c .before .get .ensures))
 
--- src/soundness.rt:54:9
 add-i : tie.Need-add-i Inv-loop μ-loop
 add-i c = search needs
 
--- src/soundness.rt:50:5
 loop-less : tie.Need-loop-less Inv-loop μ-loop
 loop-less c = search needs
 
--- src/soundness.rt:50:5
 loop-again : tie.Need-loop-again Inv-loop μ-loop
 loop-again c = (omega arith, below-more _ (c .before .before .before .loop .i) (c .before .before .before .loop .inv .1) (omega (arith, c .before .get .ensures)))
 
--- src/soundness.rt:45:1
 returns-2 : tie.Need-returns-2 Inv-loop μ-loop
 returns-2 c = let e : (c .before .loop .i) ≡ (c .before .before .before .args .n) = omega arith in accept (rw e at (c .before .loop .inv .1))
 

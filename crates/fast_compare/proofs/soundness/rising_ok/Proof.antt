@@ -35,36 +35,28 @@ front s x e = let z : s .args .at + 0 ≡ s .args .at = omega arith in rw z e
 
 -- end of helpers
 
--- src/soundness.rt:68:9
 returns : tie.Need-returns Inv-loop μ-loop
 returns c = accept (λ k h. absurd (omega arith))
 
--- src/soundness.rt:70:21
 get-requires : tie.Need-get-requires Inv-loop μ-loop
 get-requires c κs = search needs
 
--- src/soundness.rt:70:21
 cast-a : tie.Need-cast-a Inv-loop μ-loop
 cast-a c = search needs
 
--- src/soundness.rt:70:53
 add-a : tie.Need-add-a Inv-loop μ-loop
 add-a c = search needs
 
--- src/soundness.rt:70:21
 mul-a : tie.Need-mul-a Inv-loop μ-loop
 mul-a c = omega (arith, row-of (c .before .before .before) 0 (c .get .result) (omega arith) (front (c .before .before .before) (c .get .result) (c .get .ensures)) .few)
 
--- src/soundness.rt:70:17
 add-a-2 : tie.Need-add-a-2 Inv-loop μ-loop
 add-a-2 c = omega (arith, row-of (c .before .before .before) 0 (c .get .result) (omega arith) (front (c .before .before .before) (c .get .result) (c .get .ensures)) .few)
 
--- src/soundness.rt:71:9
 total-at-requires : tie.Need-total-at-requires Inv-loop μ-loop
 total-at-requires c κs = let start = (c .before .before .before) in
     record { vars = start .args .variables; few = omega arith; some = row-of start 0 (c .get .result) (omega arith) (front start (c .get .result) (c .get .ensures)) .ok .some }
 
--- src/soundness.rt:73:5
 loop-holds : tie.Need-loop-holds Inv-loop μ-loop
 loop-holds c = let start = (c .before .before .before .before) in (
   (omega arith, omega arith),
@@ -74,36 +66,28 @@ loop-holds c = let start = (c .before .before .before .before) in (
   ),
 )
 
--- src/soundness.rt:74:37
 add-get : tie.Need-add-get Inv-loop μ-loop
 add-get c = search needs
 
--- src/soundness.rt:74:21
 get-requires-2 : tie.Need-get-requires-2 Inv-loop μ-loop
 get-requires-2 c κs = search needs
 
--- src/soundness.rt:74:21
 cast-b : tie.Need-cast-b Inv-loop μ-loop
 cast-b c = search needs
 
--- src/soundness.rt:74:57
 add-b : tie.Need-add-b Inv-loop μ-loop
 add-b c = search needs
 
--- src/soundness.rt:74:21
 mul-b : tie.Need-mul-b Inv-loop μ-loop
 mul-b c = omega (arith, row-of (c .before .before .before .before .before .before .before) (c .before .before .loop .i) (c .get2 .result) (omega arith) (c .get2 .ensures) .few)
 
--- src/soundness.rt:74:17
 add-b-2 : tie.Need-add-b-2 Inv-loop μ-loop
 add-b-2 c = omega (arith, row-of (c .before .before .before .before .before .before .before) (c .before .before .loop .i) (c .get2 .result) (omega arith) (c .get2 .ensures) .few)
 
--- src/soundness.rt:75:13
 total-at-requires-2 : tie.Need-total-at-requires-2 Inv-loop μ-loop
 total-at-requires-2 c κs = let start = (c .before .before .before .before .before .before .before) in
     record { vars = start .args .variables; few = omega arith; some = row-of start (c .before .before .loop .i) (c .get2 .result) (omega arith) (c .get2 .ensures) .ok .some }
 
--- src/soundness.rt:76:13
 rises-requires : tie.Need-rises-requires Inv-loop μ-loop
 rises-requires c κs = let start = (c .before .before .before .before .before .before .before .before) in
     let loop = (c .before .before .before .loop) in
@@ -111,21 +95,17 @@ rises-requires c κs = let start = (c .before .before .before .before .before .b
     let b = row-of start (loop .i) (c .before .get2 .result) (omega arith) (c .before .get2 .ensures) in
     (omega arith, (rw (loop .inv .1 .0) (a .ok), (b .ok, ((rw (loop .inv .1 .0) (a .fits), b .fits), (loop .inv .1 .1 .0, c .total-at2 .ensures)))))
 
--- src/soundness.rt:77:13
 returns-2 : tie.Need-returns-2 Inv-loop μ-loop
 returns-2 c = let loop = (c .before .before .before .before .before .loop) in
     let e : suc (loop .i - 1) ≡ loop .i = omega arith in
     refuse (λ h. failed _ (c .before .rises .ensures) (c .if2 .taken) (rw (loop .inv .1 .0, c .before .before .before .get2 .ensures) (rw e at (h (loop .i - 1) (omega arith)))))
 
--- src/soundness.rt:81:9
 add-i : tie.Need-add-i Inv-loop μ-loop
 add-i c = search needs
 
--- src/soundness.rt:73:5
 loop-less : tie.Need-loop-less Inv-loop μ-loop
 loop-less c = search needs
 
--- src/soundness.rt:73:5
 loop-again : tie.Need-loop-again Inv-loop μ-loop
 loop-again c = let loop = (c .before .before .before .before .before .loop) in
     let start = (c .before .before .before .before .before .before .before .before .before .before) in
@@ -140,7 +120,6 @@ loop-again c = let loop = (c .before .before .before .before .before .loop) in
       ),
     )
 
--- src/soundness.rt:60:1
 returns-3 : tie.Need-returns-3 Inv-loop μ-loop
 returns-3 c = accept (λ k h. (c .before .loop .inv .1 .1 .1) k (omega arith))
 

@@ -15,35 +15,27 @@ use Rattle.words.proofs.get.Reads as get-reads
 use Rattle.words.proofs.kind.Reads as kind-reads
 use Rattle.words.proofs.runs.is_blank.Reads as is-blank-reads
 
--- src/soundness.rt:17:9
 get-requires : tie.Need-get-requires
 get-requires c κs = search needs
 
--- src/soundness.rt:18:8
 kind-requires : tie.Need-kind-requires
 kind-requires c κs = search needs
 
--- src/soundness.rt:19:9
 returns : tie.Need-returns
 returns c = refuse (λ h. (c .if1 .taken) (c .before .kind .ensures ∙ ap kind (c .before .before .get .ensures) ∙ h .kinded))
 
--- src/soundness.rt:21:44
 add-canonical-words : tie.Need-add-canonical-words
 add-canonical-words c = search needs
 
--- src/soundness.rt:21:55
 cast-canonical-words : tie.Need-cast-canonical-words
 cast-canonical-words c = search needs
 
--- src/soundness.rt:21:9
 canonical-words-requires : tie.Need-canonical-words-requires
 canonical-words-requires c κs = search needs
 
--- src/soundness.rt:23:9
 returns-2 : tie.Need-returns-2
 returns-2 c = refuse (λ h. h .some (sym (c .before .canonical-words .ensures) ∙ c .if2 .taken))
 
--- src/soundness.rt:25:32
 add-is-blank : tie.Need-add-is-blank
 add-is-blank c =
     let start = c .before .before .before .before .before .before in
@@ -54,7 +46,6 @@ add-is-blank c =
       c .before .canonical-words .ensures,
     )
 
--- src/soundness.rt:25:32
 add-is-blank-2 : tie.Need-add-is-blank-2
 add-is-blank-2 c =
     let start = c .before .before .before .before .before .before in
@@ -65,7 +56,6 @@ add-is-blank-2 c =
       c .before .canonical-words .ensures,
     )
 
--- src/soundness.rt:25:44
 add-is-blank-3 : tie.Need-add-is-blank-3
 add-is-blank-3 c =
     let start = c .before .before .before .before .before .before in
@@ -76,7 +66,6 @@ add-is-blank-3 c =
       c .before .canonical-words .ensures,
     )
 
--- src/soundness.rt:25:44
 sub-is-blank : tie.Need-sub-is-blank
 sub-is-blank c =
     let start = c .before .before .before .before .before .before in
@@ -87,7 +76,6 @@ sub-is-blank c =
       c .before .canonical-words .ensures,
     )
 
--- src/soundness.rt:25:5
 is-blank-requires : tie.Need-is-blank-requires
 is-blank-requires c κs =
     let start = c .before .before .before .before .before .before in
@@ -98,7 +86,6 @@ is-blank-requires c κs =
       c .before .canonical-words .ensures,
     )
 
--- src/soundness.rt:12:1
 returns-3 : tie.Need-returns-3
 returns-3 c =
     let canonical-words = c .before .before .canonical-words in

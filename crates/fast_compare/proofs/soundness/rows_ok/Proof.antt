@@ -20,43 +20,33 @@ Inv-loop map variables n i₀ i = (i ≤ n) × ((k : ℕ) → k < i → RowOk (w
 abbrev μ-loop : tie.MeasureT-loop
 μ-loop map variables n i₀ i = n - i
 
--- src/soundness.rt:35:5
 loop-holds : tie.Need-loop-holds Inv-loop μ-loop
 loop-holds c = (omega arith, λ k h. absurd (omega arith))
 
--- src/soundness.rt:36:45
 add-row-ok : tie.Need-add-row-ok Inv-loop μ-loop
 add-row-ok c = omega (arith, rows-small (c .before .before .before .args .variables) (c .before .loop .i) (omega arith) (omega arith))
 
--- src/soundness.rt:36:40
 mul-row-ok : tie.Need-mul-row-ok Inv-loop μ-loop
 mul-row-ok c = omega (arith, rows-small (c .before .before .before .args .variables) (c .before .loop .i) (omega arith) (omega arith))
 
--- src/soundness.rt:36:36
 add-row-ok-2 : tie.Need-add-row-ok-2 Inv-loop μ-loop
 add-row-ok-2 c = omega (arith, rows-small (c .before .before .before .args .variables) (c .before .loop .i) (omega arith) (omega arith))
 
--- src/soundness.rt:36:13
 row-ok-requires : tie.Need-row-ok-requires Inv-loop μ-loop
 row-ok-requires c κs = (omega arith, omega (arith, row-fits (c .before .loop .i) (c .before .before .before .args .n) ((c .before .before .before .args .variables) + 3) (omega arith)))
 
--- src/soundness.rt:37:13
 returns : tie.Need-returns Inv-loop μ-loop
 returns c = refuse (λ h. failed _ (c .before .row-ok .ensures) (c .if1 .taken) (h (c .before .before .before .loop .i) (omega arith)))
 
--- src/soundness.rt:39:9
 add-i : tie.Need-add-i Inv-loop μ-loop
 add-i c = omega (arith, rows-small (c .before .before .before .before .before .args .variables) (c .before .before .before .loop .i) (omega arith) (omega arith))
 
--- src/soundness.rt:35:5
 loop-less : tie.Need-loop-less Inv-loop μ-loop
 loop-less c = search needs
 
--- src/soundness.rt:35:5
 loop-again : tie.Need-loop-again Inv-loop μ-loop
 loop-again c = (omega arith, below-more _ (c .before .before .before .loop .i) (c .before .before .before .loop .inv .1) (passed _ (c .before .row-ok .ensures) (c .if1 .left)))
 
--- src/soundness.rt:29:1
 returns-2 : tie.Need-returns-2 Inv-loop μ-loop
 returns-2 c = let e : (c .before .loop .i) ≡ (c .before .before .before .args .n) = omega arith in accept (rw e at (c .before .loop .inv .1))
 

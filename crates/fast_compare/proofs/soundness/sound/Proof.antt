@@ -10,31 +10,24 @@ use Rattle.fast_compare.proofs.soundness.sound.Lts as lts
 use Rattle.fast_compare.proofs.soundness.sound_for.Reads as sound-for-reads
 use Rattle.words.proofs.get.Reads as get-reads
 
--- src/soundness.rt:140:9
 returns : tie.Need-returns
 returns c = refuse (λ s. omega (arith, sound-long (c .before .before .args .map .now) (s .state) (s .is)))
 
--- src/soundness.rt:142:21
 get-requires : tie.Need-get-requires
 get-requires c κs = search needs
 
--- src/soundness.rt:142:21
 cast-variables : tie.Need-cast-variables
 cast-variables c = search needs
 
--- src/soundness.rt:143:20
 get-requires-2 : tie.Need-get-requires-2
 get-requires-2 c κs = search needs
 
--- src/soundness.rt:143:20
 cast-capacity : tie.Need-cast-capacity
 cast-capacity c = search needs
 
--- src/soundness.rt:144:5
 sound-for-requires : tie.Need-sound-for-requires
 sound-for-requires c κs = search needs
 
--- src/soundness.rt:136:1
 returns-2 : tie.Need-returns-2
 returns-2 c = let e = rw (c .before .before .get .ensures, c .before .get2 .ensures) at (c .sound-for .ensures) in (
   λ z. record { state = e .0 z .state; is = e .0 z .is },

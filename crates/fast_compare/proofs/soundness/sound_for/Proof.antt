@@ -11,32 +11,26 @@ use Rattle.fast_compare.proofs.soundness.head_ok.Reads as head-ok-reads
 use Rattle.fast_compare.proofs.soundness.tables_ok.Reads as tables-ok-reads
 use Rattle.words.proofs.get.Reads as get-reads
 
--- src/soundness.rt:128:9
 head-ok-requires : tie.Need-head-ok-requires
 head-ok-requires c κs = search needs
 
--- src/soundness.rt:129:9
 returns : tie.Need-returns
 returns c =
     let start = c .before .before .before in
     refuse (λ s. failed _ (c .before .head-ok .ensures) (c .if1 .taken) (sound-for-iff (start .args .map .now) (start .args .variables) (start .args .capacity)
     (words-small (start .args .map .now) (λ j. (c .before .before .shared-slice-known .given) j .fits)) .1 s .0))
 
--- src/soundness.rt:131:13
 get-requires : tie.Need-get-requires
 get-requires c κs = let h = passed _ (c .before .head-ok .ensures) (c .if1 .left) in omega (arith, h .room)
 
--- src/soundness.rt:131:13
 cast-n : tie.Need-cast-n
 cast-n c = search needs
 
--- src/soundness.rt:132:5
 tables-ok-requires : tie.Need-tables-ok-requires
 tables-ok-requires c κs =
     let h = passed _ (c .before .before .head-ok .ensures) (c .before .if1 .left) in
     ((h .vars-to, (h .cap-to, omega (arith, h .few, c .get .ensures))), h .room)
 
--- src/soundness.rt:125:1
 returns-2 : tie.Need-returns-2
 returns-2 c =
     let shared-slice-known = c .before .before .before .before .shared-slice-known in

@@ -13,11 +13,9 @@ use Rattle.fast_compare.proofs.soundness.rising_ok.Reads as rising-ok-r
 use Rattle.fast_compare.proofs.soundness.rows_ok.Reads as rows-ok-reads
 use Rattle.words.proofs.runs.is_blank.Reads as is-blank-reads
 
--- src/soundness.rt:85:15
 add-row : tie.Need-add-row
 add-row c = search needs
 
--- src/soundness.rt:86:21
 mul-order : tie.Need-mul-order
 mul-order c =
     omega (
@@ -26,7 +24,6 @@ mul-order c =
       split-rows (c .before .args .n) (c .before .args .capacity) ((c .before .args .variables) + 3) (omega arith),
     )
 
--- src/soundness.rt:86:17
 add-order : tie.Need-add-order
 add-order c =
     omega (
@@ -35,15 +32,12 @@ add-order c =
       split-rows (c .before .args .n) (c .before .args .capacity) ((c .before .args .variables) + 3) (omega arith),
     )
 
--- src/soundness.rt:87:9
 rows-ok-requires : tie.Need-rows-ok-requires
 rows-ok-requires c κs = ((omega arith, omega arith), omega (arith, split-rows (c .before .args .n) (c .before .args .capacity) ((c .before .args .variables) + 3) (omega arith)))
 
--- src/soundness.rt:88:9
 returns : tie.Need-returns
 returns c = refuse (λ h. failed _ (c .before .rows-ok .ensures) (c .if1 .taken) (h .rows))
 
--- src/soundness.rt:90:40
 mul-is-blank : tie.Need-mul-is-blank
 mul-is-blank c =
     let start = c .before .before .before in
@@ -53,7 +47,6 @@ mul-is-blank c =
       split-rows (start .args .n) (start .args .capacity) ((start .args .variables) + 3) (omega arith),
     )
 
--- src/soundness.rt:90:36
 add-is-blank : tie.Need-add-is-blank
 add-is-blank c =
     let start = c .before .before .before in
@@ -63,11 +56,9 @@ add-is-blank c =
       split-rows (start .args .n) (start .args .capacity) ((start .args .variables) + 3) (omega arith),
     )
 
--- src/soundness.rt:90:50
 sub-is-blank : tie.Need-sub-is-blank
 sub-is-blank c = search needs
 
--- src/soundness.rt:90:49
 mul-is-blank-2 : tie.Need-mul-is-blank-2
 mul-is-blank-2 c =
     let start = c .before .before .before in
@@ -77,25 +68,20 @@ mul-is-blank-2 c =
       split-rows (start .args .n) (start .args .capacity) ((start .args .variables) + 3) (omega arith),
     )
 
--- src/soundness.rt:90:9
 is-blank-requires : tie.Need-is-blank-requires
 is-blank-requires c κs =
     let start = c .before .before .before in
     omega (arith, split-rows (start .args .n) (start .args .capacity) ((start .args .variables) + 3) (omega arith))
 
--- src/soundness.rt:91:9
 returns-2 : tie.Need-returns-2
 returns-2 c = refuse (λ h. failed _ (c .before .is-blank .ensures) (c .if2 .taken) (h .rows-rest))
 
--- src/soundness.rt:93:9
 numbers-ok-requires : tie.Need-numbers-ok-requires
 numbers-ok-requires c κs = search needs
 
--- src/soundness.rt:94:9
 returns-3 : tie.Need-returns-3
 returns-3 c = refuse (λ h. failed _ (c .before .numbers-ok .ensures) (c .if3 .taken) (h .order .inside))
 
--- src/soundness.rt:96:9
 rising-ok-requires : tie.Need-rising-ok-requires
 rising-ok-requires c κs =
     let if1 = c .before .before .before .before .if1 in
@@ -115,11 +101,9 @@ rising-ok-requires c κs =
       ),
     )
 
--- src/soundness.rt:97:9
 returns-4 : tie.Need-returns-4
 returns-4 c = refuse (λ h. failed _ (c .before .rising-ok .ensures) (c .if4 .taken) (h .order .up))
 
--- src/soundness.rt:99:32
 add-is-blank-2 : tie.Need-add-is-blank-2
 add-is-blank-2 c =
     let start = c .before .before .before .before .before .before .before .before .before in
@@ -129,15 +113,12 @@ add-is-blank-2 c =
       split-rows (start .args .n) (start .args .capacity) ((start .args .variables) + 3) (omega arith),
     )
 
--- src/soundness.rt:99:43
 sub-is-blank-2 : tie.Need-sub-is-blank-2
 sub-is-blank-2 c = search needs
 
--- src/soundness.rt:99:5
 is-blank-requires-2 : tie.Need-is-blank-requires-2
 is-blank-requires-2 c κs = search needs
 
--- src/soundness.rt:80:1
 returns-5 : tie.Need-returns-5
 returns-5 c =
     let numbers-ok = c .before .before .before .before .numbers-ok in

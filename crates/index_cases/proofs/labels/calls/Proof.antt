@@ -14,47 +14,36 @@ Inv-loop list₀ n falls i₀ list i = (i ≤ n) × (length list ≡ length list
 abbrev μ-loop : tie.MeasureT-loop
 μ-loop list₀ n falls i₀ list i = n - i
 
--- src/labels.rt:43:5
 loop-holds : tie.Need-loop-holds Inv-loop μ-loop
 loop-holds c = search needs
 
--- src/labels.rt:44:20
 mul-call : tie.Need-mul-call Inv-loop μ-loop
 mul-call c = search needs
 
--- src/labels.rt:44:9
 call-requires : tie.Need-call-requires Inv-loop μ-loop
 call-requires c κs = search needs
 
--- src/labels.rt:45:9
 add-i : tie.Need-add-i Inv-loop μ-loop
 add-i c = search needs
 
--- src/labels.rt:43:5
 loop-less : tie.Need-loop-less Inv-loop μ-loop
 loop-less c = search needs
 
--- src/labels.rt:43:5
 loop-again : tie.Need-loop-again Inv-loop μ-loop
 loop-again c = search needs
 
--- src/labels.rt:47:16
 mul-call-2 : tie.Need-mul-call-2 Inv-loop μ-loop
 mul-call-2 c = search needs
 
--- src/labels.rt:47:33
 sub-call : tie.Need-sub-call Inv-loop μ-loop
 sub-call c = search needs
 
--- src/labels.rt:47:5
 call-requires-2 : tie.Need-call-requires-2 Inv-loop μ-loop
 call-requires-2 c κs = search needs
 
--- src/labels.rt:39:1
 same-length : tie.Need-same-length Inv-loop μ-loop
 same-length c = search needs
 
--- src/labels.rt:39:1
 returns : tie.Need-returns Inv-loop μ-loop
 returns c = search needs
 

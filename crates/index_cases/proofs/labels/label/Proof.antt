@@ -18,46 +18,36 @@ few s r j h = times j (s .variables + 3) 64 67 (omega arith) (omega (arith, r .v
 
 -- end of helpers
 
--- src/labels.rt:70:9
 labels-at-requires : tie.Need-labels-at-requires
 labels-at-requires c κs = search needs
 
--- src/labels.rt:70:48
 add-word : tie.Need-add-word
 add-word c = search needs
 
--- src/labels.rt:70:43
 mul-word : tie.Need-mul-word
 mul-word c = omega (arith, few (c .before .before .args .s) (c .before .before .pre .0) (c .before .before .args .r) (c .before .before .pre .1))
 
--- src/labels.rt:70:26
 add-word-2 : tie.Need-add-word-2
 add-word-2 c = omega (arith, few (c .before .before .args .s) (c .before .before .pre .0) (c .before .before .args .r) (c .before .before .pre .1))
 
--- src/labels.rt:70:74
 add-word-3 : tie.Need-add-word-3
 add-word-3 c = search needs
 
--- src/labels.rt:70:26
 add-word-4 : tie.Need-add-word-4
 add-word-4 c = omega (arith, few (c .before .before .args .s) (c .before .before .pre .0) (c .before .before .args .r) (c .before .before .pre .1), c .before .before .pre .0 .vars-to)
 
--- src/labels.rt:70:9
 add-word-5 : tie.Need-add-word-5
 add-word-5 c =
     let s = c .before .before in
     let range = s .pre .0 in
     omega (arith, c .labels-at .ensures, size-small (s .args .s) range, few (s .args .s) range (s .args .r) (s .pre .1), range .vars-to)
 
--- src/labels.rt:68:12
 word-requires : tie.Need-word-requires
 word-requires c κs = search needs
 
--- src/labels.rt:68:5
 number-requires : tie.Need-number-requires
 number-requires c κs = search needs
 
--- src/labels.rt:63:1
 returns : tie.Need-returns
 returns c = search needs
 

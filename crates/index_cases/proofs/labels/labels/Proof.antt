@@ -8,31 +8,24 @@ use Rattle.index_cases.proofs.labels.number.Reads as number-reads
 use Rattle.index_cases.proofs.labels.three_labels.Reads as three-labels-reads
 use Rattle.index_image.proofs.head.read.Reads as read-reads
 
--- src/labels.rt:89:11
 read-requires : tie.Need-read-requires
 read-requires c κs = search needs
 
--- src/labels.rt:90:21
 enum-known-s : tie.Need-enum-known-s
 enum-known-s c = search needs
 
--- src/labels.rt:90:27
 three-labels-requires : tie.Need-three-labels-requires
 three-labels-requires c κs = (head-is _ _ _ _ (c .before .before .s .given .1) (c .before .before .before .before .read .ensures) .range, c .before .before .before .before .before .before .pre)
 
--- src/labels.rt:91:22
 enum-told : tie.Need-enum-told
 enum-told c = search needs
 
--- src/labels.rt:91:22
 number-requires : tie.Need-number-requires
 number-requires c κs = search needs
 
--- src/labels.rt:86:1
 returns : tie.Need-returns
 returns c = search needs
 
--- src/labels.rt:86:1
 returns-2 : tie.Need-returns-2
 returns-2 c = search needs
 

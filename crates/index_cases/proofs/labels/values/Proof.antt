@@ -14,95 +14,72 @@ use Rattle.io.proofs.print_hex.Reads as print-hex-reads
 use Rattle.io.proofs.write_all.Reads as write-all-reads
 use Rattle.words.proofs.get.Reads as get-reads
 
--- src/labels.rt:101:49
 slice-aggregate-divisor-index-open : tie.Need-slice-aggregate-divisor-index-open
 slice-aggregate-divisor-index-open c = search needs
 
--- src/labels.rt:101:70
 slice-aggregate-divisor-index-open-2 : tie.Need-slice-aggregate-divisor-index-open-2
 slice-aggregate-divisor-index-open-2 c = search needs
 
--- src/labels.rt:101:5
 divisor-index-open-requires : tie.Need-divisor-index-open-requires
 divisor-index-open-requires c κs = search needs
 
--- src/labels.rt:102:11
 slice-aggregate-calls : tie.Need-slice-aggregate-calls
 slice-aggregate-calls c = search needs
 
--- src/labels.rt:102:5
 calls-requires : tie.Need-calls-requires
 calls-requires c κs = search needs
 
--- src/labels.rt:103:13
 mul-e : tie.Need-mul-e
 mul-e c = search needs
 
--- src/labels.rt:103:13
 add-e : tie.Need-add-e
 add-e c = search needs
 
--- src/labels.rt:104:38
 slice-aggregate-divisor-index-run : tie.Need-slice-aggregate-divisor-index-run
 slice-aggregate-divisor-index-run c = search needs
 
--- src/labels.rt:104:50
 array-share-prefix-list : tie.Need-array-share-prefix-list
 array-share-prefix-list c = search needs
 
--- src/labels.rt:104:50
 slice-aggregate-divisor-index-run-2 : tie.Need-slice-aggregate-divisor-index-run-2
 slice-aggregate-divisor-index-run-2 c = sym (length-take-le _ _ (omega arith))
 
--- src/labels.rt:104:62
 slice-aggregate-divisor-index-run-3 : tie.Need-slice-aggregate-divisor-index-run-3
 slice-aggregate-divisor-index-run-3 c = search needs
 
--- src/labels.rt:104:5
 divisor-index-run-requires : tie.Need-divisor-index-run-requires
 divisor-index-run-requires c κs = search needs
 
--- src/labels.rt:105:5
 write-all-requires : tie.Need-write-all-requires
 write-all-requires c κs = search needs
 
--- src/labels.rt:106:5
 labels-requires : tie.Need-labels-requires
 labels-requires c κs = search needs
 
--- src/labels.rt:107:22
 slice-aggregate-write-all : tie.Need-slice-aggregate-write-all
 slice-aggregate-write-all c = search needs
 
--- src/labels.rt:107:5
 write-all-requires-2 : tie.Need-write-all-requires-2
 write-all-requires-2 c κs = search needs
 
--- src/labels.rt:108:33
 slice-aggregate-get : tie.Need-slice-aggregate-get
 slice-aggregate-get c = search needs
 
--- src/labels.rt:108:22
 get-requires : tie.Need-get-requires
 get-requires c κs = search needs
 
--- src/labels.rt:108:22
 cast-print-hex : tie.Need-cast-print-hex
 cast-print-hex c = search needs
 
--- src/labels.rt:108:5
 print-hex-requires : tie.Need-print-hex-requires
 print-hex-requires c κs = search needs
 
--- src/labels.rt:109:22
 slice-aggregate-write-all-2 : tie.Need-slice-aggregate-write-all-2
 slice-aggregate-write-all-2 c = search needs
 
--- src/labels.rt:109:5
 write-all-requires-3 : tie.Need-write-all-requires-3
 write-all-requires-3 c κs = search needs
 
--- src/labels.rt:95:1
 returns : tie.Need-returns
 returns c = search needs
 

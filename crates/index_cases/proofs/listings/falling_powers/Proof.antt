@@ -16,51 +16,39 @@ Inv-loop list₀ i₀ list i = (i ≤ 65) × (length list ≡ length list₀)
 abbrev μ-loop : tie.MeasureT-loop
 μ-loop list₀ i₀ list i = 65 - i
 
--- src/listings.rt:87:5
 loop-holds : tie.Need-loop-holds Inv-loop μ-loop
 loop-holds c = search needs
 
--- src/listings.rt:88:22
 mul-insert : tie.Need-mul-insert Inv-loop μ-loop
 mul-insert c = search needs
 
--- src/listings.rt:88:30
 sub-insert : tie.Need-sub-insert Inv-loop μ-loop
 sub-insert c = search needs
 
--- src/listings.rt:88:29
 cast-insert : tie.Need-cast-insert Inv-loop μ-loop
 cast-insert c = search needs
 
--- src/listings.rt:88:9
 insert-requires : tie.Need-insert-requires Inv-loop μ-loop
 insert-requires c κs = search needs
 
--- src/listings.rt:89:9
 add-i : tie.Need-add-i Inv-loop μ-loop
 add-i c = search needs
 
--- src/listings.rt:87:5
 loop-less : tie.Need-loop-less Inv-loop μ-loop
 loop-less c = search needs
 
--- src/listings.rt:87:5
 loop-again : tie.Need-loop-again Inv-loop μ-loop
 loop-again c = search needs
 
--- src/listings.rt:91:27
 call-word-requires : tie.Need-call-word-requires Inv-loop μ-loop
 call-word-requires c κs = search needs
 
--- src/listings.rt:91:5
 put-requires : tie.Need-put-requires Inv-loop μ-loop
 put-requires c κs = search needs
 
--- src/listings.rt:83:1
 same-length : tie.Need-same-length Inv-loop μ-loop
 same-length c = search needs
 
--- src/listings.rt:83:1
 returns : tie.Need-returns Inv-loop μ-loop
 returns c = search needs
 

@@ -11,31 +11,24 @@ use Rattle.index_cases.proofs.listings.end_line.Reads as end-line-reads
 use Rattle.index_cases.proofs.listings.show.Reads as show-reads
 use Rattle.index_cases.proofs.listings.title.Reads as title-reads
 
--- src/listings.rt:38:54
 array-borrow-prefix-out : tie.Need-array-borrow-prefix-out
 array-borrow-prefix-out c = search needs
 
--- src/listings.rt:38:54
 slice-aggregate-divisor-index-list : tie.Need-slice-aggregate-divisor-index-list
 slice-aggregate-divisor-index-list c = sym (length-take-le (c .before .before .before .args .room) _ (omega arith))
 
--- src/listings.rt:38:9
 divisor-index-list-requires : tie.Need-divisor-index-list-requires
 divisor-index-list-requires c κs = search needs
 
--- src/listings.rt:39:5
 title-requires : tie.Need-title-requires
 title-requires c κs = search needs
 
--- src/listings.rt:40:5
 show-requires : tie.Need-show-requires
 show-requires c κs = search needs
 
--- src/listings.rt:41:5
 end-line-requires : tie.Need-end-line-requires
 end-line-requires c κs = search needs
 
--- src/listings.rt:34:1
 returns : tie.Need-returns
 returns c = search needs
 

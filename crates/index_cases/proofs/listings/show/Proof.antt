@@ -13,39 +13,30 @@ Inv-loop out at n i₀ i = i ≤ n
 abbrev μ-loop : tie.MeasureT-loop
 μ-loop out at n i₀ i = n - i
 
--- src/listings.rt:17:5
 loop-holds : tie.Need-loop-holds Inv-loop μ-loop
 loop-holds c = search needs
 
--- src/listings.rt:18:30
 add-get : tie.Need-add-get Inv-loop μ-loop
 add-get c = search needs
 
--- src/listings.rt:18:14
 get-requires : tie.Need-get-requires Inv-loop μ-loop
 get-requires c κs = search needs
 
--- src/listings.rt:18:14
 cast-word : tie.Need-cast-word Inv-loop μ-loop
 cast-word c = search needs
 
--- src/listings.rt:18:9
 word-requires : tie.Need-word-requires Inv-loop μ-loop
 word-requires c κs = search needs
 
--- src/listings.rt:19:9
 add-i : tie.Need-add-i Inv-loop μ-loop
 add-i c = search needs
 
--- src/listings.rt:17:5
 loop-less : tie.Need-loop-less Inv-loop μ-loop
 loop-less c = search needs
 
--- src/listings.rt:17:5
 loop-again : tie.Need-loop-again Inv-loop μ-loop
 loop-again c = search needs
 
--- src/listings.rt:13:1
 returns : tie.Need-returns Inv-loop μ-loop
 returns c = search needs
 

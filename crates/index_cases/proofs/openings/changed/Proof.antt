@@ -12,35 +12,27 @@ Inv-loop image n₀ i₀ n i = (i ≤ 2048) × (n ≤ i)
 abbrev μ-loop : tie.MeasureT-loop
 μ-loop image n₀ i₀ n i = 2048 - i
 
--- src/openings.rt:18:5
 loop-holds : tie.Need-loop-holds Inv-loop μ-loop
 loop-holds c = search needs
 
--- src/openings.rt:19:21
 element-copy-out-one-if : tie.Need-element-copy-out-one-if Inv-loop μ-loop
 element-copy-out-one-if c = search needs
 
--- src/openings.rt:19:14
 one-if-requires : tie.Need-one-if-requires Inv-loop μ-loop
 one-if-requires c κs = search needs
 
--- src/openings.rt:19:9
 add-n : tie.Need-add-n Inv-loop μ-loop
 add-n c = search needs
 
--- src/openings.rt:20:9
 add-i : tie.Need-add-i Inv-loop μ-loop
 add-i c = search needs
 
--- src/openings.rt:18:5
 loop-less : tie.Need-loop-less Inv-loop μ-loop
 loop-less c = search needs
 
--- src/openings.rt:18:5
 loop-again : tie.Need-loop-again Inv-loop μ-loop
 loop-again c = search needs
 
--- src/openings.rt:15:1
 returns : tie.Need-returns Inv-loop μ-loop
 returns c = search needs
 

@@ -14,31 +14,24 @@ Inv-loop maxima₀ i₀ maxima i = (i ≤ 66) × (length maxima ≡ length maxim
 abbrev μ-loop : tie.MeasureT-loop
 μ-loop maxima₀ i₀ maxima i = 66 - i
 
--- src/openings.rt:59:5
 loop-holds : tie.Need-loop-holds Inv-loop μ-loop
 loop-holds c = search needs
 
--- src/openings.rt:60:9
 put-requires : tie.Need-put-requires Inv-loop μ-loop
 put-requires c κs = search needs
 
--- src/openings.rt:61:9
 add-i : tie.Need-add-i Inv-loop μ-loop
 add-i c = search needs
 
--- src/openings.rt:59:5
 loop-less : tie.Need-loop-less Inv-loop μ-loop
 loop-less c = search needs
 
--- src/openings.rt:59:5
 loop-again : tie.Need-loop-again Inv-loop μ-loop
 loop-again c = search needs
 
--- src/openings.rt:55:1
 same-length : tie.Need-same-length Inv-loop μ-loop
 same-length c = search needs
 
--- src/openings.rt:55:1
 returns : tie.Need-returns Inv-loop μ-loop
 returns c = search needs
 

@@ -11,31 +11,24 @@ use Rattle.divisor_index.proofs.divisor_index_open.Reads as divisor-index-open-
 use Rattle.index_cases.proofs.openings.changed.Reads as changed-reads
 use Rattle.index_cases.proofs.openings.line.Reads as line-reads
 
--- src/openings.rt:41:9
 divisor-index-length-requires : tie.Need-divisor-index-length-requires
 divisor-index-length-requires c κs = search needs
 
--- src/openings.rt:47:9
 array-borrow-prefix-image : tie.Need-array-borrow-prefix-image
 array-borrow-prefix-image c = search needs
 
--- src/openings.rt:47:9
 slice-aggregate-divisor-index-open : tie.Need-slice-aggregate-divisor-index-open
 slice-aggregate-divisor-index-open c = sym (length-take-le (c .before .before .before .before .args .room) _ (omega arith))
 
--- src/openings.rt:42:9
 divisor-index-open-requires : tie.Need-divisor-index-open-requires
 divisor-index-open-requires c κs = search needs
 
--- src/openings.rt:49:22
 changed-requires : tie.Need-changed-requires
 changed-requires c κs = search needs
 
--- src/openings.rt:49:5
 line-requires : tie.Need-line-requires
 line-requires c κs = search needs
 
--- src/openings.rt:37:1
 returns : tie.Need-returns
 returns c = search needs
 

@@ -9,27 +9,21 @@ use Rattle.index_cases.proofs.openings.with_ones.Lts as lts
 use Rattle.index_cases.proofs.openings.ones.Reads as ones-reads
 use Rattle.index_cases.proofs.openings.opening.Reads as opening-reads
 
--- src/openings.rt:70:10
 slice-aggregate-ones : tie.Need-slice-aggregate-ones
 slice-aggregate-ones c = search needs
 
--- src/openings.rt:70:5
 ones-requires : tie.Need-ones-requires
 ones-requires c κs = search needs
 
--- src/openings.rt:71:46
 array-share-prefix-maxima : tie.Need-array-share-prefix-maxima
 array-share-prefix-maxima c = search needs
 
--- src/openings.rt:71:46
 slice-aggregate-opening : tie.Need-slice-aggregate-opening
 slice-aggregate-opening c = sym (length-take-le (c .before .before .before .before .before .args .n) _ (omega arith))
 
--- src/openings.rt:71:5
 opening-requires : tie.Need-opening-requires
 opening-requires c κs = search needs
 
--- src/openings.rt:66:1
 returns : tie.Need-returns
 returns c = search needs
 

@@ -7,19 +7,15 @@ use Rattle.index_image.proofs.Shape.entry_at.Reads as reads
 use Rattle.index_image.proofs.Shape.entry_at.Lts as lts
 use Rattle.index_image.proofs.Shape.entry_width.Reads as entry-width-reads
 
--- src/lib.rt:29:14
 mul-result : tie.Need-mul-result
 mul-result c = search needs
 
--- src/lib.rt:29:9
 add-result : tie.Need-add-result
 add-result c = search needs
 
--- src/lib.rt:29:39
 entry-width-requires : tie.Need-entry-width-requires
 entry-width-requires c κs = search needs
 
--- src/lib.rt:29:35
 mul-result-2 : tie.Need-mul-result-2
 mul-result-2 c =
     rw (c .entry-width .ensures) (omega (
@@ -28,7 +24,6 @@ mul-result-2 c =
           (c .before .before .args .i) (c .before .before .pre .1),
     ))
 
--- src/lib.rt:29:9
 add-result-2 : tie.Need-add-result-2
 add-result-2 c =
     rw (c .entry-width .ensures) (omega (
@@ -37,7 +32,6 @@ add-result-2 c =
           (c .before .before .args .i) (c .before .before .pre .1),
     ))
 
--- src/lib.rt:24:5
 returns : tie.Need-returns
 returns c = rw (c .entry-width .ensures)
 

@@ -6,27 +6,21 @@ use Rattle.index_image.proofs.Shape.entry_width.Tie as tie
 use Rattle.index_image.proofs.Shape.entry_width.Reads as reads
 use Rattle.index_image.proofs.Shape.entry_width.Lts as lts
 
--- src/lib.rt:20:10
 add-result : tie.Need-add-result
 add-result c = search needs
 
--- src/lib.rt:20:28
 add-result-2 : tie.Need-add-result-2
 add-result-2 c = search needs
 
--- src/lib.rt:20:9
 mul-result : tie.Need-mul-result
 mul-result c = omega (arith, width-small (c .before .before .args .self) (c .before .before .pre))
 
--- src/lib.rt:20:50
 mul-result-2 : tie.Need-mul-result-2
 mul-result-2 c = search needs
 
--- src/lib.rt:20:9
 add-result-3 : tie.Need-add-result-3
 add-result-3 c = omega (arith, width-small (c .before .before .before .args .self) (c .before .before .before .pre))
 
--- src/lib.rt:16:5
 returns : tie.Need-returns
 returns c = search needs
 

@@ -7,11 +7,9 @@ use Rattle.index_image.proofs.Shape.labels_at.Reads as reads
 use Rattle.index_image.proofs.Shape.labels_at.Lts as lts
 use Rattle.index_image.proofs.Shape.permutation_at.Reads as permutation-at-reads
 
--- src/lib.rt:44:9
 permutation-at-requires : tie.Need-permutation-at-requires
 permutation-at-requires c κs = search needs
 
--- src/lib.rt:44:9
 add-result : tie.Need-add-result
 add-result c =
     omega (
@@ -21,7 +19,6 @@ add-result c =
           (c .before .before .args .self .capacity) (omega arith),
     )
 
--- src/lib.rt:40:5
 returns : tie.Need-returns
 returns c = search needs
 

@@ -6,27 +6,21 @@ use Rattle.index_image.proofs.Shape.labels_size.Tie as tie
 use Rattle.index_image.proofs.Shape.labels_size.Reads as reads
 use Rattle.index_image.proofs.Shape.labels_size.Lts as lts
 
--- src/lib.rt:51:43
 add-result : tie.Need-add-result
 add-result c = search needs
 
--- src/lib.rt:51:26
 mul-result : tie.Need-mul-result
 mul-result c = omega (arith, rows-small (c .before .before .args .self) (c .before .before .pre))
 
--- src/lib.rt:51:22
 add-result-2 : tie.Need-add-result-2
 add-result-2 c = omega (arith, rows-small (c .before .before .args .self) (c .before .before .pre))
 
--- src/lib.rt:51:22
 add-result-3 : tie.Need-add-result-3
 add-result-3 c = omega (arith, rows-small (c .before .before .before .args .self) (c .before .before .before .pre))
 
--- src/lib.rt:51:9
 mul-result-2 : tie.Need-mul-result-2
 mul-result-2 c = omega (arith, labels-small (c .before .before .before .before .args .self) (c .before .before .before .before .pre))
 
--- src/lib.rt:47:5
 returns : tie.Need-returns
 returns c = search needs
 

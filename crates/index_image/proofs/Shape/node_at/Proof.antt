@@ -8,15 +8,12 @@ use Rattle.index_image.proofs.Shape.node_at.Lts as lts
 use Rattle.index_image.proofs.Shape.labels_at.Reads as labels-at-reads
 use Rattle.index_image.proofs.Shape.labels_size.Reads as labels-size-reads
 
--- src/lib.rt:60:9
 labels-at-requires : tie.Need-labels-at-requires
 labels-at-requires c κs = search needs
 
--- src/lib.rt:60:28
 labels-size-requires : tie.Need-labels-size-requires
 labels-size-requires c κs = search needs
 
--- src/lib.rt:60:9
 add-result : tie.Need-add-result
 add-result c =
     let start = c .before .before in
@@ -28,11 +25,9 @@ add-result c =
       entries-small (start .args .self) (start .pre .0) (start .args .self .capacity) (omega arith),
     )
 
--- src/lib.rt:60:54
 add-result-2 : tie.Need-add-result-2
 add-result-2 c = search needs
 
--- src/lib.rt:60:49
 mul-result : tie.Need-mul-result
 mul-result c =
     omega (
@@ -41,7 +36,6 @@ mul-result c =
           (c .before .before .before .pre .1),
     )
 
--- src/lib.rt:60:9
 add-result-3 : tie.Need-add-result-3
 add-result-3 c =
     let start = c .before .before .before in
@@ -54,7 +48,6 @@ add-result-3 c =
       nodes-small (start .args .self) (start .pre .0) (start .args .k) (start .pre .1),
     )
 
--- src/lib.rt:55:5
 returns : tie.Need-returns
 returns c = search needs
 

@@ -5,15 +5,12 @@ use Rattle.index_image.proofs.entries.agrees.Reads as reads
 use Rattle.index_image.proofs.entries.agrees.Lts as lts
 use Rattle.words.proofs.ratio_word.Reads as ratio-word-reads
 
--- src/entries.rt:51:9
 returns : tie.Need-returns
 returns c = rw (eq-eqb (c .before .args .p) 32768 (c .if1 .taken))
 
--- src/entries.rt:53:10
 ratio-word-requires : tie.Need-ratio-word-requires
 ratio-word-requires c κs = c .before .pre
 
--- src/entries.rt:46:1
 returns-2 : tie.Need-returns-2
 returns-2 c = rw (ne-eqb (c .before .before .args .p) 32768 (c .before .if1 .left), c .ratio-word .ensures)
 

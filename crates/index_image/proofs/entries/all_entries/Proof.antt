@@ -20,34 +20,27 @@ Inv-loop image s table limit n i₀ i = (i ≤ n) × ((j : ℕ) → j < i → En
 abbrev μ-loop : tie.MeasureT-loop
 μ-loop image s table limit n i₀ i = n - i
 
--- src/entries.rt:192:5
 loop-holds : tie.Need-loop-holds Inv-loop μ-loop
 loop-holds c = (omega arith, λ j h. absurd (omega arith))
 
--- src/entries.rt:193:13
 entry-ok-requires : tie.Need-entry-ok-requires Inv-loop μ-loop
 entry-ok-requires c κs =
     (c .before .before .before .before .pre .0, (c .before .before .before .before .pre .1 .0, (c .loop-test .taken, c .before .before .before .before .pre .1 .1)))
 
--- src/entries.rt:194:13
 returns : tie.Need-returns Inv-loop μ-loop
 returns c =
     refuse (λ q. never (sym (not-true _ (c .if1 .taken)) ∙ (c .before .entry-ok .ensures .1)
     (q (c .before .before .before .loop .i) (c .before .before .loop-test .taken))))
 
--- src/entries.rt:196:9
 add-i : tie.Need-add-i Inv-loop μ-loop
 add-i c = search needs
 
--- src/entries.rt:192:5
 loop-less : tie.Need-loop-less Inv-loop μ-loop
 loop-less c = search needs
 
--- src/entries.rt:192:5
 loop-again : tie.Need-loop-again Inv-loop μ-loop
 loop-again c = (omega arith, below-more _ _ (c .before .before .before .loop .inv .1) ((c .before .entry-ok .ensures .0) (not-false _ (c .if1 .left))))
 
--- src/entries.rt:182:1
 returns-2 : tie.Need-returns-2 Inv-loop μ-loop
 returns-2 c = (λ z i h. (c .before .loop .inv .1) i (omega arith), λ q. refl)
 

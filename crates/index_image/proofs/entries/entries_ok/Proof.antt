@@ -17,28 +17,22 @@ use Rattle.index_image.proofs.Shape.entry_width.Reads as entry-width-re
 use Rattle.index_image.proofs.entries.all_entries.Reads as all-entries-reads
 use Rattle.words.proofs.runs.is_blank.Reads as is-blank-reads
 
--- src/entries.rt:210:17
 sub-rest : tie.Need-sub-rest
 sub-rest c = search needs
 
--- src/entries.rt:210:26
 entry-width-requires : tie.Need-entry-width-requires
 entry-width-requires c κs = search needs
 
--- src/entries.rt:210:16
 mul-rest : tie.Need-mul-rest
 mul-rest c = rw (c .entry-width .ensures) (omega (arith, rest (c .before .before .args .s) (c .before .before .pre .0)))
 
--- src/entries.rt:211:38
 entry-at-requires : tie.Need-entry-at-requires
 entry-at-requires c κs = ((c .before .before .pre .0), (c .before .before .pre .0) .few)
 
--- src/entries.rt:211:9
 is-blank-requires : tie.Need-is-blank-requires
 is-blank-requires c κs =
     rw (c .before .entry-width .ensures, c .entry-at .ensures) (omega (arith, rest (c .before .before .before .args .s) (c .before .before .before .pre .0)))
 
--- src/entries.rt:212:9
 returns : tie.Need-returns
 returns c =
     let entry-width = c .before .before .before .entry-width in
@@ -47,53 +41,41 @@ returns c =
     (sym (not-true _ (c .if1 .taken))
     ∙ (rw (c .before .before .entry-at .ensures, entry-width .ensures) at (c .before .is-blank .ensures)) .1 (q .rest)))
 
--- src/entries.rt:214:18
 add-a : tie.Need-add-a
 add-a c = search needs
 
--- src/entries.rt:214:13
 mul-a : tie.Need-mul-a
 mul-a c = search needs
 
--- src/entries.rt:215:17
 mul-b : tie.Need-mul-b
 mul-b c = search needs
 
--- src/entries.rt:215:13
 add-b : tie.Need-add-b
 add-b c = search needs
 
--- src/entries.rt:217:41
 sub-prepare : tie.Need-sub-prepare
 sub-prepare c = search needs
 
--- src/entries.rt:217:41
 part-prepare-start : tie.Need-part-prepare-start
 part-prepare-start c = search needs
 
--- src/entries.rt:217:41
 part-prepare-end : tie.Need-part-prepare-end
 part-prepare-end c = search needs
 
--- src/entries.rt:217:55
 cast-prepare : tie.Need-cast-prepare
 cast-prepare c = search needs
 
--- src/entries.rt:217:78
 slice-aggregate-prepare : tie.Need-slice-aggregate-prepare
 slice-aggregate-prepare c = search needs
 
--- src/entries.rt:217:9
 prepare-requires : tie.Need-prepare-requires
 prepare-requires c κs =
     let start = c .before .before .before .before .before .before .before .before .before .before in
     (rw (range-words (start .args .image .now) (shape.mapAt (start .args .s .variables)) (start .args .s .variables)) (start .pre .1 .1 .map), refl)
 
--- src/entries.rt:218:27
 slice-aggregate-all-entries : tie.Need-slice-aggregate-all-entries
 slice-aggregate-all-entries c = search needs
 
--- src/entries.rt:218:5
 all-entries-requires : tie.Need-all-entries-requires
 all-entries-requires c κs =
     let o = c .before .before .before .before .before .before .before .before .before .before .before .before .before in (
@@ -110,7 +92,6 @@ all-entries-requires c κs =
       ),
     )
 
--- src/entries.rt:202:1
 returns-2 : tie.Need-returns-2
 returns-2 c =
     let entry-width = c .before .before .before .before .before .before .before .before .before .before .before .before .entry-width in

@@ -13,26 +13,21 @@ use Rattle.index_image.proofs.Shape.entry_at.Reads as entry-at-reads
 use Rattle.index_image.proofs.entries.masked_slot.Reads as masked-slot-reads
 use Rattle.index_image.proofs.entries.ratio_ok.Reads as ratio-ok-reads
 
--- src/entries.rt:171:9
 entry-at-requires : tie.Need-entry-at-requires
 entry-at-requires c κs = ((c .before .before .pre .0), omega (arith, (c .before .before .pre .1 .1 .0), (c .before .before .pre .0) .few))
 
--- src/entries.rt:172:28
 add-masked-slot : tie.Need-add-masked-slot
 add-masked-slot c = search needs
 
--- src/entries.rt:172:9
 masked-slot-requires : tie.Need-masked-slot-requires
 masked-slot-requires c κs =
     let start = c .before .before .before in
     let at = inside (start .args .s) (start .pre .0) (start .args .i) (omega (arith, (start .pre .1 .1 .0), (start .pre .0) .few)) in
     (start .pre .1 .1 .1 .0 .map, (omega (arith, at), (omega (arith, c .entry-at .ensures, at), start .pre .1 .1 .1 .1)))
 
--- src/entries.rt:173:9
 returns : tie.Need-returns
 returns c = refuse (λ q. never (sym (not-true _ (c .if1 .taken)) ∙ (rw (c .before .before .entry-at .ensures) at (c .before .masked-slot .ensures)) .1 (q .lm)))
 
--- src/entries.rt:176:9
 returns-2 : tie.Need-returns-2
 returns-2 c =
     let entry-at = c .before .before .before .entry-at in (
@@ -43,7 +38,6 @@ returns-2 c =
       λ q. refl,
     )
 
--- src/entries.rt:178:5
 ratio-ok-requires : tie.Need-ratio-ok-requires
 ratio-ok-requires c κs =
     let start = c .before .before .before .before .before .before in
@@ -64,7 +58,6 @@ ratio-ok-requires c κs =
       ),
     )
 
--- src/entries.rt:160:1
 returns-3 : tie.Need-returns-3
 returns-3 c =
     let start = c .before .before .before .before .before .before .before in

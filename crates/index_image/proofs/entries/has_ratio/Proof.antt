@@ -52,165 +52,133 @@ all-read c =
 
 -- end of helpers
 
--- src/entries.rt:102:9
 entry-at-requires : tie.Need-entry-at-requires
 entry-at-requires c κs = (c .before .pre .0, omega (arith, c .before .pre .1 .1 .0 .1, c .before .pre .0 .few))
 
--- src/entries.rt:103:38
 mul-get : tie.Need-mul-get
 mul-get c = search needs
 
--- src/entries.rt:103:38
 add-get : tie.Need-add-get
 add-get c = search needs
 
--- src/entries.rt:103:33
 add-get-2 : tie.Need-add-get-2
 add-get-2 c = omega (arith, entry-here (c .before .before), c .entry-at .ensures, c .before .before .pre .1 .0)
 
--- src/entries.rt:103:15
 get-requires : tie.Need-get-requires
 get-requires c κs = omega (arith, entry-here (c .before .before), c .entry-at .ensures, c .before .before .pre .1 .0)
 
--- src/entries.rt:103:15
 cast-row : tie.Need-cast-row
 cast-row c = search needs
 
--- src/entries.rt:104:13
 labels-at-requires : tie.Need-labels-at-requires
 labels-at-requires c κs = search needs
 
--- src/entries.rt:104:54
 add-r : tie.Need-add-r
 add-r c = search needs
 
--- src/entries.rt:104:47
 mul-r : tie.Need-mul-r
 mul-r c = omega (arith, row-here (c .before) .row-small)
 
--- src/entries.rt:104:30
 add-r-2 : tie.Need-add-r-2
 add-r-2 c = omega (arith, row-here (c .before) .row-small)
 
--- src/entries.rt:104:13
 add-r-3 : tie.Need-add-r-3
 add-r-3 c = omega (arith, row-here (c .before), c .labels-at .ensures, c .before .before .before .before .pre .1 .0)
 
--- src/entries.rt:105:31
 add-get-3 : tie.Need-add-get-3
 add-get-3 c = search needs
 
--- src/entries.rt:105:26
 add-get-4 : tie.Need-add-get-4
 add-get-4 c =
     let here = c .before .before in
     omega (arith, entry-here (here .before .before), here .entry-at .ensures, here .before .before .pre .1 .0)
 
--- src/entries.rt:105:8
 get-requires-2 : tie.Need-get-requires-2
 get-requires-2 c κs =
     let here = c .before .before in
     omega (arith, entry-here (here .before .before), here .entry-at .ensures, here .before .before .pre .1 .0)
 
--- src/entries.rt:105:54
 get-requires-3 : tie.Need-get-requires-3
 get-requires-3 c κs =
     let here = c .before in
     omega (arith, row-here (here .before), here .labels-at .ensures, here .before .before .before .before .pre .1 .0)
 
--- src/entries.rt:106:9
 returns : tie.Need-returns
 returns c = refuse (other-index (all-read (c .before)) (c .if1 .taken))
 
--- src/entries.rt:108:23
 add-x : tie.Need-add-x
 add-x c = omega (arith, c .before .before .before .before .before .before .before .pre .0 .vars-to)
 
--- src/entries.rt:108:18
 add-x-2 : tie.Need-add-x-2
 add-x-2 c =
     let here = c .before .before .before .before .before in
     omega (arith, entry-here (here .before .before), here .entry-at .ensures, here .before .before .pre .1 .0)
 
--- src/entries.rt:108:13
 mul-x : tie.Need-mul-x
 mul-x c =
     let here = c .before .before .before .before .before in
     omega (arith, entry-here (here .before .before), here .entry-at .ensures, here .before .before .pre .1 .0)
 
--- src/entries.rt:109:13
 mul-y : tie.Need-mul-y
 mul-y c =
     let here = c .before .before .before .before .before in
     omega (arith, entry-here (here .before .before), here .entry-at .ensures, here .before .before .pre .1 .0)
 
--- src/entries.rt:110:18
 add-z : tie.Need-add-z
 add-z c =
     let here = c .before .before .before in
     omega (arith, row-here (here .before), here .labels-at .ensures, here .before .before .before .before .pre .1 .0)
 
--- src/entries.rt:110:13
 mul-z : tie.Need-mul-z
 mul-z c =
     let here = c .before .before .before in
     omega (arith, row-here (here .before), here .labels-at .ensures, here .before .before .before .before .pre .1 .0)
 
--- src/entries.rt:111:14
 sub-is-ratio : tie.Need-sub-is-ratio
 sub-is-ratio c =
     let here = c .before .before .before .before .before in
     omega (arith, entry-here (here .before .before), here .entry-at .ensures, here .before .before .pre .1 .0)
 
--- src/entries.rt:111:14
 part-is-ratio-start : tie.Need-part-is-ratio-start
 part-is-ratio-start c =
     let here = c .before .before .before .before .before in
     omega (arith, entry-here (here .before .before), here .entry-at .ensures, here .before .before .pre .1 .0)
 
--- src/entries.rt:111:14
 part-is-ratio-end : tie.Need-part-is-ratio-end
 part-is-ratio-end c =
     let here = c .before .before .before .before .before in
     omega (arith, entry-here (here .before .before), here .entry-at .ensures, here .before .before .pre .1 .0)
 
--- src/entries.rt:111:27
 sub-is-ratio-2 : tie.Need-sub-is-ratio-2
 sub-is-ratio-2 c =
     let here = c .before .before .before .before .before .before in
     omega (arith, entry-here (here .before .before), here .entry-at .ensures, here .before .before .pre .1 .0)
 
--- src/entries.rt:111:27
 part-is-ratio-start-2 : tie.Need-part-is-ratio-start-2
 part-is-ratio-start-2 c =
     let here = c .before .before .before .before .before .before in
     omega (arith, entry-here (here .before .before), here .entry-at .ensures, here .before .before .pre .1 .0)
 
--- src/entries.rt:111:27
 part-is-ratio-end-2 : tie.Need-part-is-ratio-end-2
 part-is-ratio-end-2 c =
     let here = c .before .before .before .before .before .before in
     omega (arith, entry-here (here .before .before), here .entry-at .ensures, here .before .before .pre .1 .0)
 
--- src/entries.rt:111:40
 sub-is-ratio-3 : tie.Need-sub-is-ratio-3
 sub-is-ratio-3 c =
     let here = c .before .before .before .before .before in
     omega (arith, row-here (here .before), here .labels-at .ensures, here .before .before .before .before .pre .1 .0)
 
--- src/entries.rt:111:40
 part-is-ratio-start-3 : tie.Need-part-is-ratio-start-3
 part-is-ratio-start-3 c =
     let here = c .before .before .before .before .before in
     omega (arith, row-here (here .before), here .labels-at .ensures, here .before .before .before .before .pre .1 .0)
 
--- src/entries.rt:111:40
 part-is-ratio-end-3 : tie.Need-part-is-ratio-end-3
 part-is-ratio-end-3 c =
     let here = c .before .before .before .before .before in
     omega (arith, row-here (here .before), here .labels-at .ensures, here .before .before .before .before .pre .1 .0)
 
--- src/entries.rt:111:5
 is-ratio-requires : tie.Need-is-ratio-requires
 is-ratio-requires c κs =
     let here = c .before .before .before .before .before .before in
@@ -219,7 +187,6 @@ is-ratio-requires c κs =
     let k = asks (all-read (c .before .before .before .before)) (omega (arith, start .pre .1 .0, named .row)) in
     (k .sign-starts, (k .lm-starts, k .fits))
 
--- src/entries.rt:94:1
 returns-2 : tie.Need-returns-2
 returns-2 c = answered (all-read (c .before .before .before .before .before)) (c .before .before .before .before .if1 .left) _ (c .is-ratio .ensures)
 

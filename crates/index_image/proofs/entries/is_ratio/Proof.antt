@@ -57,33 +57,26 @@ small c =
 
 -- end of helpers
 
--- src/entries.rt:74:5
 loop-holds : tie.Need-loop-holds Inv-loop μ-loop
 loop-holds c =
     let start = c .before .before .before in
     begin (words (start .args .c .now)) (begins (omega arith) (start .pre .0)) (begins (omega arith) (start .pre .1 .0))
 
--- src/entries.rt:75:13
 get-requires : tie.Need-get-requires Inv-loop μ-loop
 get-requires c κs = omega (arith, fitting c .ia, first-bytes 1 (c .before .before .before .before .args .a .now))
 
--- src/entries.rt:76:13
 get-requires-2 : tie.Need-get-requires-2 Inv-loop μ-loop
 get-requires-2 c κs = omega (arith, fitting (c .before) .jb, first-bytes 1 (c .before .before .before .before .before .args .b .now))
 
--- src/entries.rt:77:13
 get-requires-3 : tie.Need-get-requires-3 Inv-loop μ-loop
 get-requires-3 c κs = omega (arith, fitting (c .before .before) .free, length-words (c .before .before .before .before .before .before .args .c .now))
 
--- src/entries.rt:78:13
 upper-requires : tie.Need-upper-requires Inv-loop μ-loop
 upper-requires c κs = search needs
 
--- src/entries.rt:80:20
 cast-result : tie.Need-cast-result Inv-loop μ-loop
 cast-result c = search needs
 
--- src/entries.rt:80:13
 returns : tie.Need-returns Inv-loop μ-loop
 returns c =
     let start = c .before .before .before .before .before .before .before .before .before in
@@ -93,33 +86,26 @@ returns c =
     finished (loop .inv) (room start) (seen _ (loop .inv .ra) (get .ensures))
     (seen _ (loop .inv .rb) (get2 .ensures)) (c .before .upper .ensures) (c .before .before .get3 .ensures) (c .if1 .taken)
 
--- src/entries.rt:82:13
 power-at-requires : tie.Need-power-at-requires Inv-loop μ-loop
 power-at-requires c κs = search needs
 
--- src/entries.rt:83:17
 power-at-requires-2 : tie.Need-power-at-requires-2 Inv-loop μ-loop
 power-at-requires-2 c κs = search needs
 
--- src/entries.rt:83:17
 add-p : tie.Need-add-p Inv-loop μ-loop
 add-p c = omega (arith, c .power-at2 .ensures, small (c .before .before) .0)
 
--- src/entries.rt:83:17
 sub-p : tie.Need-sub-p Inv-loop μ-loop
 sub-p c = omega (arith, c .before .power-at .ensures, small (c .before .before) .1)
 
--- src/entries.rt:92:23
 upper-id-requires : tie.Need-upper-id-requires Inv-loop μ-loop
 upper-id-requires c κs = search needs
 
--- src/entries.rt:84:13
 agrees-requires : tie.Need-agrees-requires Inv-loop μ-loop
 agrees-requires c κs =
     let k = small (c .before .before .before) in
     (omega (arith, c .upper-id .ensures), omega (arith, c .before .power-at2 .ensures, c .before .before .power-at .ensures, k .0, k .1))
 
--- src/entries.rt:85:13
 returns-2 : tie.Need-returns-2 Inv-loop μ-loop
 returns-2 c =
     let left = c .before .before .before .before .before in
@@ -134,23 +120,19 @@ returns-2 c =
     (power-at2 .result + 32768 - power-at .result) (rw (power-at2 .ensures, power-at .ensures))
     (sym (rw (upper-id .ensures) at (c .before .agrees .ensures)) ∙ not-true _ (c .if2 .taken)))
 
--- src/entries.rt:87:9
 place-after-requires : tie.Need-place-after-requires Inv-loop μ-loop
 place-after-requires c κs = fitting (c .before .before .before .before .before .before .before .before .before .before) .few
 
--- src/entries.rt:88:9
 step-requires : tie.Need-step-requires Inv-loop μ-loop
 step-requires c κs =
     let loop = c .before .before .before .before .before .before .before .before .before .before .before in
     omega (arith, fitting loop .ia, first-bytes 1 (loop .before .before .before .before .args .a .now))
 
--- src/entries.rt:89:9
 step-requires-2 : tie.Need-step-requires-2 Inv-loop μ-loop
 step-requires-2 c κs =
     let loop = c .before .before .before .before .before .before .before .before .before .before .before .before in
     omega (arith, fitting loop .jb, first-bytes 1 (loop .before .before .before .before .args .b .now))
 
--- src/entries.rt:74:5
 loop-less : tie.Need-loop-less Inv-loop μ-loop
 loop-less c =
     let b9 = c .before .before .before .before .before .before .before .before .before in
@@ -162,7 +144,6 @@ loop-less c =
     rw (c .before .step .ensures, c .step2 .ensures)
     (falls (get .result) (get2 .result) (upper .result) (loop .i) (loop .j) _ _ (upper .ensures) (k .ia) (k .jb))
 
--- src/entries.rt:74:5
 loop-again : tie.Need-loop-again Inv-loop μ-loop
 loop-again c =
     let left = c .before .before .before .before .before .before .before .before in

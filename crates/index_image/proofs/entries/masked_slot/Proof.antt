@@ -16,41 +16,32 @@ use Rattle.divmask.proofs.table.judge.Reads as judge-reads
 use Rattle.words.proofs.pairs.get.Reads as get-reads
 use Rattle.words.proofs.runs.is_blank.Reads as is-blank-reads
 
--- src/entries.rt:40:13
 mul-a : tie.Need-mul-a
 mul-a c = search needs
 
--- src/entries.rt:41:17
 mul-b : tie.Need-mul-b
 mul-b c = search needs
 
--- src/entries.rt:41:13
 add-b : tie.Need-add-b
 add-b c = search needs
 
--- src/entries.rt:42:39
 sub-judge : tie.Need-sub-judge
 sub-judge c = search needs
 
--- src/entries.rt:42:39
 part-judge-start : tie.Need-part-judge-start
 part-judge-start c = search needs
 
--- src/entries.rt:42:39
 part-judge-end : tie.Need-part-judge-end
 part-judge-end c = search needs
 
--- src/entries.rt:42:53
 cast-judge : tie.Need-cast-judge
 cast-judge c = search needs
 
--- src/entries.rt:42:9
 judge-requires : tie.Need-judge-requires
 judge-requires c κs =
     let start = c .before .before .before in
     rw (range-words (start .args .image .now) (start .args .map) (start .args .variables)) (start .pre .0, start .pre .1 .1 .1)
 
--- src/entries.rt:45:9
 returns : tie.Need-returns
 returns c =
     let start = c .before .before .before .before .before in
@@ -60,7 +51,6 @@ returns c =
     ((rw (range-words (start .args .image .now) (start .args .map) (start .args .variables)) at (c .before .judge .ensures)) .words)
     ∙ c .if1 .taken))
 
--- src/entries.rt:47:38
 add-is-blank : tie.Need-add-is-blank
 add-is-blank c =
     let start = c .before .before .before .before .before in
@@ -72,11 +62,9 @@ add-is-blank c =
           (c .if1 .left) .inside,
     )
 
--- src/entries.rt:47:45
 add-is-blank-2 : tie.Need-add-is-blank-2
 add-is-blank-2 c = search needs
 
--- src/entries.rt:47:45
 sub-is-blank : tie.Need-sub-is-blank
 sub-is-blank c =
     let start = c .before .before .before .before .before in
@@ -85,7 +73,6 @@ sub-is-blank c =
     ((rw (range-words (start .args .image .now) (start .args .map) (start .args .variables)) at (judge .ensures)) .words)
     (c .if1 .left) .short
 
--- src/entries.rt:47:9
 is-blank-requires : tie.Need-is-blank-requires
 is-blank-requires c κs =
     let start = c .before .before .before .before .before in
@@ -97,7 +84,6 @@ is-blank-requires c κs =
           (c .if1 .left) .short,
     )
 
--- src/entries.rt:48:9
 returns-2 : tie.Need-returns-2
 returns-2 c =
     let start = c .before .before .before .before .before .before .before in
@@ -109,19 +95,15 @@ returns-2 c =
     (rw ((rw (range-words (start .args .image .now) (start .args .map) (start .args .variables)) at (judge .ensures)) .words)
     (s .rest))))
 
--- src/entries.rt:50:35
 add-get : tie.Need-add-get
 add-get c = search needs
 
--- src/entries.rt:50:30
 add-get-2 : tie.Need-add-get-2
 add-get-2 c = search needs
 
--- src/entries.rt:50:5
 get-requires : tie.Need-get-requires
 get-requires c κs = search needs
 
--- src/entries.rt:25:1
 returns-3 : tie.Need-returns-3
 returns-3 c =
     let start = c .before .before .before .before .before .before .before .before .before in

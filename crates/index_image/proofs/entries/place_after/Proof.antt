@@ -6,15 +6,12 @@ use Rattle.index_image.proofs.entries.place_after.Tie as tie
 use Rattle.index_image.proofs.entries.place_after.Reads as reads
 use Rattle.index_image.proofs.entries.place_after.Lts as lts
 
--- src/entries.rt:61:32
 add-result : tie.Need-add-result
 add-result c = search needs
 
--- src/entries.rt:57:1
 returns : tie.Need-returns
 returns c = rw (eq-eqb (c .before .args .p) 32768 (omega arith))
 
--- src/entries.rt:57:1
 returns-2 : tie.Need-returns-2
 returns-2 c = rw (ne-eqb (c .before .args .p) 32768 (λ z. omega arith))
 

@@ -48,76 +48,59 @@ rows-read c = rw (c .before .labels-at .ensures) at (c .get2 .ensures)
 
 -- end of helpers
 
--- src/entries.rt:137:9
 entry-at-requires : tie.Need-entry-at-requires
 entry-at-requires c κs = (c .before .before .pre .0, omega (arith, c .before .before .pre .1 .1 .0 .1, c .before .before .pre .0 .few))
 
--- src/entries.rt:138:31
 add-get : tie.Need-add-get
 add-get c = search needs
 
--- src/entries.rt:138:26
 add-get-2 : tie.Need-add-get-2
 add-get-2 c = omega (arith, c .entry-at .ensures, entry-here (c .before .before .before))
 
--- src/entries.rt:138:8
 get-requires : tie.Need-get-requires
 get-requires c κs = omega (arith, c .entry-at .ensures, entry-here (c .before .before .before))
 
--- src/entries.rt:138:8
 kind-requires : tie.Need-kind-requires
 kind-requires c κs = search needs
 
--- src/entries.rt:139:9
 returns : tie.Need-returns
 returns c = refuse (λ q. c .if1 .taken (kind-read (c .before) ∙ q .kinded))
 
--- src/entries.rt:143:9
 add-masked-slot : tie.Need-add-masked-slot
 add-masked-slot c = search needs
 
--- src/entries.rt:147:14
 add-masked-slot-2 : tie.Need-add-masked-slot-2
 add-masked-slot-2 c = search needs
 
--- src/entries.rt:147:9
 add-masked-slot-3 : tie.Need-add-masked-slot-3
 add-masked-slot-3 c = omega (arith, c .before .before .before .entry-at .ensures, entry-here (c .before .before .before .before .before .before))
 
--- src/entries.rt:141:9
 masked-slot-requires : tie.Need-masked-slot-requires
 masked-slot-requires c κs =
     let start = c .before .before .before .before .before .before in
     let here = entry-here start in
     (start .pre .1 .1 .1 .0 .map, (omega (arith, here), (omega (arith, c .before .before .before .entry-at .ensures, here), start .pre .1 .1 .1 .1 .1)))
 
--- src/entries.rt:149:9
 returns-2 : tie.Need-returns-2
 returns-2 c =
     let entry-at = c .before .before .before .before .before .entry-at in
     refuse (λ q. never (sym (not-true _ (c .if2 .taken)) ∙ (rw (entry-at .ensures) at (c .before .masked-slot .ensures)) .1 (q .sign)))
 
--- src/entries.rt:151:26
 labels-at-requires : tie.Need-labels-at-requires
 labels-at-requires c κs = search needs
 
--- src/entries.rt:151:26
 add-get-3 : tie.Need-add-get-3
 add-get-3 c = omega (arith, c .labels-at .ensures, entry-here (c .before .before .before .before .before .before .before .before .before))
 
--- src/entries.rt:151:8
 get-requires-2 : tie.Need-get-requires-2
 get-requires-2 c κs = omega (arith, c .labels-at .ensures, entry-here (c .before .before .before .before .before .before .before .before .before))
 
--- src/entries.rt:152:35
 mul-get : tie.Need-mul-get
 mul-get c = search needs
 
--- src/entries.rt:152:35
 add-get-4 : tie.Need-add-get-4
 add-get-4 c = search needs
 
--- src/entries.rt:152:30
 add-get-5 : tie.Need-add-get-5
 add-get-5 c =
     omega (
@@ -127,7 +110,6 @@ add-get-5 c =
           (c .before .before .before .before .before .before .before .before .before .before),
     )
 
--- src/entries.rt:152:12
 get-requires-3 : tie.Need-get-requires-3
 get-requires-3 c κs =
     omega (
@@ -137,11 +119,9 @@ get-requires-3 c κs =
           (c .before .before .before .before .before .before .before .before .before .before),
     )
 
--- src/entries.rt:154:9
 returns-3 : tie.Need-returns-3
 returns-3 c = refuse (λ q. omega (arith, q .row, rows-read (c .before .before), row-read (c .before), c .if3 .taken))
 
--- src/entries.rt:156:5
 has-ratio-requires : tie.Need-has-ratio-requires
 has-ratio-requires c κs =
     let start = c .before .before .before .before .before .before .before .before .before .before .before .before in
@@ -167,7 +147,6 @@ has-ratio-requires c κs =
       ),
     )
 
--- src/entries.rt:126:1
 returns-4 : tie.Need-returns-4
 returns-4 c =
     let entry-at = c .before .before .before .before .before .before .before .before .before .before .entry-at in

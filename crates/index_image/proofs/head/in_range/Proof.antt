@@ -8,30 +8,24 @@ use Rattle.index_image.proofs.head.in_range.Reads as reads
 use Rattle.index_image.proofs.head.in_range.Lts as lts
 use Rattle.monomial.proofs.sizes.sizes_fit.Reads as sizes-fit-reads
 
--- src/head.rt:22:9
 returns : tie.Need-returns
 returns c = refuse (λ q. omega (arith, q .kind-to, c .if1 .taken))
 
--- src/head.rt:24:9
 sizes-fit-requires : tie.Need-sizes-fit-requires
 sizes-fit-requires c κs = search needs
 
--- src/head.rt:25:9
 returns-2 : tie.Need-returns-2
 returns-2 c =
     refuse
     (λ q. failed _ (sizes-asked _ _ (c .before .sizes-fit .ensures)) (c .if2 .taken)
     (record { vars-from = q .vars-from; vars-to = q .vars-to; cap-from = q .cap-from; cap-to = q .cap-to }))
 
--- src/head.rt:28:9
 returns-3 : tie.Need-returns-3
 returns-3 c = refuse (λ q. omega (arith, q .few, c .if3 .taken))
 
--- src/head.rt:31:9
 returns-4 : tie.Need-returns-4
 returns-4 c = refuse (λ q. omega (arith, q .nodes-from, c .if4 .taken))
 
--- src/head.rt:33:8
 mul-if5 : tie.Need-mul-if5
 mul-if5 c =
     let sizes-fit = c .before .before .before .before .before .before .sizes-fit in
@@ -39,7 +33,6 @@ mul-if5 c =
     let s = passed _ (sizes-asked _ _ (sizes-fit .ensures)) (if2 .left) in
     omega (arith, s .cap-to)
 
--- src/head.rt:33:8
 sub-if5 : tie.Need-sub-if5
 sub-if5 c =
     let sizes-fit = c .before .before .before .before .before .before .sizes-fit in
@@ -47,11 +40,9 @@ sub-if5 c =
     let s = passed _ (sizes-asked _ _ (sizes-fit .ensures)) (if2 .left) in
     omega (arith, s .cap-from)
 
--- src/head.rt:34:9
 returns-5 : tie.Need-returns-5
 returns-5 c = refuse (λ q. omega (arith, q .nodes-to, c .if5 .taken))
 
--- src/head.rt:18:1
 returns-6 : tie.Need-returns-6
 returns-6 c =
     let sizes-fit = c .before .before .before .before .before .before .before .before .sizes-fit in

@@ -16,87 +16,68 @@ use Rattle.index_image.proofs.head.in_range.Reads as in-range-reads
 use Rattle.words.proofs.get.Reads as get-reads
 use Rattle.words.proofs.runs.is_blank.Reads as is-blank-reads
 
--- src/head.rt:52:22
 mul-if1 : tie.Need-mul-if1
 mul-if1 c = search needs
 
--- src/head.rt:53:9
 returns : tie.Need-returns
 returns c =
     let start = c .before .before in
     bad (words (start .args .image .now)) (length (start .args .image .now))
     (λ s h. omega (arith, long-enough (words (start .args .image .now)) (length (start .args .image .now)) s h, c .if1 .taken))
 
--- src/head.rt:55:8
 get-requires : tie.Need-get-requires
 get-requires c κs = search needs
 
--- src/head.rt:56:9
 returns-2 : tie.Need-returns-2
 returns-2 c =
     let start = c .before .before .before .before in
     bad (words (start .args .image .now)) (length (start .args .image .now)) (λ s h. c .if2 .taken (c .before .get .ensures ∙ h .layout))
 
--- src/head.rt:59:15
 get-requires-2 : tie.Need-get-requires-2
 get-requires-2 c κs = search needs
 
--- src/head.rt:59:15
 cast-if5 : tie.Need-cast-if5
 cast-if5 c = search needs
 
--- src/head.rt:60:20
 get-requires-3 : tie.Need-get-requires-3
 get-requires-3 c κs = search needs
 
--- src/head.rt:60:20
 cast-if5-2 : tie.Need-cast-if5-2
 cast-if5-2 c = search needs
 
--- src/head.rt:61:19
 get-requires-4 : tie.Need-get-requires-4
 get-requires-4 c κs = search needs
 
--- src/head.rt:61:19
 cast-if5-3 : tie.Need-cast-if5-3
 cast-if5-3 c = search needs
 
--- src/head.rt:62:18
 get-requires-5 : tie.Need-get-requires-5
 get-requires-5 c κs = search needs
 
--- src/head.rt:62:18
 cast-t11 : tie.Need-cast-t11
 cast-t11 c = search needs
 
--- src/head.rt:63:16
 get-requires-6 : tie.Need-get-requires-6
 get-requires-6 c κs = search needs
 
--- src/head.rt:63:16
 cast-is-blank : tie.Need-cast-is-blank
 cast-is-blank c = search needs
 
--- src/head.rt:65:52
 sub-is-blank : tie.Need-sub-is-blank
 sub-is-blank c = search needs
 
--- src/head.rt:65:9
 is-blank-requires : tie.Need-is-blank-requires
 is-blank-requires c κs = search needs
 
--- src/head.rt:66:9
 returns-3 : tie.Need-returns-3
 returns-3 c =
     let start = c .before .before .before .before .before .before .before .before .before .before .before in
     bad (words (start .args .image .now)) (length (start .args .image .now))
     (λ s h. never (sym (not-true _ (c .if3 .taken)) ∙ c .before .is-blank .ensures .1 (h .kept)))
 
--- src/head.rt:68:9
 in-range-requires : tie.Need-in-range-requires
 in-range-requires c κs = search needs
 
--- src/head.rt:69:9
 returns-4 : tie.Need-returns-4
 returns-4 c =
     let start = c .before .before .before .before .before .before .before .before .before .before .before .before .before in
@@ -109,15 +90,12 @@ returns-4 c =
     (get5 .result) (get6 .result) (get2 .ensures) (get3 .ensures) (get4 .ensures) (get5 .ensures) (get6 .ensures)
     (λ r. never (sym (not-true _ (c .if4 .taken)) ∙ c .before .in-range .ensures .1 r))
 
--- src/head.rt:71:26
 size-requires : tie.Need-size-requires
 size-requires c κs = ((c .before .in-range .ensures .0) (not-false _ (c .if4 .left)))
 
--- src/head.rt:71:22
 mul-if5 : tie.Need-mul-if5
 mul-if5 c = omega (arith, c .size .ensures, size-small _ ((c .before .before .in-range .ensures .0) (not-false _ (c .before .if4 .left))))
 
--- src/head.rt:72:9
 returns-5 : tie.Need-returns-5
 returns-5 c =
     let start = c .before .before .before .before .before .before .before .before .before .before .before .before .before .before .before in
@@ -130,7 +108,6 @@ returns-5 c =
     (get5 .result) (get6 .result) (get2 .ensures) (get3 .ensures) (get4 .ensures) (get5 .ensures) (get6 .ensures)
     (omega (arith, c .before .size .ensures, c .if5 .taken))
 
--- src/head.rt:49:1
 returns-6 : tie.Need-returns-6
 returns-6 c =
     let start = c .before .before .before .before .before .before .before .before .before .before .before .before .before .before .before in

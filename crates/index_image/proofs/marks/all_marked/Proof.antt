@@ -16,31 +16,24 @@ Inv-loop seen n j₀ j = (j ≤ n) × ((i : ℕ) → i < j → getD seen i 0 ≡
 abbrev μ-loop : tie.MeasureT-loop
 μ-loop seen n j₀ j = n - j
 
--- src/marks.rt:47:5
 loop-holds : tie.Need-loop-holds Inv-loop μ-loop
 loop-holds c = (omega arith, λ j h. absurd (omega arith))
 
--- src/marks.rt:48:12
 shared-slice-read-if1 : tie.Need-shared-slice-read-if1 Inv-loop μ-loop
 shared-slice-read-if1 c = search needs
 
--- src/marks.rt:49:13
 returns : tie.Need-returns Inv-loop μ-loop
 returns c = refuse (λ q. (c .if1 .taken) (q (c .before .before .before .loop .j) (c .before .before .loop-test .taken)))
 
--- src/marks.rt:51:9
 add-j : tie.Need-add-j Inv-loop μ-loop
 add-j c = search needs
 
--- src/marks.rt:47:5
 loop-less : tie.Need-loop-less Inv-loop μ-loop
 loop-less c = search needs
 
--- src/marks.rt:47:5
 loop-again : tie.Need-loop-again Inv-loop μ-loop
 loop-again c = (omega arith, below-more _ _ (c .before .before .before .loop .inv .1) (c .if1 .left))
 
--- src/marks.rt:42:1
 returns-2 : tie.Need-returns-2 Inv-loop μ-loop
 returns-2 c = (λ z i h. (c .before .loop .inv .1) i (omega arith), λ q. refl)
 

@@ -7,25 +7,20 @@ use Rattle.index_image.proofs.marks.all_named.Lts as lts
 use Rattle.index_image.proofs.marks.all_marked.Reads as all-marked-reads
 use Rattle.index_image.proofs.marks.mark.Reads as mark-reads
 
--- src/marks.rt:64:27
 slice-aggregate-mark : tie.Need-slice-aggregate-mark
 slice-aggregate-mark c = search needs
 
--- src/marks.rt:64:5
 mark-requires : tie.Need-mark-requires
 mark-requires c κs =
     let start = c .before .before in
     ((start .pre .0 .0, (start .pre .0 .1 .0, start .pre .0 .1 .1 .0)), (start .pre .1 .0, (start .pre .1 .1, λ j. blank-array 4096 j)))
 
--- src/marks.rt:65:16
 slice-aggregate-all-marked : tie.Need-slice-aggregate-all-marked
 slice-aggregate-all-marked c = search needs
 
--- src/marks.rt:65:5
 all-marked-requires : tie.Need-all-marked-requires
 all-marked-requires c κs = search needs
 
--- src/marks.rt:57:1
 returns : tie.Need-returns
 returns c =
     let mark = c .before .before .before .mark in (

@@ -18,39 +18,30 @@ Inv-loop image at n i₀ i = (i ≤ n) × ((j : ℕ) → j < i → getD (words i
 abbrev μ-loop : tie.MeasureT-loop
 μ-loop image at n i₀ i = n - i
 
--- src/marks.rt:16:5
 loop-holds : tie.Need-loop-holds Inv-loop μ-loop
 loop-holds c = (omega arith, λ j h. absurd (omega arith))
 
--- src/marks.rt:17:35
 add-get : tie.Need-add-get Inv-loop μ-loop
 add-get c = search needs
 
--- src/marks.rt:17:17
 get-requires : tie.Need-get-requires Inv-loop μ-loop
 get-requires c κs = search needs
 
--- src/marks.rt:17:17
 cast-if1 : tie.Need-cast-if1 Inv-loop μ-loop
 cast-if1 c = search needs
 
--- src/marks.rt:18:13
 returns : tie.Need-returns Inv-loop μ-loop
 returns c = refuse (λ q. omega (arith, q (c .before .before .before .loop .i) (c .before .before .loop-test .taken), c .before .get .ensures, c .if1 .taken))
 
--- src/marks.rt:20:9
 add-i : tie.Need-add-i Inv-loop μ-loop
 add-i c = search needs
 
--- src/marks.rt:16:5
 loop-less : tie.Need-loop-less Inv-loop μ-loop
 loop-less c = search needs
 
--- src/marks.rt:16:5
 loop-again : tie.Need-loop-again Inv-loop μ-loop
 loop-again c = (omega arith, below-more _ _ (c .before .before .before .loop .inv .1) (omega (arith, c .before .get .ensures, c .if1 .left)))
 
--- src/marks.rt:11:1
 returns-2 : tie.Need-returns-2 Inv-loop μ-loop
 returns-2 c = (λ z i h. (c .before .loop .inv .1) i (omega arith), λ q. refl)
 

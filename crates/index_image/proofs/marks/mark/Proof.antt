@@ -19,7 +19,6 @@ Inv-loop image at w n seen₀ i₀ seen i = (i ≤ n) × ((length seen ≡ lengt
 abbrev μ-loop : tie.MeasureT-loop
 μ-loop image at w n seen₀ i₀ seen i = n - i
 
--- src/marks.rt:34:5
 loop-holds : tie.Need-loop-holds Inv-loop μ-loop
 loop-holds c =
     let start = c .before .before in (
@@ -30,13 +29,11 @@ loop-holds c =
       ),
     )
 
--- src/marks.rt:35:40
 mul-get : tie.Need-mul-get Inv-loop μ-loop
 mul-get c =
     let start = c .before .before .before .before in
     omega (arith, times (c .before .loop .i) (start .args .w) 4096 136 (omega (arith, start .pre .0 .0)) (start .pre .0 .1 .0))
 
--- src/marks.rt:35:35
 add-get : tie.Need-add-get Inv-loop μ-loop
 add-get c =
     let start = c .before .before .before .before in
@@ -46,30 +43,24 @@ add-get c =
       start .pre .0 .1 .1,
     )
 
--- src/marks.rt:35:17
 get-requires : tie.Need-get-requires Inv-loop μ-loop
 get-requires c κs = (c .before .before .before .before .pre .1 .0) (c .before .loop .i) (c .loop-test .taken)
 
--- src/marks.rt:35:17
 cast-j : tie.Need-cast-j Inv-loop μ-loop
 cast-j c = search needs
 
--- src/marks.rt:36:9
 slice-write-seen : tie.Need-slice-write-seen Inv-loop μ-loop
 slice-write-seen c =
     let start = c .before .before .before .before .before in
     let loop = c .before .before .loop in
     omega (arith, c .get .ensures, loop .inv .1 .0, start .pre .1 .1 .0 (loop .i) (c .before .loop-test .taken))
 
--- src/marks.rt:37:9
 add-i : tie.Need-add-i Inv-loop μ-loop
 add-i c = search needs
 
--- src/marks.rt:34:5
 loop-less : tie.Need-loop-less Inv-loop μ-loop
 loop-less c = search needs
 
--- src/marks.rt:34:5
 loop-again : tie.Need-loop-again Inv-loop μ-loop
 loop-again c =
     let start = c .before .before .before .before .before in
@@ -83,11 +74,9 @@ loop-again c =
       ),
     )
 
--- src/marks.rt:26:1
 same-length : tie.Need-same-length Inv-loop μ-loop
 same-length c = c .before .loop .inv .1 .0
 
--- src/marks.rt:26:1
 returns : tie.Need-returns Inv-loop μ-loop
 returns c = let e : (c .before .loop .i) ≡ (c .before .before .before .before .args .n) = omega arith in rw e at (c .before .loop .inv .1 .1)
 

@@ -82,15 +82,12 @@ next-lm c =
 
 -- end of helpers
 
--- src/stored.rt:133:9
 put-requires : tie.Need-put-requires Inv-loop μ-loop
 put-requires c κs = omega (arith, c .before .before .before .before .pre .1 .1)
 
--- src/stored.rt:134:9
 same-length : tie.Need-same-length Inv-loop μ-loop
 same-length c = search needs
 
--- src/stored.rt:134:9
 returns : tie.Need-returns Inv-loop μ-loop
 returns c =
     let start = c .before .before .before .before .before .before .before in
@@ -100,33 +97,26 @@ returns c =
           (omega (arith, start .pre .1 .1)) (c .before .before .before .before .if1 .taken) (put .last .0) (put .ensures),
     )
 
--- src/stored.rt:136:13
 permutation-at-requires : tie.Need-permutation-at-requires Inv-loop μ-loop
 permutation-at-requires c κs = c .before .before .before .pre .0 .range
 
--- src/stored.rt:136:13
 add-p : tie.Need-add-p Inv-loop μ-loop
 add-p c = omega (arith, room (c .before .before .before .before), c .permutation-at .ensures)
 
--- src/stored.rt:137:13
 get-requires : tie.Need-get-requires Inv-loop μ-loop
 get-requires c κs = omega (arith, room (c .before .before .before .before), c .permutation-at .ensures)
 
--- src/stored.rt:137:13
 cast-e : tie.Need-cast-e Inv-loop μ-loop
 cast-e c = omega arith
 
--- src/stored.rt:138:39
 entry-at-requires : tie.Need-entry-at-requires Inv-loop μ-loop
 entry-at-requires c κs =
     (c .before .before .before .before .before .pre .0 .range, omega (arith, first-entry c .small, c .before .before .before .before .before .pre .0 .range .few))
 
--- src/stored.rt:138:9
 monomial-in-requires : tie.Need-monomial-in-requires Inv-loop μ-loop
 monomial-in-requires c κs =
     rw (c .entry-at .ensures) (c .before .before .before .before .before .before .pre .0 .lms (c .before .get .result) (first-entry (c .before) .small))
 
--- src/stored.rt:139:5
 paste-requires : tie.Need-paste-requires Inv-loop μ-loop
 paste-requires c κs =
     let start = c .before .before .before .before .before .before .before .before in
@@ -144,7 +134,6 @@ paste-requires c κs =
       start .pre .0 .range .vars-to,
     )
 
--- src/stored.rt:142:5
 loop-holds : tie.Need-loop-holds Inv-loop μ-loop
 loop-holds c =
     let start = c .before .before .before .before .before .before .before .before .before .before .before in
@@ -159,29 +148,24 @@ loop-holds c =
     (words (monomial-in .result .now)) (length (monomial-in .result .now) / 4) (omega (arith, paste .kept .0, start .pre .1 .1))
     (first-lm (c .before .before .before .before)) (sym (length-words (monomial-in .result .now))) (paste .ensures)
 
--- src/stored.rt:143:35
 add-get : tie.Need-add-get Inv-loop μ-loop
 add-get c =
     let permutation-at = c .before .before .before .before .before .before .before .before .before .permutation-at in
     omega (arith, room ((c .before .before .before .before .before .before .before .before .before) .before .before .before .before), permutation-at .ensures)
 
--- src/stored.rt:143:17
 get-requires-2 : tie.Need-get-requires-2 Inv-loop μ-loop
 get-requires-2 c κs =
     let permutation-at = c .before .before .before .before .before .before .before .before .before .permutation-at in
     omega (arith, room ((c .before .before .before .before .before .before .before .before .before) .before .before .before .before), permutation-at .ensures)
 
--- src/stored.rt:143:17
 cast-e-2 : tie.Need-cast-e-2 Inv-loop μ-loop
 cast-e-2 c = omega arith
 
--- src/stored.rt:144:48
 entry-at-requires-2 : tie.Need-entry-at-requires-2 Inv-loop μ-loop
 entry-at-requires-2 c κs =
     let range = c .before .before .before .before .before .before .before .before .before .before .before .before .before .before .before .pre .0 .range in
     (range, omega (arith, next-entry (c .before) .small, range .few))
 
--- src/stored.rt:144:26
 monomial-from-requires : tie.Need-monomial-from-requires Inv-loop μ-loop
 monomial-from-requires c κs =
     let start = c .before .before .before .before .before .before .before .before .before .before .before .before .before .before .before .before in
@@ -189,7 +173,6 @@ monomial-from-requires c κs =
     rw (c .entry-at2 .ensures)
     (start .pre .0 .lms _ small, omega (arith, entry-room (start .args .image .now) (start .args .s) (start .pre .0) _ small))
 
--- src/stored.rt:144:9
 meet-requires : tie.Need-meet-requires Inv-loop μ-loop
 meet-requires c κs =
     let start = c .before .before .before .before .before .before .before .before .before .before .before .before .before .before .before .before .before in
@@ -210,15 +193,12 @@ meet-requires c κs =
       ),
     )
 
--- src/stored.rt:145:9
 add-i : tie.Need-add-i Inv-loop μ-loop
 add-i c = omega (arith, c .before .before .before .before .before .before .before .loop-test .taken)
 
--- src/stored.rt:142:5
 loop-less : tie.Need-loop-less Inv-loop μ-loop
 loop-less c = omega (arith, c .before .before .before .before .before .before .before .loop-test .taken)
 
--- src/stored.rt:142:5
 loop-again : tie.Need-loop-again Inv-loop μ-loop
 loop-again c =
     let meet = c .before .before .meet in
@@ -235,13 +215,11 @@ loop-again c =
     (first 1 (words (monomial-from .result .now))) (meet .result) (omega (arith, meet .kept .0, loop .inv .room))
     (next-lm (c .before .before .before)) (meet .ensures .0) (meet .ensures .1)
 
--- src/stored.rt:126:1
 same-length-2 : tie.Need-same-length-2 Inv-loop μ-loop
 same-length-2 c =
     let start = c .before .before .before .before .before .before .before .before .before .before .before .before .before in
     omega (arith, c .before .loop .inv .room, start .pre .1 .1)
 
--- src/stored.rt:126:1
 returns-2 : tie.Need-returns-2 Inv-loop μ-loop
 returns-2 c =
     let start = c .before .before .before .before .before .before .before .before .before .before .before .before .before in

@@ -26,67 +26,51 @@ row-here c =
 
 -- end of helpers
 
--- src/stored.rt:64:31
 entry-at-requires : tie.Need-entry-at-requires
 entry-at-requires c κs = search needs
 
--- src/stored.rt:64:48
 mul-get : tie.Need-mul-get
 mul-get c = search needs
 
--- src/stored.rt:64:48
 add-get : tie.Need-add-get
 add-get c = search needs
 
--- src/stored.rt:64:31
 add-get-2 : tie.Need-add-get-2
 add-get-2 c = omega (arith, entry-here (c .before .before), c .entry-at .ensures, c .before .before .pre .1 .0)
 
--- src/stored.rt:64:13
 get-requires : tie.Need-get-requires
 get-requires c κs = omega (arith, entry-here (c .before .before), c .entry-at .ensures, c .before .before .pre .1 .0)
 
--- src/stored.rt:64:13
 cast-r : tie.Need-cast-r
 cast-r c = search needs
 
--- src/stored.rt:65:23
 labels-at-requires : tie.Need-labels-at-requires
 labels-at-requires c κs = search needs
 
--- src/stored.rt:65:49
 add-get-3 : tie.Need-add-get-3
 add-get-3 c = search needs
 
--- src/stored.rt:65:44
 mul-get-2 : tie.Need-mul-get-2
 mul-get-2 c = omega (arith, row-here (c .before) .row-small)
 
--- src/stored.rt:65:40
 add-get-4 : tie.Need-add-get-4
 add-get-4 c = omega (arith, row-here (c .before) .row-small)
 
--- src/stored.rt:65:59
 add-get-5 : tie.Need-add-get-5
 add-get-5 c = search needs
 
--- src/stored.rt:65:40
 add-get-6 : tie.Need-add-get-6
 add-get-6 c = omega (arith, row-here (c .before) .row-small, c .before .before .before .before .pre .0 .vars-to)
 
--- src/stored.rt:65:23
 add-get-7 : tie.Need-add-get-7
 add-get-7 c = omega (arith, row-here (c .before), c .labels-at .ensures, c .before .before .before .before .pre .1 .0)
 
--- src/stored.rt:65:5
 get-requires-2 : tie.Need-get-requires-2
 get-requires-2 c κs = omega (arith, row-here (c .before), c .labels-at .ensures, c .before .before .before .before .pre .1 .0)
 
--- src/stored.rt:65:5
 cast-result : tie.Need-cast-result
 cast-result c = search needs
 
--- src/stored.rt:58:1
 returns : tie.Need-returns
 returns c =
     let start = c .before .before .before .before .before in

@@ -50,25 +50,20 @@ room c = omega (arith, fits (c .before .before .before .before .before), made-le
 
 -- end of helpers
 
--- src/stored.rt:118:13
 mul-e : tie.Need-mul-e
 mul-e c = search needs
 
--- src/stored.rt:119:27
 slice-reshare-prefix-gcd : tie.Need-slice-reshare-prefix-gcd
 slice-reshare-prefix-gcd c = search needs
 
--- src/stored.rt:119:27
 slice-aggregate-gcd : tie.Need-slice-aggregate-gcd
 slice-aggregate-gcd c =
     let start = c .before .before .before in
     sym (length-take-le (4 * start .args .n) (start .args .acc .now) (omega (arith, start .pre .0, start .pre .1 .0)))
 
--- src/stored.rt:119:45
 slice-aggregate-gcd-2 : tie.Need-slice-aggregate-gcd-2
 slice-aggregate-gcd-2 c = search needs
 
--- src/stored.rt:119:9
 gcd-requires : tie.Need-gcd-requires
 gcd-requires c κs =
     let start = c .before .before .before .before in
@@ -76,21 +71,17 @@ gcd-requires c κs =
     rw (front-words (start .args .acc .now) (start .args .n))
     (starts-wide (starts-whole ca), (start .pre .1 .1 .1 .0, rw (first-whole ca) (omega (arith, fits start))))
 
--- src/stored.rt:120:13
 mul-f : tie.Need-mul-f
 mul-f c = omega (arith, fits (c .before .before .before .before .before .before), made-length (c .before))
 
--- src/stored.rt:121:32
 array-share-prefix-made : tie.Need-array-share-prefix-made
 array-share-prefix-made c = omega (arith, room (c .before .before))
 
--- src/stored.rt:121:32
 slice-aggregate-paste : tie.Need-slice-aggregate-paste
 slice-aggregate-paste c =
     let gcd = c .before .before .before .gcd in
     sym (length-take-le (4 * gcd .result) (gcd .last .1 .1 .0) (room (c .before .before .before)))
 
--- src/stored.rt:121:5
 paste-requires : tie.Need-paste-requires
 paste-requires c κs =
     let start = c .before .before .before .before .before .before .before .before in
@@ -98,11 +89,9 @@ paste-requires c κs =
     let cut = length-take-le (4 * gcd .result) (gcd .last .1 .1 .0) (room (c .before .before .before)) in
     omega (arith, cut, fits start, made-length (c .before .before .before), start .pre .0)
 
--- src/stored.rt:109:1
 same-length : tie.Need-same-length
 same-length c = search needs
 
--- src/stored.rt:109:1
 returns : tie.Need-returns
 returns c =
     let start = c .before .before .before .before .before .before .before .before .before .before .before in

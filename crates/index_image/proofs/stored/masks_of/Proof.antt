@@ -10,39 +10,30 @@ use Rattle.index_image.proofs.stored.masks_of.Reads as reads
 use Rattle.index_image.proofs.stored.masks_of.Lts as lts
 use Rattle.divmask.proofs.pairs.map.Reads as map-reads
 
--- src/stored.rt:65:18
 add-x : tie.Need-add-x
 add-x c = search needs
 
--- src/stored.rt:65:13
 mul-x : tie.Need-mul-x
 mul-x c = search needs
 
--- src/stored.rt:66:17
 mul-y : tie.Need-mul-y
 mul-y c = search needs
 
--- src/stored.rt:66:13
 add-y : tie.Need-add-y
 add-y c = search needs
 
--- src/stored.rt:67:25
 sub-map : tie.Need-sub-map
 sub-map c = search needs
 
--- src/stored.rt:67:25
 part-map-start : tie.Need-part-map-start
 part-map-start c = search needs
 
--- src/stored.rt:67:25
 part-map-end : tie.Need-part-map-end
 part-map-end c = search needs
 
--- src/stored.rt:67:39
 cast-map : tie.Need-cast-map
 cast-map c = search needs
 
--- src/stored.rt:67:5
 map-requires : tie.Need-map-requires
 map-requires c κs =
     let s = c .before .before .before in (
@@ -51,7 +42,6 @@ map-requires c κs =
       starts-whole (s .pre .1 .1 .1),
     )
 
--- src/stored.rt:57:1
 returns : tie.Need-returns
 returns c =
     let s = c .before .before .before .before in

@@ -14,31 +14,25 @@ use Rattle.index_image.proofs.stored.meet.Lts as lts
 use Rattle.index_image.proofs.stored.make_gcd.Reads as make-gcd-reads
 use Rattle.monomial.proofs.divides.Reads as divides-reads
 
--- src/stored.rt:134:13
 mul-e : tie.Need-mul-e
 mul-e c = search needs
 
--- src/stored.rt:135:26
 slice-reshare-prefix-divides : tie.Need-slice-reshare-prefix-divides
 slice-reshare-prefix-divides c = search needs
 
--- src/stored.rt:135:26
 slice-aggregate-divides : tie.Need-slice-aggregate-divides
 slice-aggregate-divides c =
     let start = c .before .before .before in
     sym (length-take-le (4 * start .args .n) (start .args .acc .now) (omega (arith, start .pre .0, start .pre .1 .0)))
 
--- src/stored.rt:135:8
 divides-requires : tie.Need-divides-requires
 divides-requires c κs =
     let start = c .before .before .before in
     rw (front-words (start .args .acc .now) (start .args .n)) (starts-wide (starts-whole (start .pre .1 .1 .0)), start .pre .1 .1 .1 .0)
 
--- src/stored.rt:136:9
 same-length : tie.Need-same-length
 same-length c = search needs
 
--- src/stored.rt:136:9
 returns : tie.Need-returns
 returns c =
     let start = c .before .before .before .before .before in
@@ -50,15 +44,12 @@ returns c =
     ∙ c .if1 .taken) in
     (h .long, h .kept)
 
--- src/stored.rt:138:5
 make-gcd-requires : tie.Need-make-gcd-requires
 make-gcd-requires c κs = search needs
 
--- src/stored.rt:126:1
 same-length-2 : tie.Need-same-length-2
 same-length-2 c = search needs
 
--- src/stored.rt:126:1
 returns-2 : tie.Need-returns-2
 returns-2 c = search needs
 

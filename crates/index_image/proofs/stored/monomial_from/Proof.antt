@@ -7,23 +7,18 @@ use Rattle.index_image.proofs.stored.monomial_from.Tie as tie
 use Rattle.index_image.proofs.stored.monomial_from.Reads as reads
 use Rattle.index_image.proofs.stored.monomial_from.Lts as lts
 
--- src/stored.rt:32:13
 mul-a : tie.Need-mul-a
 mul-a c = search needs
 
--- src/stored.rt:33:5
 sub-result : tie.Need-sub-result
 sub-result c = search needs
 
--- src/stored.rt:33:5
 part-result-start : tie.Need-part-result-start
 part-result-start c = search needs
 
--- src/stored.rt:33:5
 part-result-end : tie.Need-part-result-end
 part-result-end c = search needs
 
--- src/stored.rt:27:1
 returns : tie.Need-returns
 returns c = begins (c .before .args .image .now) (c .before .args .s .variables) (c .before .args .g) (4 * (c .before .args .g)) refl (c .before .pre .0)
 

@@ -8,11 +8,9 @@ use Rattle.index_image.proofs.stored.monomial_in.Reads as reads
 use Rattle.index_image.proofs.stored.monomial_in.Lts as lts
 use Rattle.monomial.proofs.known_at.Reads as known-at-reads
 
--- src/stored.rt:33:5
 known-at-requires : tie.Need-known-at-requires
 known-at-requires c κs = search needs
 
--- src/stored.rt:29:1
 returns : tie.Need-returns
 returns c =
     let start = c .before .before in

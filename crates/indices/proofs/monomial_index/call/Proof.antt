@@ -14,34 +14,27 @@ use Rattle.indices.proofs.monomial_index.insert.Reads as insert-reads
 use Rattle.monomial.proofs.monomial_at.Reads as monomial-at-reads
 use Rattle.words.proofs.refusal_word.Reads as refusal-word-reads
 
--- src/monomial_index.rt:60:9
 refusal-word-requires : tie.Need-refusal-word-requires
 refusal-word-requires c κs = search needs
 
--- src/monomial_index.rt:60:9
 returns : tie.Need-returns
 returns c =
     let b = c .before .before .before .before in
     let a = b .before in
     refuses _ _ 6 _ (of-monomials _ _ _ (a .pre .0) _ (a .pre .1 .0) (six-monomials _ _ _ (c .before .if1 .taken))) (λ j. (b .slice-known .given) j .fits) (c .refusal-word .ensures)
 
--- src/monomial_index.rt:62:45
 cast-monomial-at : tie.Need-cast-monomial-at
 cast-monomial-at c = omega (arith, few-variables _ _ (c .before .before .before .before .before .pre .0))
 
--- src/monomial_index.rt:62:9
 monomial-at-requires : tie.Need-monomial-at-requires
 monomial-at-requires c κs = search needs
 
--- src/monomial_index.rt:63:9
 single-requires : tie.Need-single-requires
 single-requires c κs = search needs
 
--- src/monomial_index.rt:64:9
 refusal-word-requires-2 : tie.Need-refusal-word-requires-2
 refusal-word-requires-2 c κs = search needs
 
--- src/monomial_index.rt:64:9
 returns-2 : tie.Need-returns-2
 returns-2 c =
     let b = c .before .before .before in
@@ -52,7 +45,6 @@ returns-2 c =
     (bad-monomial _ _ _ _ _ (c .before .before .single .ensures _ (b .monomial-at .ensures)) (omega (arith, d .if1 .left)) (not-true _ (c .before .if2 .taken))))
     (λ j. (f .slice-known .given) j .fits) (c .refusal-word2 .ensures)
 
--- src/monomial_index.rt:67:9
 insert-requires : tie.Need-insert-requires
 insert-requires c κs =
     let b = c .before .before .before in
@@ -60,11 +52,9 @@ insert-requires c κs =
     let a = d .before .before .before .before .before .before in
     (a .pre .0, (a .pre .1 .0, (((b .single .ensures _ (d .monomial-at .ensures)) .canonical (not-false _ (c .before .before .if2 .left))), found-whole _ _ _ _ _ (d .monomial-at .ensures))))
 
--- src/monomial_index.rt:67:9
 same-length : tie.Need-same-length
 same-length c = search needs
 
--- src/monomial_index.rt:67:9
 returns-3 : tie.Need-returns-3
 returns-3 c =
     let b = c .before .before .before .before in
@@ -75,7 +65,6 @@ returns-3 c =
     serves _ _ _ _ _ (of-monomials _ _ _ (a .pre .0) _ (a .pre .1 .0)
     (inserts-monomial _ _ _ _ _ (f .single .ensures _ (g .monomial-at .ensures)) (b .if3 .taken) (not-false _ (d .if2 .left)))) (c .before .before .insert .ensures)
 
--- src/monomial_index.rt:69:5
 contains-divisor-requires : tie.Need-contains-divisor-requires
 contains-divisor-requires c κs =
     let b = c .before .before .before in
@@ -84,15 +73,12 @@ contains-divisor-requires c κs =
     let a = f .before .before .before .before .before .before in
     (a .pre .0, (a .pre .1 .0, (a .pre .1 .1 .0, ((d .single .ensures _ (f .monomial-at .ensures)) .canonical (not-false _ (b .if2 .left))))))
 
--- src/monomial_index.rt:44:1
 same-length-2 : tie.Need-same-length-2
 same-length-2 c = search needs
 
--- src/monomial_index.rt:44:1
 same-length-3 : tie.Need-same-length-3
 same-length-3 c = search needs
 
--- src/monomial_index.rt:44:1
 returns-4 : tie.Need-returns-4
 returns-4 c =
     let b = c .before .before .before .before in

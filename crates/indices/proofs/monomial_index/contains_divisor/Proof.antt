@@ -9,29 +9,23 @@ use Rattle.kd_query.proofs.contained.Reads as contained-reads
 use Rattle.kd_tree.proofs.find.Reads as find-reads
 use Rattle.words.proofs.answer_word.Reads as answer-word-reads
 
--- src/monomial_index.rt:36:5
 contained-requires : tie.Need-contained-requires
 contained-requires c κs =
     let a = c .before .before .before .before .before in
     (sound-of _ _ (a .pre .0), (head-of _ _ (a .pre .0), a .pre .1))
 
--- src/monomial_index.rt:37:8
 find-requires : tie.Need-find-requires
 find-requires c κs = ready _ _ _ _ _ (c .before .before .before .before .before .before .before .before .before .before .pre .0) (c .before .before .before .before .contained .ensures)
 
--- src/monomial_index.rt:38:9
 answer-word-requires : tie.Need-answer-word-requires
 answer-word-requires c κs = search needs
 
--- src/monomial_index.rt:38:9
 same-length : tie.Need-same-length
 same-length c = search needs
 
--- src/monomial_index.rt:38:9
 same-length-2 : tie.Need-same-length-2
 same-length-2 c = search needs
 
--- src/monomial_index.rt:38:9
 returns : tie.Need-returns
 returns c =
     let b = c .before .before .before .before in
@@ -39,19 +33,15 @@ returns c =
     let a = d .before .before .before .before .before .before in
     replied _ _ _ _ _ (a .pre .0) (d .contained .ensures) _ _ (b .find .ensures) _ (λ st I. c .answer-word .ensures ∙ sym (yes-none _ (c .before .if1 .taken)))
 
--- src/monomial_index.rt:40:5
 answer-word-requires-2 : tie.Need-answer-word-requires-2
 answer-word-requires-2 c κs = search needs
 
--- src/monomial_index.rt:29:1
 same-length-3 : tie.Need-same-length-3
 same-length-3 c = search needs
 
--- src/monomial_index.rt:29:1
 same-length-4 : tie.Need-same-length-4
 same-length-4 c = search needs
 
--- src/monomial_index.rt:29:1
 returns-2 : tie.Need-returns-2
 returns-2 c =
     let b = c .before .before .before .before in

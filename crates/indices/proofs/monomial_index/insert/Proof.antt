@@ -9,24 +9,20 @@ use Rattle.kd_insert.proofs.insertion.insert_monomial.Reads as insert-monomial-
 use Rattle.words.proofs.answer_word.Reads as answer-word-reads
 use Rattle.words.proofs.refusal_word.Reads as refusal-word-reads
 
--- src/monomial_index.rt:20:9
 refusal-word-requires : tie.Need-refusal-word-requires
 refusal-word-requires c κs = search needs
 
--- src/monomial_index.rt:20:9
 returns : tie.Need-returns
 returns c =
     let b = c .before .before .before .before in
     let a = b .before in
     refused (a .args .image .now) (a .args .s) _ (c .refusal-word .result) (a .pre .0) (λ j. (b .slice-known .given) j .fits) (omega (arith, c .before .if1 .taken)) (c .refusal-word .ensures)
 
--- src/monomial_index.rt:22:9
 insert-monomial-requires : tie.Need-insert-monomial-requires
 insert-monomial-requires c κs =
     let a = c .before .before .before .before .before in
     (with-room (a .args .image .now) (a .args .s) (a .pre .0) (omega (arith, c .before .if1 .left)), a .pre .1)
 
--- src/monomial_index.rt:23:24
 cast-answer-word : tie.Need-cast-answer-word
 cast-answer-word c =
     let b = c .before .before .before .before in
@@ -37,18 +33,15 @@ cast-answer-word c =
           (c .before .before .insert-monomial .ensures),
     )
 
--- src/monomial_index.rt:23:5
 answer-word-requires : tie.Need-answer-word-requires
 answer-word-requires c κs =
     let b = c .before .before .before .before in
     let a = b .before .before .before .before in
     number-small (a .args .image .now) (a .args .s) _ (c .before .before .insert-monomial .result) _ (a .pre .0) (omega (arith, b .if1 .left)) (c .before .before .insert-monomial .ensures)
 
--- src/monomial_index.rt:12:1
 same-length : tie.Need-same-length
 same-length c = search needs
 
--- src/monomial_index.rt:12:1
 returns-2 : tie.Need-returns-2
 returns-2 c =
     let b = c .before .before .before in

@@ -10,81 +10,64 @@ use Rattle.indices.proofs.ratio_monomial_index.ratio_call.Reads as rati
 use Rattle.indices.proofs.ratio_monomial_index.signed_call.Reads as signed-call-reads
 use Rattle.words.proofs.refusal_word.Reads as refusal-word-reads
 
--- src/ratio_monomial_index.rt:221:9
 refusal-word-requires : tie.Need-refusal-word-requires
 refusal-word-requires c κs = search needs
 
--- src/ratio_monomial_index.rt:221:9
 returns : tie.Need-returns
 returns c =
     let b = c .before .before .before .before .before in
     let a = b .before in
     refuses _ _ 6 _ (of-ratioed _ _ _ (a .pre .0) _ (a .pre .1 .0) (six-below _ _ _ (c .before .if1 .taken))) (λ j. (b .slice-known .given) j .fits) (c .refusal-word .ensures)
 
--- src/ratio_monomial_index.rt:224:9
 refusal-word-requires-2 : tie.Need-refusal-word-requires-2
 refusal-word-requires-2 c κs = search needs
 
--- src/ratio_monomial_index.rt:224:9
 returns-2 : tie.Need-returns-2
 returns-2 c =
     let b = c .before .before .before .before .before .before in
     let a = b .before in
     refuses _ _ 6 _ (of-ratioed _ _ _ (a .pre .0) _ (a .pre .1 .0) (six-above _ _ _ (c .before .if2 .taken))) (λ j. (b .slice-known .given) j .fits) (c .refusal-word2 .ensures)
 
--- src/ratio_monomial_index.rt:227:9
 pair-call-requires : tie.Need-pair-call-requires
 pair-call-requires c κs = search needs
 
--- src/ratio_monomial_index.rt:227:9
 same-length : tie.Need-same-length
 same-length c = search needs
 
--- src/ratio_monomial_index.rt:227:9
 same-length-2 : tie.Need-same-length-2
 same-length-2 c = search needs
 
--- src/ratio_monomial_index.rt:227:9
 returns-3 : tie.Need-returns-3
 returns-3 c = rw (c .before .before .before .before .before .before .before .if3 .taken) (c .before .before .before .before .pair-call .ensures)
 
--- src/ratio_monomial_index.rt:230:9
 ratio-call-requires : tie.Need-ratio-call-requires
 ratio-call-requires c κs =
     let a = c .before .before .before .before .before .before .before .before .before .before in
     (a .pre .0, (a .pre .1 .0, (a .pre .1 .1 .0 .0, (inl (c .before .before .if4 .taken), a .pre .1 .1 .1))))
 
--- src/ratio_monomial_index.rt:230:9
 same-length-3 : tie.Need-same-length-3
 same-length-3 c = search needs
 
--- src/ratio_monomial_index.rt:230:9
 same-length-4 : tie.Need-same-length-4
 same-length-4 c = search needs
 
--- src/ratio_monomial_index.rt:230:9
 returns-4 : tie.Need-returns-4
 returns-4 c = search needs
 
--- src/ratio_monomial_index.rt:233:9
 ratio-call-requires-2 : tie.Need-ratio-call-requires-2
 ratio-call-requires-2 c κs =
     let a = c .before .before .before .before .before .before .before .before .before .before .before in
     (a .pre .0, (a .pre .1 .0, (a .pre .1 .1 .0 .0, (inr (c .before .before .if5 .taken), a .pre .1 .1 .1))))
 
--- src/ratio_monomial_index.rt:233:9
 same-length-5 : tie.Need-same-length-5
 same-length-5 c = search needs
 
--- src/ratio_monomial_index.rt:233:9
 same-length-6 : tie.Need-same-length-6
 same-length-6 c = search needs
 
--- src/ratio_monomial_index.rt:233:9
 returns-5 : tie.Need-returns-5
 returns-5 c = search needs
 
--- src/ratio_monomial_index.rt:235:5
 signed-call-requires : tie.Need-signed-call-requires
 signed-call-requires c κs =
     let b = c .before .before .before in
@@ -95,19 +78,15 @@ signed-call-requires c κs =
     let a = h .before .before .before .before .before in
     (a .pre .0, (a .pre .1 .0, (a .pre .1 .1 .0, (two-or-six _ (h .if1 .left) (g .if2 .left) (f .if3 .left) (d .if4 .left) (b .if5 .left), a .pre .1 .1 .1))))
 
--- src/ratio_monomial_index.rt:204:1
 same-length-7 : tie.Need-same-length-7
 same-length-7 c = search needs
 
--- src/ratio_monomial_index.rt:204:1
 same-length-8 : tie.Need-same-length-8
 same-length-8 c = search needs
 
--- src/ratio_monomial_index.rt:204:1
 same-length-9 : tie.Need-same-length-9
 same-length-9 c = search needs
 
--- src/ratio_monomial_index.rt:204:1
 returns-6 : tie.Need-returns-6
 returns-6 c = search needs
 

@@ -13,29 +13,23 @@ use Rattle.kd_tree.proofs.query.label.Reads as label-reads
 use Rattle.words.proofs.answer_word.Reads as answer-word-reads
 use Rattle.words.proofs.pairs.get.Reads as get-reads
 
--- src/ratio_monomial_index.rt:49:5
 reducer-requires : tie.Need-reducer-requires
 reducer-requires c κs =
     let a = c .before .before .before .before .before .before in
     (sound-of _ _ (a .pre .0), (head-of _ _ (a .pre .0), (a .pre .1 .0, (a .pre .1 .1 .0, (canonical-wide (a .pre .1 .1 .1 .0), a .pre .1 .1 .1 .1)))))
 
--- src/ratio_monomial_index.rt:50:9
 find-requires : tie.Need-find-requires
 find-requires c κs = ready _ _ _ _ _ (c .before .before .before .before .before .before .before .before .before .before .before .pre .0) (c .before .before .before .before .reducer .ensures)
 
--- src/ratio_monomial_index.rt:52:9
 answer-word-requires : tie.Need-answer-word-requires
 answer-word-requires c κs = search needs
 
--- src/ratio_monomial_index.rt:52:9
 same-length : tie.Need-same-length
 same-length c = search needs
 
--- src/ratio_monomial_index.rt:52:9
 same-length-2 : tie.Need-same-length-2
 same-length-2 c = search needs
 
--- src/ratio_monomial_index.rt:52:9
 returns : tie.Need-returns
 returns c =
     let b = c .before .before .before .before in
@@ -43,11 +37,9 @@ returns c =
     let a = d .before .before .before .before .before .before .before in
     replied _ _ _ _ _ (a .pre .0) (d .reducer .ensures) _ _ (b .find .ensures) _ (λ st I. c .answer-word .ensures ∙ sym (reducer-none _ _ _ (c .before .if1 .taken)))
 
--- src/ratio_monomial_index.rt:54:31
 sub-label : tie.Need-sub-label
 sub-label c = search needs
 
--- src/ratio_monomial_index.rt:54:8
 label-requires : tie.Need-label-requires
 label-requires c κs =
     let b = c .before .before .before .before .before in
@@ -63,11 +55,9 @@ label-requires c κs =
       ),
     )
 
--- src/ratio_monomial_index.rt:54:40
 get-requires : tie.Need-get-requires
 get-requires c κs = search needs
 
--- src/ratio_monomial_index.rt:55:35
 cast-answer-word : tie.Need-cast-answer-word
 cast-answer-word c =
     let b = c .before .before .before .before .before .before .before .before .before in
@@ -75,7 +65,6 @@ cast-answer-word c =
     let a = d .before .before .before .before .before .before .before in
     omega (arith, small _ _ _ _ _ (a .pre .0) (d .reducer .ensures) _ _ (b .find .ensures))
 
--- src/ratio_monomial_index.rt:55:9
 answer-word-requires-2 : tie.Need-answer-word-requires-2
 answer-word-requires-2 c κs =
     let b = c .before .before .before .before .before .before .before .before .before in
@@ -83,15 +72,12 @@ answer-word-requires-2 c κs =
     let a = d .before .before .before .before .before .before .before in
     omega (arith, small _ _ _ _ _ (a .pre .0) (d .reducer .ensures) _ _ (b .find .ensures))
 
--- src/ratio_monomial_index.rt:55:9
 same-length-3 : tie.Need-same-length-3
 same-length-3 c = search needs
 
--- src/ratio_monomial_index.rt:55:9
 same-length-4 : tie.Need-same-length-4
 same-length-4 c = search needs
 
--- src/ratio_monomial_index.rt:55:9
 returns-2 : tie.Need-returns-2
 returns-2 c =
     let b = c .before .before .before .before in
@@ -103,7 +89,6 @@ returns-2 c =
     (told-regular _ _ _ _ _ _ (a .pre .0) (g .reducer .ensures) _ _ (f .find .ensures) _ (d .if1 .left) (b .label .ensures .0) _
     (rw (c .before .before .get .ensures) at (c .before .if2 .taken)) (c .answer-word2 .ensures))
 
--- src/ratio_monomial_index.rt:57:24
 cast-answer-word-2 : tie.Need-cast-answer-word-2
 cast-answer-word-2 c =
     let b = c .before .before .before .before .before .before .before .before .before in
@@ -111,7 +96,6 @@ cast-answer-word-2 c =
     let a = d .before .before .before .before .before .before .before in
     omega (arith, small _ _ _ _ _ (a .pre .0) (d .reducer .ensures) _ _ (b .find .ensures))
 
--- src/ratio_monomial_index.rt:57:24
 add-answer-word : tie.Need-add-answer-word
 add-answer-word c =
     let b = c .before .before .before .before .before .before .before .before .before in
@@ -119,7 +103,6 @@ add-answer-word c =
     let a = d .before .before .before .before .before .before .before in
     omega (arith, small _ _ _ _ _ (a .pre .0) (d .reducer .ensures) _ _ (b .find .ensures))
 
--- src/ratio_monomial_index.rt:57:5
 answer-word-requires-3 : tie.Need-answer-word-requires-3
 answer-word-requires-3 c κs =
     let b = c .before .before .before .before .before .before .before .before .before in
@@ -127,15 +110,12 @@ answer-word-requires-3 c κs =
     let a = d .before .before .before .before .before .before .before in
     omega (arith, small _ _ _ _ _ (a .pre .0) (d .reducer .ensures) _ _ (b .find .ensures))
 
--- src/ratio_monomial_index.rt:34:1
 same-length-5 : tie.Need-same-length-5
 same-length-5 c = search needs
 
--- src/ratio_monomial_index.rt:34:1
 same-length-6 : tie.Need-same-length-6
 same-length-6 c = search needs
 
--- src/ratio_monomial_index.rt:34:1
 returns-3 : tie.Need-returns-3
 returns-3 c =
     let b = c .before .before .before .before in

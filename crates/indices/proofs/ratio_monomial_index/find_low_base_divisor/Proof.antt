@@ -9,39 +9,32 @@ use Rattle.kd_query.proofs.low.Reads as low-reads
 use Rattle.kd_tree.proofs.find.Reads as find-reads
 use Rattle.words.proofs.answer_word.Reads as answer-word-reads
 
--- src/ratio_monomial_index.rt:96:5
 low-requires : tie.Need-low-requires
 low-requires c κs =
     let a = c .before .before .before .before .before in
     (sound-of _ _ (a .pre .0), (head-of _ _ (a .pre .0), a .pre .1))
 
--- src/ratio_monomial_index.rt:97:9
 find-requires : tie.Need-find-requires
 find-requires c κs = ready _ _ _ _ _ (c .before .before .before .before .before .before .before .before .before .before .pre .0) (c .before .before .before .before .low .ensures)
 
--- src/ratio_monomial_index.rt:98:24
 cast-answer-word : tie.Need-cast-answer-word
 cast-answer-word c =
     let b = c .before .before .before .before .before .before .before in
     let a = b .before .before .before .before .before .before in
     omega (arith, small _ _ _ _ _ (a .pre .0) (b .low .ensures) _ _ (c .before .before .find .ensures))
 
--- src/ratio_monomial_index.rt:98:5
 answer-word-requires : tie.Need-answer-word-requires
 answer-word-requires c κs =
     let b = c .before .before .before .before .before .before .before in
     let a = b .before .before .before .before .before .before in
     omega (arith, small _ _ _ _ _ (a .pre .0) (b .low .ensures) _ _ (c .before .before .find .ensures))
 
--- src/ratio_monomial_index.rt:82:1
 same-length : tie.Need-same-length
 same-length c = search needs
 
--- src/ratio_monomial_index.rt:82:1
 same-length-2 : tie.Need-same-length-2
 same-length-2 c = search needs
 
--- src/ratio_monomial_index.rt:82:1
 returns : tie.Need-returns
 returns c =
     let b = c .before .before .before in

@@ -9,42 +9,35 @@ use Rattle.kd_insert.proofs.insertion.insert_ratio.Reads as insert-ratio-reads
 use Rattle.words.proofs.answer_word.Reads as answer-word-reads
 use Rattle.words.proofs.refusal_word.Reads as refusal-word-reads
 
--- src/ratio_monomial_index.rt:22:9
 refusal-word-requires : tie.Need-refusal-word-requires
 refusal-word-requires c κs = search needs
 
--- src/ratio_monomial_index.rt:22:9
 returns : tie.Need-returns
 returns c =
     let b = c .before .before .before .before .before in
     let a = b .before in
     refused (a .args .image .now) (a .args .s) _ (c .refusal-word .result) (a .pre .0) (λ j. (b .slice-known .given) j .fits) (omega (arith, c .before .if1 .taken)) (c .refusal-word .ensures)
 
--- src/ratio_monomial_index.rt:24:9
 insert-ratio-requires : tie.Need-insert-ratio-requires
 insert-ratio-requires c κs =
     let a = c .before .before .before .before .before .before in
     (with-room (a .args .image .now) (a .args .s) (a .pre .0) (omega (arith, c .before .if1 .left)), a .pre .1)
 
--- src/ratio_monomial_index.rt:25:24
 cast-answer-word : tie.Need-cast-answer-word
 cast-answer-word c =
     let b = c .before .before .before .before in
     let a = b .before .before .before .before .before in
     omega (arith, number-small (a .args .image .now) (a .args .s) _ (c .before .before .insert-ratio .result) _ (a .pre .0) (omega (arith, b .if1 .left)) (c .before .before .insert-ratio .ensures))
 
--- src/ratio_monomial_index.rt:25:5
 answer-word-requires : tie.Need-answer-word-requires
 answer-word-requires c κs =
     let b = c .before .before .before .before in
     let a = b .before .before .before .before .before in
     number-small (a .args .image .now) (a .args .s) _ (c .before .before .insert-ratio .result) _ (a .pre .0) (omega (arith, b .if1 .left)) (c .before .before .insert-ratio .ensures)
 
--- src/ratio_monomial_index.rt:13:1
 same-length : tie.Need-same-length
 same-length c = search needs
 
--- src/ratio_monomial_index.rt:13:1
 returns-2 : tie.Need-returns-2
 returns-2 c =
     let b = c .before .before .before in

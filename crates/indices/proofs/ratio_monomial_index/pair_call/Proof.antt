@@ -14,27 +14,21 @@ use Rattle.indices.proofs.ratio_monomial_index.find_low_base_divisor.Re
 use Rattle.monomial.proofs.monomial_at.Reads as monomial-at-reads
 use Rattle.words.proofs.refusal_word.Reads as refusal-word-reads
 
--- src/ratio_monomial_index.rt:134:41
 add-monomial-at : tie.Need-add-monomial-at
 add-monomial-at c = omega (arith, c .before .before .before .good, c .before .before .before .pre .1 .1 .1 .0, length-words (c .before .before .before .args .list .now))
 
--- src/ratio_monomial_index.rt:134:49
 cast-monomial-at : tie.Need-cast-monomial-at
 cast-monomial-at c = omega (arith, few-variables _ _ (c .before .before .before .before .pre .0))
 
--- src/ratio_monomial_index.rt:134:9
 monomial-at-requires : tie.Need-monomial-at-requires
 monomial-at-requires c κs = search needs
 
--- src/ratio_monomial_index.rt:135:9
 pair-requires : tie.Need-pair-requires
 pair-requires c κs = search needs
 
--- src/ratio_monomial_index.rt:137:9
 refusal-word-requires : tie.Need-refusal-word-requires
 refusal-word-requires c κs = search needs
 
--- src/ratio_monomial_index.rt:137:9
 returns : tie.Need-returns
 returns c =
     let b = c .before .before .before in
@@ -44,7 +38,6 @@ returns c =
     refuses _ _ 7 _ (of-ratioed _ _ _ (a .pre .0) _ (a .pre .1 .0)
     (bad-pair _ _ _ _ _ (b .pair .ensures _ (d .monomial-at .ensures)) refl (not-true _ (c .before .if1 .taken)))) (λ j. (f .slice-known .given) j .fits) (c .refusal-word .ensures)
 
--- src/ratio_monomial_index.rt:139:5
 find-low-base-divisor-requires : tie.Need-find-low-base-divisor-requires
 find-low-base-divisor-requires c κs =
     let b = c .before .before .before .before in
@@ -53,15 +46,12 @@ find-low-base-divisor-requires c κs =
     let a = d .before .before .before .before .before in
     (a .pre .0, (a .pre .1 .0, (a .pre .1 .1 .0, (p .index-small, p .canonical (not-false _ (c .before .before .if1 .left))))))
 
--- src/ratio_monomial_index.rt:127:1
 same-length : tie.Need-same-length
 same-length c = search needs
 
--- src/ratio_monomial_index.rt:127:1
 same-length-2 : tie.Need-same-length-2
 same-length-2 c = search needs
 
--- src/ratio_monomial_index.rt:127:1
 returns-2 : tie.Need-returns-2
 returns-2 c =
     let b = c .before .before .before .before in

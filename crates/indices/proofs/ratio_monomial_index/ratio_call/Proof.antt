@@ -15,43 +15,34 @@ use Rattle.monomial.proofs.monomial_at.Reads as monomial-at-reads
 use Rattle.monomial.proofs.ratio_at.Reads as ratio-at-reads
 use Rattle.words.proofs.refusal_word.Reads as refusal-word-reads
 
--- src/ratio_monomial_index.rt:159:13
 cast-v : tie.Need-cast-v
 cast-v c = omega (arith, few-variables _ _ (c .before .before .before .before .pre .0))
 
--- src/ratio_monomial_index.rt:160:38
 add-ratio-at : tie.Need-add-ratio-at
 add-ratio-at c = omega (arith, c .before .before .before .before .good, c .before .before .before .before .pre .1 .1 .1 .1 .0, length-words (c .before .before .before .before .args .list .now))
 
--- src/ratio_monomial_index.rt:160:9
 ratio-at-requires : tie.Need-ratio-at-requires
 ratio-at-requires c κs = search needs
 
--- src/ratio_monomial_index.rt:161:41
 add-monomial-at : tie.Need-add-monomial-at
 add-monomial-at c =
     let a = c .before .before .before .before .before in
     omega (arith, a .good, a .pre .1 .1 .1 .1 .0, length-words (a .args .list .now))
 
--- src/ratio_monomial_index.rt:161:41
 add-monomial-at-2 : tie.Need-add-monomial-at-2
 add-monomial-at-2 c =
     let a = c .before .before .before .before .before in
     omega (arith, a .good, a .pre .1 .1 .1 .1 .0, length-words (a .args .list .now), c .ratio-at .ok)
 
--- src/ratio_monomial_index.rt:161:9
 monomial-at-requires : tie.Need-monomial-at-requires
 monomial-at-requires c κs = search needs
 
--- src/ratio_monomial_index.rt:162:9
 triple-requires : tie.Need-triple-requires
 triple-requires c κs = search needs
 
--- src/ratio_monomial_index.rt:164:9
 refusal-word-requires : tie.Need-refusal-word-requires
 refusal-word-requires c κs = search needs
 
--- src/ratio_monomial_index.rt:164:9
 returns : tie.Need-returns
 returns c =
     let b = c .before .before .before in
@@ -63,7 +54,6 @@ returns c =
     (bad-valued _ _ _ _ _ _ (b .triple .ensures 2 _ (omega arith) (omega arith) (f .ratio-at .ensures) (d .monomial-at .ensures)) (a .pre .1 .1 .1 .0)
     (not-true _ (c .before .if1 .taken)))) (λ j. (g .slice-known .given) j .fits) (c .refusal-word .ensures)
 
--- src/ratio_monomial_index.rt:167:9
 find-a-reducer-requires : tie.Need-find-a-reducer-requires
 find-a-reducer-requires c κs =
     let b = c .before .before .before in
@@ -74,15 +64,12 @@ find-a-reducer-requires c κs =
     let a = g .before .before .before .before .before in
     (a .pre .0, (a .pre .1 .0, (a .pre .1 .1 .0, (p .first-canonical (not-false _ (b .if1 .left)), p .second-canonical (not-false _ (b .if1 .left))))))
 
--- src/ratio_monomial_index.rt:167:9
 same-length : tie.Need-same-length
 same-length c = search needs
 
--- src/ratio_monomial_index.rt:167:9
 same-length-2 : tie.Need-same-length-2
 same-length-2 c = search needs
 
--- src/ratio_monomial_index.rt:167:9
 returns-2 : tie.Need-returns-2
 returns-2 c =
     let b = c .before .before .before .before in
@@ -96,7 +83,6 @@ returns-2 c =
     (asks-reducing _ _ _ _ _ _ (g .triple .ensures 2 _ (omega arith) (omega arith) (i .ratio-at .ensures) (h .monomial-at .ensures)) (d .if2 .taken)
     (not-false _ (f .if1 .left)))) (b .find-a-reducer .ensures)
 
--- src/ratio_monomial_index.rt:169:5
 find-high-base-divisor-requires : tie.Need-find-high-base-divisor-requires
 find-high-base-divisor-requires c κs =
     let b = c .before .before .before in
@@ -107,15 +93,12 @@ find-high-base-divisor-requires c κs =
     let a = g .before .before .before .before .before in
     (a .pre .0, (a .pre .1 .0, (a .pre .1 .1 .0, (p .first-canonical (not-false _ (b .if1 .left)), p .second-canonical (not-false _ (b .if1 .left))))))
 
--- src/ratio_monomial_index.rt:143:1
 same-length-3 : tie.Need-same-length-3
 same-length-3 c = search needs
 
--- src/ratio_monomial_index.rt:143:1
 same-length-4 : tie.Need-same-length-4
 same-length-4 c = search needs
 
--- src/ratio_monomial_index.rt:143:1
 returns-3 : tie.Need-returns-3
 returns-3 c =
     let b = c .before .before .before .before in

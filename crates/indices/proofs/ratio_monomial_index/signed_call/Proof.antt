@@ -15,45 +15,36 @@ use Rattle.indices.proofs.ratio_monomial_index.test_singular_criterion.
 use Rattle.monomial.proofs.monomial_at.Reads as monomial-at-reads
 use Rattle.words.proofs.refusal_word.Reads as refusal-word-reads
 
--- src/ratio_monomial_index.rt:190:13
 cast-v : tie.Need-cast-v
 cast-v c = omega (arith, few-variables _ _ (c .before .before .before .before .before .pre .0))
 
--- src/ratio_monomial_index.rt:191:41
 add-monomial-at : tie.Need-add-monomial-at
 add-monomial-at c =
     let a = c .before .before .before .before .before in
     omega (arith, a .good, a .pre .1 .1 .1 .1 .0, length-words (a .args .list .now))
 
--- src/ratio_monomial_index.rt:191:9
 monomial-at-requires : tie.Need-monomial-at-requires
 monomial-at-requires c κs = search needs
 
--- src/ratio_monomial_index.rt:192:41
 add-monomial-at-2 : tie.Need-add-monomial-at-2
 add-monomial-at-2 c =
     let a = c .before .before .before .before .before .before in
     omega (arith, a .good, a .pre .1 .1 .1 .1 .0, length-words (a .args .list .now))
 
--- src/ratio_monomial_index.rt:192:41
 add-monomial-at-3 : tie.Need-add-monomial-at-3
 add-monomial-at-3 c =
     let a = c .before .before .before .before .before .before in
     omega (arith, a .good, a .pre .1 .1 .1 .1 .0, length-words (a .args .list .now), c .monomial-at .ok)
 
--- src/ratio_monomial_index.rt:192:9
 monomial-at-requires-2 : tie.Need-monomial-at-requires-2
 monomial-at-requires-2 c κs = search needs
 
--- src/ratio_monomial_index.rt:193:9
 triple-requires : tie.Need-triple-requires
 triple-requires c κs = search needs
 
--- src/ratio_monomial_index.rt:195:9
 refusal-word-requires : tie.Need-refusal-word-requires
 refusal-word-requires c κs = search needs
 
--- src/ratio_monomial_index.rt:195:9
 returns : tie.Need-returns
 returns c =
     let b = c .before .before .before in
@@ -65,7 +56,6 @@ returns c =
     (bad-signed _ _ _ _ _ _ (b .triple .ensures 1 _ (omega arith) (omega arith) (f .monomial-at .ensures) (d .monomial-at2 .ensures)) (a .pre .1 .1 .1 .0)
     (not-true _ (c .before .if1 .taken)))) (λ j. (g .slice-known .given) j .fits) (c .refusal-word .ensures)
 
--- src/ratio_monomial_index.rt:198:9
 insert-requires : tie.Need-insert-requires
 insert-requires c κs =
     let b = c .before .before .before .before in
@@ -86,11 +76,9 @@ insert-requires c κs =
       ),
     )
 
--- src/ratio_monomial_index.rt:198:9
 same-length : tie.Need-same-length
 same-length c = search needs
 
--- src/ratio_monomial_index.rt:198:9
 returns-2 : tie.Need-returns-2
 returns-2 c =
     let b = c .before .before .before .before in
@@ -103,7 +91,6 @@ returns-2 c =
     (inserts-signed _ _ _ _ _ _ (f .triple .ensures 1 _ (omega arith) (omega arith) (h .monomial-at .ensures) (g .monomial-at2 .ensures)) (b .if2 .taken)
     (not-false _ (d .if1 .left)))) (c .before .before .insert .ensures)
 
--- src/ratio_monomial_index.rt:200:5
 test-singular-criterion-requires : tie.Need-test-singular-criterion-requires
 test-singular-criterion-requires c κs =
     let b = c .before .before .before .before in
@@ -114,19 +101,15 @@ test-singular-criterion-requires c κs =
     let a = g .before .before .before .before .before .before in
     (a .pre .0, (a .pre .1 .0, (a .pre .1 .1 .0, (p .index-small, (p .first-canonical (not-false _ (b .if1 .left)), p .second-canonical (not-false _ (b .if1 .left)))))))
 
--- src/ratio_monomial_index.rt:173:1
 same-length-2 : tie.Need-same-length-2
 same-length-2 c = search needs
 
--- src/ratio_monomial_index.rt:173:1
 same-length-3 : tie.Need-same-length-3
 same-length-3 c = search needs
 
--- src/ratio_monomial_index.rt:173:1
 same-length-4 : tie.Need-same-length-4
 same-length-4 c = search needs
 
--- src/ratio_monomial_index.rt:173:1
 returns-3 : tie.Need-returns-3
 returns-3 c =
     let b = c .before .before .before .before .before .before in

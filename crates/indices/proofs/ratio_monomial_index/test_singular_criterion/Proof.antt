@@ -12,36 +12,29 @@ use Rattle.kd_query.proofs.singular.Reads as singular-reads
 use Rattle.kd_tree.proofs.find.Reads as find-reads
 use Rattle.words.proofs.answer_word.Reads as answer-word-reads
 
--- src/ratio_monomial_index.rt:119:5
 singular-requires : tie.Need-singular-requires
 singular-requires c κs =
     let a = c .before .before .before .before .before .before .before .before in
     (sound-of _ _ (a .pre .0), (head-of _ _ (a .pre .0), (a .pre .1 .0, (a .pre .1 .1 .0 .0, (omega (arith, few-variables _ _ (a .pre .0), a .pre .1 .1 .0 .1), a .pre .1 .1 .1)))))
 
--- src/ratio_monomial_index.rt:120:8
 find-requires : tie.Need-find-requires
 find-requires c κs =
     let b = c .before .before .before .before .before .before in
     let a = b .before .before .before .before .before .before .before .before .before in
     ready _ _ _ _ _ (a .pre .0) (b .singular .ensures)
 
--- src/ratio_monomial_index.rt:121:9
 answer-word-requires : tie.Need-answer-word-requires
 answer-word-requires c κs = search needs
 
--- src/ratio_monomial_index.rt:121:9
 same-length : tie.Need-same-length
 same-length c = search needs
 
--- src/ratio_monomial_index.rt:121:9
 same-length-2 : tie.Need-same-length-2
 same-length-2 c = search needs
 
--- src/ratio_monomial_index.rt:121:9
 same-length-3 : tie.Need-same-length-3
 same-length-3 c = search needs
 
--- src/ratio_monomial_index.rt:121:9
 returns : tie.Need-returns
 returns c =
     let b = c .before .before .before .before in
@@ -49,23 +42,18 @@ returns c =
     let a = d .before .before .before .before .before .before .before .before .before in
     replied _ _ _ _ _ (a .pre .0) (d .singular .ensures) _ _ (b .find .ensures) _ (λ st I. c .answer-word .ensures ∙ sym (yes-none _ (c .before .if1 .taken)))
 
--- src/ratio_monomial_index.rt:123:5
 answer-word-requires-2 : tie.Need-answer-word-requires-2
 answer-word-requires-2 c κs = search needs
 
--- src/ratio_monomial_index.rt:102:1
 same-length-4 : tie.Need-same-length-4
 same-length-4 c = search needs
 
--- src/ratio_monomial_index.rt:102:1
 same-length-5 : tie.Need-same-length-5
 same-length-5 c = search needs
 
--- src/ratio_monomial_index.rt:102:1
 same-length-6 : tie.Need-same-length-6
 same-length-6 c = search needs
 
--- src/ratio_monomial_index.rt:102:1
 returns-2 : tie.Need-returns-2
 returns-2 c =
     let b = c .before .before .before .before in

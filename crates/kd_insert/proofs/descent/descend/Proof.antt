@@ -21,13 +21,11 @@ Inv-loop image₀ s lm label k₀ lo₀ image k lo = (R : at.InRange s) (room : 
 abbrev μ-loop : tie.MeasureT-loop
 μ-loop image₀ s lm label k₀ lo₀ image k lo = s .nodes - k
 
--- src/descent.rt:150:5
 loop-holds : tie.Need-loop-holds Inv-loop μ-loop
 loop-holds c =
     let start = c .before .before in
     λ R room g. going-start (start .args .image .now) (start .args .s) R room (words (start .args .lm .now)) (start .args .label) g (λ j. (c .before .slice-known .given) j .fits)
 
--- src/descent.rt:151:13
 next-step-requires : tie.Need-next-step-requires Inv-loop μ-loop
 next-step-requires c κs =
     let start = c .before .before .before .before in
@@ -44,7 +42,6 @@ next-step-requires c κs =
       ),
     )
 
--- src/descent.rt:152:24
 node-at-requires : tie.Need-node-at-requires Inv-loop μ-loop
 node-at-requires c κs =
     let start = c .before .before .before .before .before .before in
@@ -59,7 +56,6 @@ node-at-requires c κs =
       ),
     )
 
--- src/descent.rt:152:9
 grow-requires : tie.Need-grow-requires Inv-loop μ-loop
 grow-requires c κs =
     let start = c .before .before .before .before .before .before .before in
@@ -97,7 +93,6 @@ grow-requires c κs =
       ),
     )
 
--- src/descent.rt:153:9
 add-lo : tie.Need-add-lo Inv-loop μ-loop
 add-lo c =
     let start = c .before .before .before .before .before .before .before .before .before .before .before in
@@ -110,7 +105,6 @@ add-lo c =
     (start .args .label) (start .pre .1 .1 .1 .1 .1) (loop .image) (loop .k) (loop .lo) p)) in
     omega (arith, start .pre .0 .cap-to)
 
--- src/descent.rt:155:13
 same-length : tie.Need-same-length Inv-loop μ-loop
 same-length c =
     let start = c .before .before .before .before .before .before .before .before .before .before .before .before in
@@ -119,7 +113,6 @@ same-length c =
     grow .kept .0 ∙ kept-length (start .args .image .now) (start .args .s) (start .pre .0) (start .pre .1 .0) (words (start .args .lm .now)) (start .args .label)
     (start .pre .1 .1 .1 .1 .1) (loop .image) (loop .k) (loop .lo) ((loop .inv) (start .pre .0) (start .pre .1 .0) (start .pre .1 .1 .1 .1 .1))
 
--- src/descent.rt:155:13
 returns : tie.Need-returns Inv-loop μ-loop
 returns c =
     let start = c .before .before .before .before .before .before .before .before .before .before .before .before in
@@ -132,7 +125,6 @@ returns c =
     (next-step .result) ((next-step .ensures) (growth-here (start .args .image .now) (start .args .s) (start .pre .0) (start .pre .1 .0)
     (words (start .args .lm .now)) (start .args .label) g (loop .image) (loop .k) (loop .lo) ((loop .inv) (start .pre .0) (start .pre .1 .0) g))) (c .if1 .taken)
 
--- src/descent.rt:157:9
 add-k : tie.Need-add-k Inv-loop μ-loop
 add-k c =
     let start = c .before .before .before .before .before .before .before .before .before .before .before .before .before in
@@ -145,7 +137,6 @@ add-k c =
     (start .args .label) (start .pre .1 .1 .1 .1 .1) (loop .image) (loop .k) (loop .lo) p)) in
     omega (arith, start .pre .0 .nodes-to, start .pre .0 .cap-to)
 
--- src/descent.rt:150:5
 loop-less : tie.Need-loop-less Inv-loop μ-loop
 loop-less c =
     let start = c .before .before .before .before .before .before .before .before .before .before .before .before .before in
@@ -164,7 +155,6 @@ loop-less c =
           (words (start .args .lm .now)) (start .args .label) (start .pre .1 .1 .1 .1 .1) (loop .image) (loop .k) (loop .lo) p .row,
     )
 
--- src/descent.rt:150:5
 loop-again : tie.Need-loop-again Inv-loop μ-loop
 loop-again c =
     let start = c .before .before .before .before .before .before .before .before .before .before .before .before .before in

@@ -10,15 +10,12 @@ use Rattle.kd_insert.proofs.descent.grow_gcd.Reads as grow-gcd-reads
 use Rattle.words.proofs.get.Reads as get-reads
 use Rattle.words.proofs.put.Reads as put-reads
 
--- src/descent.rt:90:31
 add-get : tie.Need-add-get
 add-get c = search needs
 
--- src/descent.rt:90:9
 get-requires : tie.Need-get-requires
 get-requires c κs = search needs
 
--- src/descent.rt:91:5
 grow-gcd-requires : tie.Need-grow-gcd-requires
 grow-gcd-requires c κs =
     let start = c .before .before .before .before .before in (
@@ -35,23 +32,18 @@ grow-gcd-requires c κs =
       ),
     )
 
--- src/descent.rt:92:23
 add-put : tie.Need-add-put
 add-put c = search needs
 
--- src/descent.rt:92:31
 add-put-2 : tie.Need-add-put-2
 add-put-2 c = search needs
 
--- src/descent.rt:92:5
 put-requires : tie.Need-put-requires
 put-requires c κs = search needs
 
--- src/descent.rt:78:1
 same-length : tie.Need-same-length
 same-length c = search needs
 
--- src/descent.rt:78:1
 returns : tie.Need-returns
 returns c =
     let start = c .before .before .before .before .before .before .before .before .before .before .before .before in

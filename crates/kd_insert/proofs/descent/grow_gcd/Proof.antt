@@ -8,17 +8,14 @@ use Rattle.kd_insert.proofs.descent.grow_gcd.Lts as lts
 use Rattle.kd_insert.proofs.descent.meet.Reads as meet-reads
 use Rattle.kd_insert.proofs.slots.write_gcd.Reads as write-gcd-reads
 
--- src/descent.rt:71:9
 write-gcd-requires : tie.Need-write-gcd-requires
 write-gcd-requires c κs =
     let start = c .before .before .before .before in
     (start .pre .0, (start .pre .1 .0, (start .pre .1 .1 .0, (start .pre .1 .1 .1 .0, (start .pre .1 .1 .1 .1 .0, start .pre .1 .1 .1 .1 .1 .0)))))
 
--- src/descent.rt:72:9
 same-length : tie.Need-same-length
 same-length c = search needs
 
--- src/descent.rt:72:9
 returns : tie.Need-returns
 returns c =
     let start = c .before .before .before .before .before .before .before in
@@ -26,17 +23,14 @@ returns c =
     rw (← first-gcd (words (start .args .image .now)) (start .args .s .variables) (start .args .at) (start .args .c) (words (start .args .lm .now)) (if1 .taken))
     (c .before .before .write-gcd .ensures)
 
--- src/descent.rt:74:5
 meet-requires : tie.Need-meet-requires
 meet-requires c κs =
     let start = c .before .before .before .before in
     (start .pre .0, (start .pre .1 .0, (start .pre .1 .1 .0, (start .pre .1 .1 .1 .0, (start .pre .1 .1 .1 .1 .1 .0, (start .pre .1 .1 .1 .1 .1 .1 .0, start .pre .1 .1 .1 .1 .1 .1 .1))))))
 
--- src/descent.rt:59:1
 same-length-2 : tie.Need-same-length-2
 same-length-2 c = search needs
 
--- src/descent.rt:59:1
 returns-2 : tie.Need-returns-2
 returns-2 c =
     let start = c .before .before .before .before .before .before .before in

@@ -11,7 +11,6 @@ use Rattle.kd_insert.proofs.descent.is_below.Lts as lts
 use Rattle.index_image.proofs.stored.label_in.Reads as label-in-reads
 use Rattle.monomial.proofs.power_of.Reads as power-of-reads
 
--- src/descent.rt:98:24
 label-in-requires : tie.Need-label-in-requires
 label-in-requires c κs =
     let start = c .before .before .before .before in (
@@ -25,32 +24,26 @@ label-in-requires c κs =
       ),
     )
 
--- src/descent.rt:98:9
 returns : tie.Need-returns
 returns c =
     let start = c .before .before .before .before .before in
     below-ratio (words (start .args .image .now)) (start .args .s) (words (start .args .lm .now)) (start .args .label) (start .args .tag) (start .args .key)
     (c .label-in .result) (c .before .if1 .taken) (c .label-in .ensures)
 
--- src/descent.rt:100:13
 sub-v : tie.Need-sub-v
 sub-v c = search needs
 
--- src/descent.rt:100:13
 sub-v-2 : tie.Need-sub-v-2
 sub-v-2 c = search needs
 
--- src/descent.rt:101:31
 cast-power-of : tie.Need-cast-power-of
 cast-power-of c = search needs
 
--- src/descent.rt:101:5
 power-of-requires : tie.Need-power-of-requires
 power-of-requires c κs =
     let start = c .before .before .before .before .before in
     ((omega arith, (omega arith, omega (arith, start .pre .1 .1 .1 .0 .1, start .pre .0 .vars-to, start .pre .0 .kind-to))), starts-wide (starts-whole (start .pre .1 .1 .0)))
 
--- src/descent.rt:89:1
 returns-2 : tie.Need-returns-2
 returns-2 c =
     let start = c .before .before .before .before .before .before in

@@ -20,19 +20,15 @@ use Rattle.index_image.proofs.stored.monomial_in.Reads as monomial-in-reads
 use Rattle.kd_insert.proofs.slots.write_gcd.Reads as write-gcd-reads
 use Rattle.monomial.proofs.gcd.Reads as gcd-reads
 
--- src/descent.rt:35:63
 add-monomial-in : tie.Need-add-monomial-in
 add-monomial-in c = search needs
 
--- src/descent.rt:35:27
 monomial-in-requires : tie.Need-monomial-in-requires
 monomial-in-requires c κs = search needs
 
--- src/descent.rt:35:76
 slice-aggregate-gcd : tie.Need-slice-aggregate-gcd
 slice-aggregate-gcd c = search needs
 
--- src/descent.rt:35:9
 gcd-requires : tie.Need-gcd-requires
 gcd-requires c κs =
     let start = c .before .before .before .before .before in
@@ -51,7 +47,6 @@ gcd-requires c κs =
       ),
     )
 
--- src/descent.rt:36:13
 mul-e : tie.Need-mul-e
 mul-e c =
     let start = c .before .before .before .before .before .before .before in
@@ -65,7 +60,6 @@ mul-e c =
       rw (monomial-in .ensures .is, first-whole p, first-whole (start .pre .1 .1 .1 .0)) at (c .before .gcd .ensures .0),
     )
 
--- src/descent.rt:37:43
 array-share-prefix-made : tie.Need-array-share-prefix-made
 array-share-prefix-made c =
     let start = c .before .before .before .before .before .before .before .before in
@@ -78,7 +72,6 @@ array-share-prefix-made c =
     (rw (monomial-in .ensures .is, first-whole p, first-whole (start .pre .1 .1 .1 .0)) at (gcd .ensures .0))
     (rw (monomial-in .ensures .is, first-whole p, first-whole (start .pre .1 .1 .1 .0)) at (gcd .ensures .1))) .room
 
--- src/descent.rt:37:43
 slice-aggregate-write-gcd : tie.Need-slice-aggregate-write-gcd
 slice-aggregate-write-gcd c =
     let start = c .before .before .before .before .before .before .before .before .before in
@@ -91,7 +84,6 @@ slice-aggregate-write-gcd c =
     (rw (monomial-in .ensures .is, first-whole p, first-whole (start .pre .1 .1 .1 .0)) at (gcd .ensures .0))
     (rw (monomial-in .ensures .is, first-whole p, first-whole (start .pre .1 .1 .1 .0)) at (gcd .ensures .1))) .size)
 
--- src/descent.rt:37:5
 write-gcd-requires : tie.Need-write-gcd-requires
 write-gcd-requires c κs =
     let start = c .before .before .before .before .before .before .before .before .before in
@@ -118,11 +110,9 @@ write-gcd-requires c κs =
       ),
     )
 
--- src/descent.rt:25:1
 same-length : tie.Need-same-length
 same-length c = search needs
 
--- src/descent.rt:25:1
 returns : tie.Need-returns
 returns c =
     let start = c .before .before .before .before .before .before .before .before .before .before .before .before in

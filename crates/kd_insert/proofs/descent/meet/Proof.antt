@@ -14,23 +14,18 @@ use Rattle.index_image.proofs.stored.monomial_from.Reads as monomial-from-reads
 use Rattle.kd_insert.proofs.descent.make_gcd.Reads as make-gcd-reads
 use Rattle.monomial.proofs.divides.Reads as divides-reads
 
--- src/descent.rt:58:58
 add-monomial-from : tie.Need-add-monomial-from
 add-monomial-from c = search needs
 
--- src/descent.rt:58:26
 monomial-from-requires : tie.Need-monomial-from-requires
 monomial-from-requires c κs = let s = (c .before .before .before) in (s .pre .1 .1 .1 .1 .1 .0, omega (arith, s .pre .1 .0, s .pre .1 .1 .1 .1 .0))
 
--- src/descent.rt:58:8
 divides-requires : tie.Need-divides-requires
 divides-requires c κs = (starts-wide (c .monomial-from .ensures .starts), starts-wide (starts-whole (c .before .before .before .before .pre .1 .1 .1 .0)))
 
--- src/descent.rt:59:9
 same-length : tie.Need-same-length
 same-length c = search needs
 
--- src/descent.rt:59:9
 returns : tie.Need-returns
 returns c = let s = (c .before .before .before .before .before .before) in
     gcd-stays (s .args .image .now) (s .args .s) (s .args .at) (words (s .args .lm .now)) (λ j. (c .before .before .before .before .before .slice-known .given) j .fits) (s .pre .0 .vars-to)
@@ -38,18 +33,15 @@ returns c = let s = (c .before .before .before .before .before .before) in
     (s .pre .1 .1 .1 .1 .1 .0)) (s .pre .1 .1 .1 .0)
     (s .pre .1 .1 .1 .1 .1 .1) (sym (rw (c .before .before .monomial-from .ensures .is, first-whole (s .pre .1 .1 .1 .0)) at (c .before .divides .ensures)) ∙ c .if1 .taken)
 
--- src/descent.rt:61:5
 make-gcd-requires : tie.Need-make-gcd-requires
 make-gcd-requires c κs =
     let at7 = c .before .before .before .before .before .before .before in
     let s = at7 in
     (s .pre .0, (s .pre .1 .0, (s .pre .1 .1 .0, (s .pre .1 .1 .1 .0, (s .pre .1 .1 .1 .1 .0, s .pre .1 .1 .1 .1 .1 .0)))))
 
--- src/descent.rt:48:1
 same-length-2 : tie.Need-same-length-2
 same-length-2 c = search needs
 
--- src/descent.rt:48:1
 returns-2 : tie.Need-returns-2
 returns-2 c = search needs
 

@@ -14,40 +14,33 @@ use Rattle.index_image.proofs.Shape.node_at.Reads as node-at-reads
 use Rattle.kd_insert.proofs.descent.is_below.Reads as is-below-reads
 use Rattle.words.proofs.get.Reads as get-reads
 
--- src/descent.rt:121:9
 node-at-requires : tie.Need-node-at-requires
 node-at-requires c κs = search needs
 
--- src/descent.rt:122:15
 get-requires : tie.Need-get-requires
 get-requires c κs =
     let start = c .before .before .before in
     let z = spot-here (start .args .image .now) (start .args .s) (start .pre .0) (start .pre .1 .0) (words (start .args .lm .now)) (start .args .label) (start .args .k) (start .pre .1 .1 .1) in
     omega (arith, c .node-at .ensures, start .pre .1 .0)
 
--- src/descent.rt:122:15
 cast-tag : tie.Need-cast-tag
 cast-tag c = search needs
 
--- src/descent.rt:127:39
 add-get : tie.Need-add-get
 add-get c =
     let start = c .before .before .before .before .before in
     let z = spot-here (start .args .image .now) (start .args .s) (start .pre .0) (start .pre .1 .0) (words (start .args .lm .now)) (start .args .label) (start .args .k) (start .pre .1 .1 .1) in
     omega (arith, c .before .before .node-at .ensures)
 
--- src/descent.rt:127:21
 get-requires-2 : tie.Need-get-requires-2
 get-requires-2 c κs =
     let start = c .before .before .before .before .before in
     let z = spot-here (start .args .image .now) (start .args .s) (start .pre .0) (start .pre .1 .0) (words (start .args .lm .now)) (start .args .label) (start .args .k) (start .pre .1 .1 .1) in
     omega (arith, c .before .before .node-at .ensures, start .pre .1 .0)
 
--- src/descent.rt:127:21
 cast-t15 : tie.Need-cast-t15
 cast-t15 c = search needs
 
--- src/descent.rt:124:9
 returns : tie.Need-returns
 returns c =
     let start = c .before .before .before .before .before .before in
@@ -58,21 +51,18 @@ returns c =
     (get .result) (c .get2 .result) (get .ensures ∙ ap (λ (j : ℕ). getD W j 0) (node-at .ensures)) (c .before .if1 .taken)
     (c .get2 .ensures ∙ ap (λ (j : ℕ). getD W (j + 2) 0) (node-at .ensures))
 
--- src/descent.rt:130:50
 add-get-2 : tie.Need-add-get-2
 add-get-2 c =
     let start = c .before .before .before .before .before in
     let z = spot-here (start .args .image .now) (start .args .s) (start .pre .0) (start .pre .1 .0) (words (start .args .lm .now)) (start .args .label) (start .args .k) (start .pre .1 .1 .1) in
     omega (arith, c .before .before .node-at .ensures)
 
--- src/descent.rt:130:32
 get-requires-3 : tie.Need-get-requires-3
 get-requires-3 c κs =
     let start = c .before .before .before .before .before in
     let z = spot-here (start .args .image .now) (start .args .s) (start .pre .0) (start .pre .1 .0) (words (start .args .lm .now)) (start .args .label) (start .args .k) (start .pre .1 .1 .1) in
     omega (arith, c .before .before .node-at .ensures, start .pre .1 .0)
 
--- src/descent.rt:130:8
 is-below-requires : tie.Need-is-below-requires
 is-below-requires c κs =
     let start = c .before .before .before .before .before .before in
@@ -99,7 +89,6 @@ is-below-requires c κs =
       ),
     )
 
--- src/descent.rt:131:9
 returns-2 : tie.Need-returns-2
 returns-2 c =
     let start = c .before .before .before .before .before .before .before .before in
@@ -115,7 +104,6 @@ returns-2 c =
     B (get .result) (get3 .result) (get .ensures ∙ ap (λ (j : ℕ). getD W j 0) (node-at .ensures))
     (get3 .ensures ∙ ap (λ (j : ℕ). getD W (j + 1) 0) (node-at .ensures))) ∙ (sym (c .before .is-below .ensures) ∙ c .if2 .taken))
 
--- src/descent.rt:137:34
 add-get-3 : tie.Need-add-get-3
 add-get-3 c =
     let start = c .before .before .before .before .before .before .before .before in
@@ -123,7 +111,6 @@ add-get-3 c =
     let z = spot-here (start .args .image .now) (start .args .s) (start .pre .0) (start .pre .1 .0) (words (start .args .lm .now)) (start .args .label) (start .args .k) (start .pre .1 .1 .1) in
     omega (arith, node-at .ensures)
 
--- src/descent.rt:137:16
 get-requires-4 : tie.Need-get-requires-4
 get-requires-4 c κs =
     let start = c .before .before .before .before .before .before .before .before in
@@ -131,15 +118,12 @@ get-requires-4 c κs =
     let z = spot-here (start .args .image .now) (start .args .s) (start .pre .0) (start .pre .1 .0) (words (start .args .lm .now)) (start .args .label) (start .args .k) (start .pre .1 .1 .1) in
     omega (arith, node-at .ensures, start .pre .1 .0)
 
--- src/descent.rt:137:16
 cast-skip : tie.Need-cast-skip
 cast-skip c = search needs
 
--- src/descent.rt:138:22
 add-less : tie.Need-add-less
 add-less c = search needs
 
--- src/descent.rt:138:16
 add-less-2 : tie.Need-add-less-2
 add-less-2 c =
     let start = c .before .before .before .before .before .before .before .before .before .before in
@@ -147,7 +131,6 @@ add-less-2 c =
     let z = spot-here (start .args .image .now) (start .args .s) (start .pre .0) (start .pre .1 .0) (words (start .args .lm .now)) (start .args .label) (start .args .k) (start .pre .1 .1 .1) in
     omega (arith, node-at .ensures)
 
--- src/descent.rt:139:36
 add-get-4 : tie.Need-add-get-4
 add-get-4 c =
     let start = c .before .before .before .before .before .before .before .before .before .before in
@@ -155,7 +138,6 @@ add-get-4 c =
     let z = spot-here (start .args .image .now) (start .args .s) (start .pre .0) (start .pre .1 .0) (words (start .args .lm .now)) (start .args .label) (start .args .k) (start .pre .1 .1 .1) in
     omega (arith, node-at .ensures)
 
--- src/descent.rt:139:18
 get-requires-5 : tie.Need-get-requires-5
 get-requires-5 c κs =
     let start = c .before .before .before .before .before .before .before .before .before .before in
@@ -166,15 +148,12 @@ get-requires-5 c κs =
     (start .pre .1 .1 .1) (λ z. (if1 .left) ((get .ensures ∙ ap (λ (j : ℕ). getD (words (start .args .image .now)) j 0) (node-at .ensures)) ∙ z)) in
     omega (arith, spot (start .args .s) (start .pre .0) ((start .args .k) + 1) (omega (arith, B .two)) .fits, row-behind (start .args .s) (start .args .k), node-at .ensures, start .pre .1 .0)
 
--- src/descent.rt:139:18
 cast-passed : tie.Need-cast-passed
 cast-passed c = search needs
 
--- src/descent.rt:142:15
 add-t17 : tie.Need-add-t17
 add-t17 c = search needs
 
--- src/descent.rt:114:1
 returns-3 : tie.Need-returns-3
 returns-3 c =
     let start = c .before .before .before .before .before .before .before .before .before .before .before in

@@ -15,17 +15,14 @@ use Rattle.kd_insert.proofs.descent.descend.Reads as descend-reads
 use Rattle.words.proofs.put.Reads as put-reads
 use Rattle.words.proofs.runs.insert.Reads as insert-reads
 
--- src/insertion.rt:42:9
 permutation-at-requires : tie.Need-permutation-at-requires
 permutation-at-requires c κs = search needs
 
--- src/insertion.rt:43:9
 descend-requires : tie.Need-descend-requires
 descend-requires c κs =
     let start = c .before .before .before .before in
     (start .pre .0, (start .pre .1 .0, (start .pre .1 .1 .0, (start .pre .1 .1 .1 .0, (start .pre .1 .1 .1 .1 .0, (start .pre .1 .1 .1 .1 .1 .1) .growth)))))
 
--- src/insertion.rt:44:32
 add-insert : tie.Need-add-insert
 add-insert c =
     let start = c .before .before .before .before .before .before .before .before in
@@ -42,15 +39,12 @@ add-insert c =
       start .pre .1 .1 .1 .1 .1 .0,
     )
 
--- src/insertion.rt:44:40
 add-insert-2 : tie.Need-add-insert-2
 add-insert-2 c = search needs
 
--- src/insertion.rt:44:48
 cast-insert : tie.Need-cast-insert
 cast-insert c = search needs
 
--- src/insertion.rt:44:5
 insert-requires : tie.Need-insert-requires
 insert-requires c κs =
     let start = c .before .before .before .before .before .before .before .before in
@@ -66,23 +60,18 @@ insert-requires c κs =
       omega (arith, permutation-at .ensures, descend .kept .0, start .pre .1 .0, start .pre .1 .1 .1 .1 .1 .0),
     )
 
--- src/insertion.rt:45:26
 cast-put : tie.Need-cast-put
 cast-put c = search needs
 
--- src/insertion.rt:45:26
 add-put : tie.Need-add-put
 add-put c = search needs
 
--- src/insertion.rt:45:5
 put-requires : tie.Need-put-requires
 put-requires c κs = search needs
 
--- src/insertion.rt:31:1
 same-length : tie.Need-same-length
 same-length c = search needs
 
--- src/insertion.rt:31:1
 returns : tie.Need-returns
 returns c =
     let start = c .before .before .before .before .before .before .before .before .before .before .before .before .before .before .before in

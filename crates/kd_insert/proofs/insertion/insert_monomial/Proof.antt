@@ -16,7 +16,6 @@ use Rattle.kd_insert.proofs.insertion.hang.Reads as hang-reads
 use Rattle.kd_insert.proofs.insertion.track.Reads as track-reads
 use Rattle.kd_insert.proofs.slots.write_masked.Reads as write-masked-reads
 
--- src/insertion.rt:57:5
 track-requires : tie.Need-track-requires
 track-requires c κs =
     let start = c .before .before .before in (
@@ -24,11 +23,9 @@ track-requires c κs =
       (basics (start .args .image .now) (start .args .s) (start .pre .0) .room, (basics (start .args .image .now) (start .args .s) (start .pre .0) .present, start .pre .1 .1 .0)),
     )
 
--- src/insertion.rt:58:42
 entry-at-requires : tie.Need-entry-at-requires
 entry-at-requires c κs = search needs
 
--- src/insertion.rt:58:5
 write-masked-requires : tie.Need-write-masked-requires
 write-masked-requires c κs =
     let start = c .before .before .before .before .before .before .before .before in
@@ -57,7 +54,6 @@ write-masked-requires c κs =
       ),
     )
 
--- src/insertion.rt:59:5
 hang-requires : tie.Need-hang-requires
 hang-requires c κs =
     let start = c .before .before .before .before .before .before .before .before .before .before .before .before in
@@ -93,11 +89,9 @@ hang-requires c κs =
       ),
     )
 
--- src/insertion.rt:49:1
 same-length : tie.Need-same-length
 same-length c = search needs
 
--- src/insertion.rt:49:1
 returns : tie.Need-returns
 returns c =
     let start = c .before .before .before .before .before .before .before .before .before .before .before .before .before .before .before in

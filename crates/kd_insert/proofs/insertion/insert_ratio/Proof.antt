@@ -15,7 +15,6 @@ use Rattle.kd_insert.proofs.labelling.label_at.Reads as label-at-reads
 use Rattle.kd_insert.proofs.labelling.label_entry.Reads as label-entry-reads
 use Rattle.kd_insert.proofs.slots.write_ratio_row.Reads as write-ratio-row-reads
 
--- src/insertion.rt:73:9
 label-entry-requires : tie.Need-label-entry-requires
 label-entry-requires c κs =
     let start = c .before .before .before .before in
@@ -33,7 +32,6 @@ label-entry-requires c κs =
       ),
     )
 
--- src/insertion.rt:74:9
 label-at-requires : tie.Need-label-at-requires
 label-at-requires c κs =
     let start = c .before .before .before .before .before .before .before .before in
@@ -44,7 +42,6 @@ label-at-requires c κs =
     (start .pre .1 .1 .1 .1 .0) (label-entry .ensures) in
     (b .basics .range, (b .basics .room, ((start .pre .1 .0), b .small)))
 
--- src/insertion.rt:75:5
 track-requires : tie.Need-track-requires
 track-requires c κs =
     let start = c .before .before .before .before .before .before .before .before .before .before in
@@ -55,7 +52,6 @@ track-requires c κs =
     (start .pre .1 .1 .1 .1 .0) (label-entry .ensures) .basics in
     (b .range, (b .room, (b .present, (start .pre .1 .1 .1 .0 .0))))
 
--- src/insertion.rt:76:5
 track-requires-2 : tie.Need-track-requires-2
 track-requires-2 c κs =
     let start = c .before .before .before .before .before .before .before .before .before .before .before .before .before .before in
@@ -68,11 +64,9 @@ track-requires-2 c κs =
     (start .pre .1 .1 .1 .1 .0) (label-entry .ensures) .basics) (start .pre .1 .1 .1 .0 .0) (track .ensures) in
     (b .range, (b .room, (b .present, (start .pre .1 .1 .1 .1 .0))))
 
--- src/insertion.rt:77:45
 entry-at-requires : tie.Need-entry-at-requires
 entry-at-requires c κs = search needs
 
--- src/insertion.rt:77:77
 cast-write-ratio-row : tie.Need-cast-write-ratio-row
 cast-write-ratio-row c =
     let start = c .before .before .before .before .before .before .before .before .before .before .before .before .before .before .before .before .before .before .before in
@@ -86,7 +80,6 @@ cast-write-ratio-row c =
       (start .pre .0) .head .range .cap-to,
     )
 
--- src/insertion.rt:77:5
 write-ratio-row-requires : tie.Need-write-ratio-row-requires
 write-ratio-row-requires c κs =
     let start = c .before .before .before .before .before .before .before .before .before .before .before .before .before .before .before .before .before .before .before in
@@ -126,7 +119,6 @@ write-ratio-row-requires c κs =
       ),
     )
 
--- src/insertion.rt:78:5
 hang-requires : tie.Need-hang-requires
 hang-requires c κs =
     let start = c .before .before .before .before .before .before .before .before .before .before .before .before .before .before .before .before .before .before .before .before .before .before .before in
@@ -177,11 +169,9 @@ hang-requires c κs =
       ),
     )
 
--- src/insertion.rt:64:1
 same-length : tie.Need-same-length
 same-length c = search needs
 
--- src/insertion.rt:64:1
 returns : tie.Need-returns
 returns c =
     let start = c .before .before .before .before .before .before .before .before .before .before .before .before .before .before .before .before .before .before .before .before .before .before .before .before .before .before in

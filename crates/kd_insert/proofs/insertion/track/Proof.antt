@@ -13,35 +13,27 @@ use Rattle.kd_insert.proofs.insertion.track.Reads as reads
 use Rattle.kd_insert.proofs.insertion.track.Lts as lts
 use Rattle.divmask.proofs.tracker.update.Reads as update-reads
 
--- src/insertion.rt:25:13
 mul-a : tie.Need-mul-a
 mul-a c = search needs
 
--- src/insertion.rt:26:17
 mul-b : tie.Need-mul-b
 mul-b c = search needs
 
--- src/insertion.rt:26:13
 add-b : tie.Need-add-b
 add-b c = search needs
 
--- src/insertion.rt:27:30
 sub-update : tie.Need-sub-update
 sub-update c = search needs
 
--- src/insertion.rt:27:30
 part-update-start : tie.Need-part-update-start
 part-update-start c = search needs
 
--- src/insertion.rt:27:30
 part-update-end : tie.Need-part-update-end
 part-update-end c = search needs
 
--- src/insertion.rt:27:48
 cast-update : tie.Need-cast-update
 cast-update c = search needs
 
--- src/insertion.rt:27:5
 update-requires : tie.Need-update-requires
 update-requires c κs =
     let start = c .before .before .before in (
@@ -53,11 +45,9 @@ update-requires c κs =
       ),
     )
 
--- src/insertion.rt:17:1
 same-length : tie.Need-same-length
 same-length c = search needs
 
--- src/insertion.rt:17:1
 returns : tie.Need-returns
 returns c =
     let start = c .before .before .before .before .before .before in

@@ -12,58 +12,48 @@ use Rattle.kd_insert.proofs.labelling.label_at.Lts as lts
 use Rattle.index_image.proofs.Shape.labels_at.Reads as labels-at-reads
 use Rattle.words.proofs.get.Reads as get-reads
 
--- src/labelling.rt:97:23
 labels-at-requires : tie.Need-labels-at-requires
 labels-at-requires c κs = search needs
 
--- src/labelling.rt:97:51
 add-get : tie.Need-add-get
 add-get c = search needs
 
--- src/labelling.rt:97:44
 mul-get : tie.Need-mul-get
 mul-get c =
     let start = c .before .before in
     let z = spots (start .args .s) (start .pre .0) (start .pre .1 .1 .0) 0 (start .args .row) (omega (arith, start .pre .0 .cap-from)) (start .pre .1 .1 .1) in
     omega arith
 
--- src/labelling.rt:97:40
 add-get-2 : tie.Need-add-get-2
 add-get-2 c =
     let start = c .before .before in
     let z = spots (start .args .s) (start .pre .0) (start .pre .1 .1 .0) 0 (start .args .row) (omega (arith, start .pre .0 .cap-from)) (start .pre .1 .1 .1) in
     omega arith
 
--- src/labelling.rt:97:61
 add-get-3 : tie.Need-add-get-3
 add-get-3 c = search needs
 
--- src/labelling.rt:97:40
 add-get-4 : tie.Need-add-get-4
 add-get-4 c =
     let start = c .before .before in
     let z = spots (start .args .s) (start .pre .0) (start .pre .1 .1 .0) 0 (start .args .row) (omega (arith, start .pre .0 .cap-from)) (start .pre .1 .1 .1) in
     omega (arith, start .pre .0 .vars-to)
 
--- src/labelling.rt:97:23
 add-get-5 : tie.Need-add-get-5
 add-get-5 c =
     let start = c .before .before in
     let z = spots (start .args .s) (start .pre .0) (start .pre .1 .1 .0) 0 (start .args .row) (omega (arith, start .pre .0 .cap-from)) (start .pre .1 .1 .1) in
     omega (arith, start .pre .0 .vars-to, c .labels-at .ensures)
 
--- src/labelling.rt:97:5
 get-requires : tie.Need-get-requires
 get-requires c κs =
     let start = c .before .before in
     let z = spots (start .args .s) (start .pre .0) (start .pre .1 .1 .0) 0 (start .args .row) (omega (arith, start .pre .0 .cap-from)) (start .pre .1 .1 .1) in
     omega (arith, c .labels-at .ensures, start .pre .1 .0)
 
--- src/labelling.rt:97:5
 cast-result : tie.Need-cast-result
 cast-result c = search needs
 
--- src/labelling.rt:90:1
 returns : tie.Need-returns
 returns c =
     let start = c .before .before .before in

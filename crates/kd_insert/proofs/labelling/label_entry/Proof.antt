@@ -14,11 +14,9 @@ use Rattle.kd_insert.proofs.labelling.label_entry.Lts as lts
 use Rattle.kd_insert.proofs.labelling.label_ratio.Reads as label-ratio-reads
 use Rattle.monomial.proofs.fraction_division.Reads as fraction-division-reads
 
--- src/labelling.rt:84:51
 slice-aggregate-fraction-division : tie.Need-slice-aggregate-fraction-division
 slice-aggregate-fraction-division c = search needs
 
--- src/labelling.rt:84:9
 fraction-division-requires : tie.Need-fraction-division-requires
 fraction-division-requires c κs =
     let start = c .before .before .before .before in (
@@ -35,7 +33,6 @@ fraction-division-requires c κs =
       ),
     )
 
--- src/labelling.rt:85:13
 mul-e : tie.Need-mul-e
 mul-e c =
     let start = c .before .before .before .before .before .before in
@@ -47,7 +44,6 @@ mul-e c =
           (canonical-more (omega arith) (start .pre .0 .vars-to) (start .pre .1 .1 .1 .1 .1 .1)) Op.Ratio (omega arith),
     )
 
--- src/labelling.rt:86:34
 array-share-prefix-made : tie.Need-array-share-prefix-made
 array-share-prefix-made c =
     let start = c .before .before .before .before .before .before .before in
@@ -58,7 +54,6 @@ array-share-prefix-made c =
     (rw (first-whole (start .pre .1 .1 .1 .1 .1 .0), first-whole (start .pre .1 .1 .1 .1 .1 .1)) at (fraction-division .ensures .0))
     (rw (first-whole (start .pre .1 .1 .1 .1 .1 .0), first-whole (start .pre .1 .1 .1 .1 .1 .1)) at (fraction-division .ensures .1))) .room
 
--- src/labelling.rt:86:34
 slice-aggregate-label-ratio : tie.Need-slice-aggregate-label-ratio
 slice-aggregate-label-ratio c =
     let start = c .before .before .before .before .before .before .before .before in
@@ -69,7 +64,6 @@ slice-aggregate-label-ratio c =
     (rw (first-whole (start .pre .1 .1 .1 .1 .1 .0), first-whole (start .pre .1 .1 .1 .1 .1 .1)) at (fraction-division .ensures .0))
     (rw (first-whole (start .pre .1 .1 .1 .1 .1 .0), first-whole (start .pre .1 .1 .1 .1 .1 .1)) at (fraction-division .ensures .1))) .size)
 
--- src/labelling.rt:86:5
 label-ratio-requires : tie.Need-label-ratio-requires
 label-ratio-requires c κs =
     let start = c .before .before .before .before .before .before .before .before in
@@ -93,11 +87,9 @@ label-ratio-requires c κs =
       ),
     )
 
--- src/labelling.rt:73:1
 same-length : tie.Need-same-length
 same-length c = search needs
 
--- src/labelling.rt:73:1
 returns : tie.Need-returns
 returns c =
     let start = c .before .before .before .before .before .before .before .before .before .before .before in

@@ -16,58 +16,45 @@ use Rattle.index_image.proofs.Shape.labels_size.Reads as labels-size-reads
 use Rattle.kd_insert.proofs.labelling.settle.Reads as settle-reads
 use Rattle.kd_insert.proofs.labelling.settled_row.Reads as settled-row-reads
 
--- src/labelling.rt:79:17
 labels-at-requires : tie.Need-labels-at-requires
 labels-at-requires c κs = search needs
 
--- src/labelling.rt:79:13
 mul-a : tie.Need-mul-a
 mul-a c = search needs
 
--- src/labelling.rt:80:21
 labels-size-requires : tie.Need-labels-size-requires
 labels-size-requires c κs = search needs
 
--- src/labelling.rt:80:17
 mul-b : tie.Need-mul-b
 mul-b c = search needs
 
--- src/labelling.rt:80:13
 add-b : tie.Need-add-b
 add-b c = search needs
 
--- src/labelling.rt:81:33
 sub-count : tie.Need-sub-count
 sub-count c = search needs
 
--- src/labelling.rt:81:33
 part-count-start : tie.Need-part-count-start
 part-count-start c = search needs
 
--- src/labelling.rt:81:33
 part-count-end : tie.Need-part-count-end
 part-count-end c = search needs
 
--- src/labelling.rt:81:9
 count-requires : tie.Need-count-requires
 count-requires c κs = let s = (c .before .before .before .before .before .before) in
     let v = valueOf (s .args .index) (words (s .args .ratio .now)) in
     lent-ready (s .args .image .now) (s .args .s) (s .pre .0) (s .pre .1 .0) (s .pre .1 .1 .0) (c .before .before .before .labels-at .result)
     (c .before .before .labels-size .result) (c .before .before .before .labels-at .ensures) (c .before .before .labels-size .ensures) v (s .pre .1 .1 .1 .1) (s .pre .1 .1 .1 .0) .0
 
--- src/labelling.rt:82:12
 sub-settle : tie.Need-sub-settle
 sub-settle c = search needs
 
--- src/labelling.rt:82:12
 part-settle-start : tie.Need-part-settle-start
 part-settle-start c = search needs
 
--- src/labelling.rt:82:12
 part-settle-end : tie.Need-part-settle-end
 part-settle-end c = search needs
 
--- src/labelling.rt:82:5
 settle-requires : tie.Need-settle-requires
 settle-requires c κs = let s = (c .before .before .before .before .before .before .before .before) in
     let v = valueOf (s .args .index) (words (s .args .ratio .now)) in
@@ -75,19 +62,15 @@ settle-requires c κs = let s = (c .before .before .before .before .before .befo
     (c .before .before .before .before .labels-size .result) (c .before .before .before .before .before .labels-at .ensures)
     (c .before .before .before .before .labels-size .ensures) v (s .pre .1 .1 .1 .1) (s .pre .1 .1 .1 .0)
 
--- src/labelling.rt:83:17
 sub-settled-row : tie.Need-sub-settled-row
 sub-settled-row c = search needs
 
--- src/labelling.rt:83:17
 part-settled-row-start : tie.Need-part-settled-row-start
 part-settled-row-start c = search needs
 
--- src/labelling.rt:83:17
 part-settled-row-end : tie.Need-part-settled-row-end
 part-settled-row-end c = search needs
 
--- src/labelling.rt:83:5
 settled-row-requires : tie.Need-settled-row-requires
 settled-row-requires c κs = let s = (c .before .before .before .before .before .before .before .before .before .before .before .before .before) in
     let v = valueOf (s .args .index) (words (s .args .ratio .now)) in
@@ -105,11 +88,9 @@ settled-row-requires c κs = let s = (c .before .before .before .before .before 
       canonical-more (omega arith) (omega (arith, s .pre .0 .vars-to)) (s .pre .1 .1 .1 .1 .canonical),
     )
 
--- src/labelling.rt:71:1
 same-length : tie.Need-same-length
 same-length c = search needs
 
--- src/labelling.rt:71:1
 returns : tie.Need-returns
 returns c = let s = (c .before .before .before .before .before .before .before .before .before .before .before .before .before .before) in
     let v = valueOf (s .args .index) (words (s .args .ratio .now)) in

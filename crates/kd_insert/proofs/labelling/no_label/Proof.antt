@@ -5,38 +5,30 @@ use Rattle.kd_insert.proofs.labelling.no_label.Tie as tie
 use Rattle.kd_insert.proofs.labelling.no_label.Reads as reads
 use Rattle.kd_insert.proofs.labelling.no_label.Lts as lts
 
--- src/labelling.rt:23:31
 enum-told : tie.Need-enum-told
 enum-told c = search needs
 
--- src/labelling.rt:24:29
 enum-told-2 : tie.Need-enum-told-2
 enum-told-2 c = search needs
 
--- src/labelling.rt:25:27
 enum-told-3 : tie.Need-enum-told-3
 enum-told-3 c = search needs
 
--- src/labelling.rt:26:30
 enum-told-4 : tie.Need-enum-told-4
 enum-told-4 c = search needs
 
--- src/labelling.rt:19:1
 returns : tie.Need-returns
 unfolding isNoLabel
 returns c = search needs
 
--- src/labelling.rt:19:1
 returns-2 : tie.Need-returns-2
 unfolding isNoLabel
 returns-2 c = search needs
 
--- src/labelling.rt:19:1
 returns-3 : tie.Need-returns-3
 unfolding isNoLabel
 returns-3 c = search needs
 
--- src/labelling.rt:19:1
 returns-4 : tie.Need-returns-4
 unfolding isNoLabel
 returns-4 c = search needs

@@ -13,15 +13,12 @@ use Rattle.kd_insert.proofs.labelling.row_of.Lts as lts
 use Rattle.fast_compare.proofs.row_at.Reads as row-at-reads
 use Rattle.fast_compare.proofs.search.Reads as search-reads
 
--- src/labelling.rt:50:9
 search-requires : tie.Need-search-requires
 search-requires c κs = search needs
 
--- src/labelling.rt:52:19
 enum-known-place : tie.Need-enum-known-place
 enum-known-place c = search needs
 
--- src/labelling.rt:52:25
 row-at-requires : tie.Need-row-at-requires
 row-at-requires c κs =
     let start = c .before .before .before .before .before .before in
@@ -37,11 +34,9 @@ row-at-requires c κs =
       ),
     )
 
--- src/labelling.rt:53:29
 enum-told : tie.Need-enum-told
 enum-told c = search needs
 
--- src/labelling.rt:45:1
 returns : tie.Need-returns
 returns c =
     let start = c .before .before .before .before .before .before .before in
@@ -50,7 +45,6 @@ returns c =
     λ l i. row-at-place l (valueOf (start .args .index) (words (start .args .ratio .now))) (place .given .0 .0) (c .row-at .result) (i .valid)
     (sym (place .given .1) ∙ (search .ensures) l i) ((c .row-at .ensures) l i .1)
 
--- src/labelling.rt:45:1
 returns-2 : tie.Need-returns-2
 returns-2 c =
     let start = c .before .before .before .before .before in

@@ -12,19 +12,15 @@ use Rattle.fast_compare.proofs.get_comparer.Reads as get-comparer-reads
 use Rattle.fast_compare.proofs.rebuild.Reads as rebuild-reads
 use Rattle.kd_insert.proofs.labelling.no_label.Reads as no-label-reads
 
--- src/labelling.rt:36:9
 get-comparer-requires : tie.Need-get-comparer-requires
 get-comparer-requires c κs = search needs
 
--- src/labelling.rt:37:9
 no-label-requires : tie.Need-no-label-requires
 no-label-requires c κs = search needs
 
--- src/labelling.rt:38:9
 same-length : tie.Need-same-length
 same-length c = search needs
 
--- src/labelling.rt:38:9
 returns : tie.Need-returns
 returns c =
     let start = c .before .before .before .before .before .before .before .before in
@@ -32,7 +28,6 @@ returns c =
     λ l i. first-done (start .args .labels .now) (get-comparer .last .0) l (valueOf (start .args .index) (words (start .args .ratio .now))) (get-comparer .result)
     (c .before .no-label .result) ((get-comparer .ensures) l i) (c .before .no-label .ensures) (not-true (c .before .no-label .result) (c .if1 .taken))
 
--- src/labelling.rt:40:5
 rebuild-requires : tie.Need-rebuild-requires
 rebuild-requires c κs =
     let start = c .before .before .before .before .before .before .before .before .before in
@@ -45,7 +40,6 @@ rebuild-requires c κs =
           ((get-comparer .ensures) (start .pre .0 .state) (start .pre .0 .is)) (sym (no-label .ensures) ∙ not-false (no-label .result) (c .before .if1 .left));
     }
 
--- src/labelling.rt:41:5
 get-comparer-requires-2 : tie.Need-get-comparer-requires-2
 get-comparer-requires-2 c κs =
     let start = c .before .before .before .before .before .before .before .before .before .before .before .before .before in
@@ -67,11 +61,9 @@ get-comparer-requires-2 c κs =
       good-again (start .args .labels .now) (get-comparer .last .0) (start .pre .0 .state) y (get-comparer .result) (start .pre .0 .is) (start .pre .1) x q (rebuild′ .last .0) p,
     )
 
--- src/labelling.rt:31:1
 same-length-2 : tie.Need-same-length-2
 same-length-2 c = search needs
 
--- src/labelling.rt:31:1
 returns-2 : tie.Need-returns-2
 returns-2 c =
     let start = c .before .before .before .before .before .before .before .before .before .before .before .before .before .before .before .before in

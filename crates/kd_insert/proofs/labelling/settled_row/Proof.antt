@@ -12,21 +12,17 @@ use Rattle.kd_insert.proofs.labelling.settled_row.Lts as lts
 use Rattle.fast_compare.proofs.count.Reads as count-reads
 use Rattle.kd_insert.proofs.labelling.row_of.Reads as row-of-reads
 
--- src/labelling.rt:64:12
 count-requires : tie.Need-count-requires
 count-requires c κs = search needs
 
--- src/labelling.rt:65:9
 returns : tie.Need-returns
 returns c = let start = (c .before .before .before .before) in
     let v = valueOf (start .args .index) (words (start .args .ratio .now)) in
     λ l ok e I. e ∙ settled-last l v ok (I .valid) (omega (arith, e, (c .before .count .ensures .1) (settled l v) I))
 
--- src/labelling.rt:67:5
 row-of-requires : tie.Need-row-of-requires
 row-of-requires c κs = search needs
 
--- src/labelling.rt:59:1
 returns-2 : tie.Need-returns-2
 returns-2 c = let start = (c .before .before .before .before .before) in
     λ l ok e I. (c .row-of .ensures) (settled l (valueOf (start .args .index) (words (start .args .ratio .now)))) I

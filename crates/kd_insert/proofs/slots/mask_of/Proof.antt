@@ -10,39 +10,30 @@ use Rattle.kd_insert.proofs.slots.mask_of.Reads as reads
 use Rattle.kd_insert.proofs.slots.mask_of.Lts as lts
 use Rattle.divmask.proofs.map.Reads as map-reads
 
--- src/slots.rt:47:18
 add-x : tie.Need-add-x
 add-x c = search needs
 
--- src/slots.rt:47:13
 mul-x : tie.Need-mul-x
 mul-x c = search needs
 
--- src/slots.rt:48:17
 mul-y : tie.Need-mul-y
 mul-y c = search needs
 
--- src/slots.rt:48:13
 add-y : tie.Need-add-y
 add-y c = search needs
 
--- src/slots.rt:49:18
 sub-map : tie.Need-sub-map
 sub-map c = search needs
 
--- src/slots.rt:49:18
 part-map-start : tie.Need-part-map-start
 part-map-start c = search needs
 
--- src/slots.rt:49:18
 part-map-end : tie.Need-part-map-end
 part-map-end c = search needs
 
--- src/slots.rt:49:32
 cast-map : tie.Need-cast-map
 cast-map c = search needs
 
--- src/slots.rt:49:5
 map-requires : tie.Need-map-requires
 map-requires c κs =
     let start = c .before .before .before in (
@@ -52,7 +43,6 @@ map-requires c κs =
       starts-whole (start .pre .1 .1 .1),
     )
 
--- src/slots.rt:39:1
 returns : tie.Need-returns
 returns c =
     let start = c .before .before .before .before in

@@ -11,31 +11,24 @@ use Rattle.kd_insert.proofs.slots.mask_of.Reads as mask-of-reads
 use Rattle.kd_insert.proofs.slots.write_slot.Reads as write-slot-reads
 use Rattle.words.proofs.put.Reads as put-reads
 
--- src/slots.rt:77:9
 mask-of-requires : tie.Need-mask-of-requires
 mask-of-requires c κs = search needs
 
--- src/slots.rt:78:23
 add-put : tie.Need-add-put
 add-put c = search needs
 
--- src/slots.rt:78:5
 put-requires : tie.Need-put-requires
 put-requires c κs = search needs
 
--- src/slots.rt:79:23
 add-write-slot : tie.Need-add-write-slot
 add-write-slot c = search needs
 
--- src/slots.rt:79:5
 write-slot-requires : tie.Need-write-slot-requires
 write-slot-requires c κs = search needs
 
--- src/slots.rt:68:1
 same-length : tie.Need-same-length
 same-length c = search needs
 
--- src/slots.rt:68:1
 returns : tie.Need-returns
 returns c =
     let start = c .before .before .before .before .before .before .before .before .before .before .before .before in

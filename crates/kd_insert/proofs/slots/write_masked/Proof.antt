@@ -12,51 +12,39 @@ use Rattle.index_image.proofs.stored.masks_of.Reads as masks-of-reads
 use Rattle.kd_insert.proofs.slots.write_slot.Reads as write-slot-reads
 use Rattle.words.proofs.put.Reads as put-reads
 
--- src/slots.rt:69:9
 masks-of-requires : tie.Need-masks-of-requires
 masks-of-requires c κs = search needs
 
--- src/slots.rt:70:5
 write-slot-requires : tie.Need-write-slot-requires
 write-slot-requires c κs = search needs
 
--- src/slots.rt:71:28
 add-put : tie.Need-add-put
 add-put c = search needs
 
--- src/slots.rt:71:23
 add-put-2 : tie.Need-add-put-2
 add-put-2 c = search needs
 
--- src/slots.rt:71:57
 cast-put : tie.Need-cast-put
 cast-put c = search needs
 
--- src/slots.rt:71:5
 put-requires : tie.Need-put-requires
 put-requires c κs = search needs
 
--- src/slots.rt:72:28
 add-put-3 : tie.Need-add-put-3
 add-put-3 c = search needs
 
--- src/slots.rt:72:23
 add-put-4 : tie.Need-add-put-4
 add-put-4 c = search needs
 
--- src/slots.rt:72:59
 cast-put-2 : tie.Need-cast-put-2
 cast-put-2 c = search needs
 
--- src/slots.rt:72:5
 put-requires-2 : tie.Need-put-requires-2
 put-requires-2 c κs = search needs
 
--- src/slots.rt:60:1
 same-length : tie.Need-same-length
 same-length c = search needs
 
--- src/slots.rt:60:1
 returns : tie.Need-returns
 returns c =
     let start = c .before .before .before .before .before .before .before .before .before .before .before .before .before .before .before .before .before .before in

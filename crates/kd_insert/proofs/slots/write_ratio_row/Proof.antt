@@ -16,37 +16,29 @@ use Rattle.kd_insert.proofs.slots.write_masked.Reads as write-masked-re
 use Rattle.words.proofs.index_word.Reads as index-word-reads
 use Rattle.words.proofs.put.Reads as put-reads
 
--- src/slots.rt:95:5
 write-masked-requires : tie.Need-write-masked-requires
 write-masked-requires c κs =
     let start = c .before .before .before .before in
     (start .pre .0, (start .pre .1 .0, (start .pre .1 .1 .0, (start .pre .1 .1 .1 .1 .0 .0, (start .pre .1 .1 .1 .1 .0 .1, omega (arith, start .pre .1 .1 .1 .1 .1 .1 .1))))))
 
--- src/slots.rt:96:28
 add-put : tie.Need-add-put
 add-put c = search needs
 
--- src/slots.rt:96:23
 add-put-2 : tie.Need-add-put-2
 add-put-2 c = search needs
 
--- src/slots.rt:96:36
 index-word-requires : tie.Need-index-word-requires
 index-word-requires c κs = search needs
 
--- src/slots.rt:96:5
 put-requires : tie.Need-put-requires
 put-requires c κs = search needs
 
--- src/slots.rt:97:33
 add-write-masked : tie.Need-add-write-masked
 add-write-masked c = search needs
 
--- src/slots.rt:97:28
 add-write-masked-2 : tie.Need-add-write-masked-2
 add-write-masked-2 c = search needs
 
--- src/slots.rt:97:5
 write-masked-requires-2 : tie.Need-write-masked-requires-2
 write-masked-requires-2 c κs =
     let start = c .before .before .before .before .before .before .before .before .before .before .before .before .before in
@@ -67,27 +59,21 @@ write-masked-requires-2 c κs =
       ),
     )
 
--- src/slots.rt:98:28
 mul-put : tie.Need-mul-put
 mul-put c = search needs
 
--- src/slots.rt:98:28
 add-put-3 : tie.Need-add-put-3
 add-put-3 c = search needs
 
--- src/slots.rt:98:23
 add-put-4 : tie.Need-add-put-4
 add-put-4 c = search needs
 
--- src/slots.rt:98:5
 put-requires-2 : tie.Need-put-requires-2
 put-requires-2 c κs = search needs
 
--- src/slots.rt:84:1
 same-length : tie.Need-same-length
 same-length c = search needs
 
--- src/slots.rt:84:1
 returns : tie.Need-returns
 returns c =
     let start = c .before .before .before .before .before .before .before .before .before .before .before .before .before .before .before .before .before .before .before .before in

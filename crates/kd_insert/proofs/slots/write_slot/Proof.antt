@@ -14,7 +14,6 @@ use Rattle.kd_insert.proofs.slots.write_slot.Lts as lts
 use Rattle.words.proofs.runs.clear.Reads as clear-reads
 use Rattle.words.proofs.runs.paste.Reads as paste-reads
 
--- src/slots.rt:26:5
 paste-requires : tie.Need-paste-requires
 paste-requires c κs =
     let start = c .before .before .before in
@@ -25,15 +24,12 @@ paste-requires c κs =
       start .pre .1 .1,
     )
 
--- src/slots.rt:27:31
 add-clear : tie.Need-add-clear
 add-clear c = search needs
 
--- src/slots.rt:27:38
 add-clear-2 : tie.Need-add-clear-2
 add-clear-2 c = search needs
 
--- src/slots.rt:27:38
 sub-clear : tie.Need-sub-clear
 sub-clear c =
     let start = c .before .before .before .before .before .before .before in
@@ -44,7 +40,6 @@ sub-clear c =
       start .pre .1 .1,
     )
 
--- src/slots.rt:27:5
 clear-requires : tie.Need-clear-requires
 clear-requires c κs =
     let start = c .before .before .before .before .before .before .before in
@@ -55,11 +50,9 @@ clear-requires c κs =
       start .pre .1 .1,
     )
 
--- src/slots.rt:18:1
 same-length : tie.Need-same-length
 same-length c = search needs
 
--- src/slots.rt:18:1
 returns : tie.Need-returns
 returns c =
     let start = c .before .before .before .before .before .before .before .before .before .before in

@@ -10,30 +10,24 @@ use Rattle.kd_query.proofs.limits.limit.Lts as lts
 use Rattle.kd_query.proofs.limits.pass_all.Reads as pass-all-reads
 use Rattle.kd_query.proofs.limits.set_powers.Reads as set-powers-reads
 
--- src/limits.rt:55:5
 pass-all-requires : tie.Need-pass-all-requires
 pass-all-requires c κs = search needs
 
--- src/limits.rt:57:9
 set-powers-requires : tie.Need-set-powers-requires
 set-powers-requires c κs =
     let b4 = c .before .before .before .before in
     let s = b4 .before .before .before .before in
     (s .pre .0, (omega (arith, s .pre .1 .0, b4 .pass-all .kept .0), (s .pre .1 .1, b4 .pass-all .ensures)))
 
--- src/limits.rt:49:1
 same-length : tie.Need-same-length
 same-length c = search needs
 
--- src/limits.rt:49:1
 returns : tie.Need-returns
 returns c = rw (c .before .before .before .before .if1 .taken) (c .before .before .set-powers .ensures)
 
--- src/limits.rt:49:1
 same-length-2 : tie.Need-same-length-2
 same-length-2 c = search needs
 
--- src/limits.rt:49:1
 returns-2 : tie.Need-returns-2
 returns-2 c =
     let b3 = c .before .before .before in

@@ -15,22 +15,18 @@ Inv-loop q₀ s v₀ q v = ((v ≤ s .variables) × (length q ≡ length q₀)) 
 abbrev μ-loop : tie.MeasureT-loop
 μ-loop q₀ s v₀ q v = s .variables - v
 
--- src/limits.rt:18:5
 loop-holds : tie.Need-loop-holds Inv-loop μ-loop
 loop-holds c = ((omega arith, refl), λ v h. absurd (omega arith))
 
--- src/limits.rt:19:23
 add-put : tie.Need-add-put Inv-loop μ-loop
 add-put c = omega (arith, c .before .before .before .before .before .before .pre .0 .kind-to)
 
--- src/limits.rt:19:23
 add-put-2 : tie.Need-add-put-2 Inv-loop μ-loop
 add-put-2 c =
     let b4 = c .before .before .before .before in
     let s = b4 .before .before in
     omega (arith, s .pre .0 .kind-to, b4 .loop .inv .0 .0, s .pre .0 .vars-to)
 
--- src/limits.rt:19:9
 put-requires : tie.Need-put-requires Inv-loop μ-loop
 put-requires c κs =
     let b2 = c .before .before in
@@ -38,18 +34,15 @@ put-requires c κs =
     let s = b4 .before .before in
     omega (arith, s .pre .0 .kind-to, b2 .if1 .taken, s .pre .0 .vars-to, s .pre .1, b4 .loop .inv .0 .1)
 
--- src/limits.rt:20:9
 add-v : tie.Need-add-v Inv-loop μ-loop
 add-v c =
     let b7 = c .before .before .before .before .before .before .before in
     let s = b7 .before .before in
     omega (arith, b7 .loop .inv .0 .0, s .pre .0 .vars-to)
 
--- src/limits.rt:18:5
 loop-less : tie.Need-loop-less Inv-loop μ-loop
 loop-less c = omega (arith, c .before .before .before .before .before .if1 .taken)
 
--- src/limits.rt:18:5
 loop-again : tie.Need-loop-again Inv-loop μ-loop
 loop-again c =
     let b2 = c .before .before in
@@ -61,11 +54,9 @@ loop-again c =
           (b7 .loop .inv .1) (omega (arith, s .pre .0 .kind-to, b5 .if1 .taken, s .pre .0 .vars-to, s .pre .1, b7 .loop .inv .0 .1)) (b2 .put .ensures),
     )
 
--- src/limits.rt:12:1
 same-length : tie.Need-same-length Inv-loop μ-loop
 same-length c = c .before .before .loop .inv .0 .1
 
--- src/limits.rt:12:1
 returns : tie.Need-returns Inv-loop μ-loop
 returns c = pass-end (c .before .before .loop .q) (c .before .before .before .before .args .s) (c .before .before .loop .v) (c .before .before .loop .inv .1) (c .if1 .left)
 

@@ -25,23 +25,18 @@ Inv-loop q₀ s m top i₀ q i = (length q ≡ length q₀) × Setting q s (word
 abbrev μ-loop : tie.MeasureT-loop
 μ-loop q₀ s m top i₀ q i = length (words m) - i
 
--- src/limits.rt:32:25
 get-requires : tie.Need-get-requires Inv-loop μ-loop
 get-requires c κs = omega (arith, length-words (c .before .before .args .m .now), c .before .before .pre .1 .1 .0 .some)
 
--- src/limits.rt:32:15
 id-requires : tie.Need-id-requires Inv-loop μ-loop
 id-requires c κs = search needs
 
--- src/limits.rt:32:15
 cast-top : tie.Need-cast-top Inv-loop μ-loop
 cast-top c = search needs
 
--- src/limits.rt:33:27
 add-clear : tie.Need-add-clear Inv-loop μ-loop
 add-clear c = omega (arith, c .before .before .before .before .before .before .pre .0 .kind-to)
 
--- src/limits.rt:33:39
 add-clear-2 : tie.Need-add-clear-2 Inv-loop μ-loop
 add-clear-2 c =
     let b2 = c .before .before in
@@ -49,7 +44,6 @@ add-clear-2 c =
     let s = b3 .before .before .before in
     omega (arith, b2 .id .ensures, top-few (s .args .s) (s .pre .0) (words (s .args .m .now)) (s .pre .1 .1 .0) (b3 .get .result) (b3 .get .ensures))
 
--- src/limits.rt:33:5
 clear-requires : tie.Need-clear-requires Inv-loop μ-loop
 clear-requires c κs =
     let b2 = c .before .before in
@@ -64,7 +58,6 @@ clear-requires c κs =
       s .pre .1 .0,
     )
 
--- src/limits.rt:35:5
 loop-holds : tie.Need-loop-holds Inv-loop μ-loop
 loop-holds c =
     let b2 = c .before .before in
@@ -76,19 +69,15 @@ loop-holds c =
           (s .pre .1 .1 .1) (b6 .get .ensures) (rw (b5 .id .ensures) at (b2 .clear .ensures)),
     )
 
--- src/limits.rt:36:13
 get-requires-2 : tie.Need-get-requires-2 Inv-loop μ-loop
 get-requires-2 c κs = omega (arith, length-words (c .before .before .before .before .before .before .before .before .before .before .args .m .now), within (c .loop .inv .1 .ra))
 
--- src/limits.rt:37:12
 kind-requires : tie.Need-kind-requires Inv-loop μ-loop
 kind-requires c κs = search needs
 
--- src/limits.rt:38:13
 same-length : tie.Need-same-length Inv-loop μ-loop
 same-length c = search needs
 
--- src/limits.rt:38:13
 returns : tie.Need-returns Inv-loop μ-loop
 returns c =
     let b2 = c .before .before in
@@ -97,29 +86,23 @@ returns c =
     set-end (s .args .s) (s .pre .0) (words (s .args .m .now)) (s .pre .1 .1 .0) (b3 .loop .q) (b3 .loop .i) (b2 .get2 .result) (b3 .loop .inv .1)
     (b2 .get2 .ensures) (omega (arith, c .before .kind .ensures, c .if1 .taken))
 
--- src/limits.rt:40:23
 add-put : tie.Need-add-put Inv-loop μ-loop
 add-put c = omega (arith, c .before .before .before .before .before .before .before .before .before .before .before .before .before .before .before .pre .0 .kind-to)
 
--- src/limits.rt:40:36
 id-requires-2 : tie.Need-id-requires-2 Inv-loop μ-loop
 id-requires-2 c κs = search needs
 
--- src/limits.rt:40:36
 cast-put : tie.Need-cast-put Inv-loop μ-loop
 cast-put c = search needs
 
--- src/limits.rt:40:23
 add-put-2 : tie.Need-add-put-2 Inv-loop μ-loop
 add-put-2 c =
     let s = c .before .before .before .before .before .before .before .before .before .before .before .before .before .before .before .before in
     omega (arith, s .pre .0 .kind-to, c .id2 .ensures)
 
--- src/limits.rt:40:59
 power-requires : tie.Need-power-requires Inv-loop μ-loop
 power-requires c κs = search needs
 
--- src/limits.rt:40:9
 put-requires : tie.Need-put-requires Inv-loop μ-loop
 put-requires c κs =
     let b4 = c .before .before .before .before in
@@ -140,21 +123,18 @@ put-requires c κs =
       b10 .clear .kept .0,
     )
 
--- src/limits.rt:41:9
 add-i : tie.Need-add-i Inv-loop μ-loop
 add-i c =
     let b10 = c .before .before .before .before .before .before .before .before .before .before in
     let s = b10 .before .before .before .before .before .before .before .before .before .before in
     omega (arith, length-words (s .args .m .now), within (b10 .loop .inv .1 .ra))
 
--- src/limits.rt:35:5
 loop-less : tie.Need-loop-less Inv-loop μ-loop
 loop-less c =
     let b10 = c .before .before .before .before .before .before .before .before .before .before in
     let s = b10 .before .before .before .before .before .before .before .before .before .before in
     omega (arith, length-words (s .args .m .now), within (b10 .loop .inv .1 .ra))
 
--- src/limits.rt:35:5
 loop-again : tie.Need-loop-again Inv-loop μ-loop
 loop-again c =
     let b2 = c .before .before in

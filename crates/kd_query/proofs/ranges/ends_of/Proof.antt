@@ -8,39 +8,30 @@ use Rattle.index_image.proofs.Shape.labels_at.Reads as labels-at-reads
 use Rattle.index_image.proofs.Shape.labels_size.Reads as labels-size-reads
 use Rattle.kd_query.proofs.ranges.ends_in.Reads as ends-in-reads
 
--- src/ranges.rt:101:17
 labels-at-requires : tie.Need-labels-at-requires
 labels-at-requires c κs = search needs
 
--- src/ranges.rt:101:13
 mul-a : tie.Need-mul-a
 mul-a c = search needs
 
--- src/ranges.rt:102:21
 labels-size-requires : tie.Need-labels-size-requires
 labels-size-requires c κs = search needs
 
--- src/ranges.rt:102:17
 mul-b : tie.Need-mul-b
 mul-b c = search needs
 
--- src/ranges.rt:102:13
 add-b : tie.Need-add-b
 add-b c = search needs
 
--- src/ranges.rt:103:13
 sub-ends-in : tie.Need-sub-ends-in
 sub-ends-in c = search needs
 
--- src/ranges.rt:103:13
 part-ends-in-start : tie.Need-part-ends-in-start
 part-ends-in-start c = search needs
 
--- src/ranges.rt:103:13
 part-ends-in-end : tie.Need-part-ends-in-end
 part-ends-in-end c = search needs
 
--- src/ranges.rt:103:5
 ends-in-requires : tie.Need-ends-in-requires
 ends-in-requires c κs =
     let b2 = c .before .before in
@@ -50,7 +41,6 @@ ends-in-requires c κs =
       s .pre .1 .1 .1,
     )
 
--- src/ranges.rt:94:1
 returns : tie.Need-returns
 returns c =
     let b2 = c .before .before in

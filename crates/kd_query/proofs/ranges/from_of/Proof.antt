@@ -8,39 +8,30 @@ use Rattle.index_image.proofs.Shape.labels_at.Reads as labels-at-reads
 use Rattle.index_image.proofs.Shape.labels_size.Reads as labels-size-reads
 use Rattle.kd_query.proofs.ranges.labels_from.Reads as labels-from-reads
 
--- src/ranges.rt:113:17
 labels-at-requires : tie.Need-labels-at-requires
 labels-at-requires c κs = search needs
 
--- src/ranges.rt:113:13
 mul-a : tie.Need-mul-a
 mul-a c = search needs
 
--- src/ranges.rt:114:21
 labels-size-requires : tie.Need-labels-size-requires
 labels-size-requires c κs = search needs
 
--- src/ranges.rt:114:17
 mul-b : tie.Need-mul-b
 mul-b c = search needs
 
--- src/ranges.rt:114:13
 add-b : tie.Need-add-b
 add-b c = search needs
 
--- src/ranges.rt:115:17
 sub-labels-from : tie.Need-sub-labels-from
 sub-labels-from c = search needs
 
--- src/ranges.rt:115:17
 part-labels-from-start : tie.Need-part-labels-from-start
 part-labels-from-start c = search needs
 
--- src/ranges.rt:115:17
 part-labels-from-end : tie.Need-part-labels-from-end
 part-labels-from-end c = search needs
 
--- src/ranges.rt:115:5
 labels-from-requires : tie.Need-labels-from-requires
 labels-from-requires c κs =
     let b2 = c .before .before in
@@ -48,7 +39,6 @@ labels-from-requires c κs =
     lent-sound (s .args .image .now) (s .args .s) (s .pre .1 .0) (s .pre .1 .1) (b2 .labels-at .result) (c .before .labels-size .result)
     (b2 .labels-at .ensures) (c .before .labels-size .ensures) (s .pre .0)
 
--- src/ranges.rt:107:1
 returns : tie.Need-returns
 returns c =
     let b2 = c .before .before in

@@ -9,19 +9,15 @@ use Rattle.fast_compare.proofs.count.Reads as count-reads
 use Rattle.kd_query.proofs.ranges.label_at.Reads as label-at-reads
 use Rattle.kd_query.proofs.ranges.rows_below.Reads as rows-below-reads
 
--- src/ranges.rt:83:9
 rows-below-requires : tie.Need-rows-below-requires
 rows-below-requires c κs = search needs
 
--- src/ranges.rt:84:12
 count-requires : tie.Need-count-requires
 count-requires c κs = search needs
 
--- src/ranges.rt:85:9
 label-at-requires : tie.Need-label-at-requires
 label-at-requires c κs = search needs
 
--- src/ranges.rt:85:9
 returns : tie.Need-returns
 returns c =
     let b2 = c .before .before in
@@ -32,7 +28,6 @@ returns c =
           (c .label-at .result) (omega (arith, c .before .if1 .taken, (b2 .count .ensures .1) l i)) ((c .label-at .ensures .1) l i),
     )
 
--- src/ranges.rt:78:1
 returns-2 : tie.Need-returns-2
 returns-2 c =
     let b2 = c .before .before in

@@ -23,46 +23,37 @@ Inv-loop labels index lo₀ hi₀ lo hi = ((lo ≤ hi) × (hi ≤ getD (words la
 abbrev μ-loop : tie.MeasureT-loop
 μ-loop labels index lo₀ hi₀ lo hi = hi - lo
 
--- src/ranges.rt:64:9
 count-requires : tie.Need-count-requires Inv-loop μ-loop
 count-requires c κs = search needs
 
--- src/ranges.rt:65:5
 loop-holds : tie.Need-loop-holds Inv-loop μ-loop
 loop-holds c = ((omega arith, omega (arith, c .count .ensures .0)), λ l i. part-start l (i .valid) (c .before .before .args .index) (c .count .result) ((c .count .ensures .1) l i))
 
--- src/ranges.rt:66:25
 sub-mid : tie.Need-sub-mid Inv-loop μ-loop
 sub-mid c = search needs
 
--- src/ranges.rt:66:19
 add-mid : tie.Need-add-mid Inv-loop μ-loop
 add-mid c =
     let s = c .before .before .before .before in
     omega (arith, c .before .loop .inv .0 .1, head (s .args .labels .now) (s .pre) .few, head (s .args .labels .now) (s .pre) .cap)
 
--- src/ranges.rt:67:13
 row-at-requires : tie.Need-row-at-requires Inv-loop μ-loop
 row-at-requires c κs = (c .before .before .before .before .pre, omega (arith, c .before .loop .inv .0 .1, c .loop-test .taken))
 
--- src/ranges.rt:68:12
 index-of-requires : tie.Need-index-of-requires Inv-loop μ-loop
 index-of-requires c κs =
     let s = c .before .before .before .before .before in
     (s .pre, omega (arith, (c .row-at .ensures) (s .pre .state) (s .pre .is) .0, count-of (s .args .labels .now) (s .pre .state) (s .pre .is)))
 
--- src/ranges.rt:69:18
 add-lo : tie.Need-add-lo Inv-loop μ-loop
 add-lo c =
     let b4 = c .before .before .before .before in
     let s = b4 .before .before .before in
     omega (arith, b4 .loop .inv .0 .1, head (s .args .labels .now) (s .pre) .few, head (s .args .labels .now) (s .pre) .cap)
 
--- src/ranges.rt:65:5
 loop-less : tie.Need-loop-less Inv-loop μ-loop
 loop-less c = omega arith
 
--- src/ranges.rt:65:5
 loop-again : tie.Need-loop-again Inv-loop μ-loop
 loop-again c =
     let b2 = c .before .before in
@@ -74,11 +65,9 @@ loop-again c =
           ((b2 .row-at .ensures) l i .1) ((c .before .index-of .ensures) l i) (c .if1 .taken),
     )
 
--- src/ranges.rt:65:5
 loop-less-2 : tie.Need-loop-less-2 Inv-loop μ-loop
 loop-less-2 c = omega arith
 
--- src/ranges.rt:65:5
 loop-again-2 : tie.Need-loop-again-2 Inv-loop μ-loop
 loop-again-2 c =
     let b2 = c .before .before in
@@ -90,7 +79,6 @@ loop-again-2 c =
           ((b2 .row-at .ensures) l i .1) ((c .before .index-of .ensures) l i) (c .if1 .left),
     )
 
--- src/ranges.rt:59:1
 returns : tie.Need-returns Inv-loop μ-loop
 returns c =
     let s = c .before .before .before .before in

@@ -10,29 +10,23 @@ use Rattle.index_image.proofs.Shape.labels_at.Reads as labels-at-reads
 use Rattle.kd_query.proofs.writing.lay_places.Reads as lay-places-reads
 use Rattle.kd_query.proofs.writing.put_six.Reads as put-six-reads
 
--- src/writing.rt:146:5
 lay-places-requires : tie.Need-lay-places-requires
 lay-places-requires c κs = search needs
 
--- src/writing.rt:147:17
 labels-at-requires : tie.Need-labels-at-requires
 labels-at-requires c κs = search needs
 
--- src/writing.rt:147:52
 add-label : tie.Need-add-label
 add-label c = search needs
 
--- src/writing.rt:147:34
 add-label-2 : tie.Need-add-label-2
 add-label-2 c = search needs
 
--- src/writing.rt:147:17
 add-label-3 : tie.Need-add-label-3
 add-label-3 c =
     let s = c .before .before .before .before .before .before .before in
     omega (arith, c .before .labels-at .ensures, shape-small (s .args .s) (s .pre .0) .label)
 
--- src/writing.rt:148:5
 put-six-requires : tie.Need-put-six-requires
 put-six-requires c κs =
     let b2 = c .before .before in
@@ -58,11 +52,9 @@ put-six-requires c κs =
       ),
     )
 
--- src/writing.rt:141:1
 same-length : tie.Need-same-length
 same-length c = search needs
 
--- src/writing.rt:141:1
 returns : tie.Need-returns
 returns c =
     let b2 = c .before .before in

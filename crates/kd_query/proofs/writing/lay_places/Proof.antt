@@ -12,43 +12,33 @@ use Rattle.index_image.proofs.Shape.node_at.Reads as node-at-reads
 use Rattle.index_image.proofs.Shape.permutation_at.Reads as permutation-at-reads
 use Rattle.kd_query.proofs.writing.put_six.Reads as put-six-reads
 
--- src/writing.rt:127:9
 entry-at-requires : tie.Need-entry-at-requires
 entry-at-requires c κs = search needs
 
--- src/writing.rt:131:9
 node-at-requires : tie.Need-node-at-requires
 node-at-requires c κs = search needs
 
--- src/writing.rt:132:9
 add-put-six : tie.Need-add-put-six
 add-put-six c = search needs
 
--- src/writing.rt:133:9
 permutation-at-requires : tie.Need-permutation-at-requires
 permutation-at-requires c κs = search needs
 
--- src/writing.rt:134:9
 entry-width-requires : tie.Need-entry-width-requires
 entry-width-requires c κs = search needs
 
--- src/writing.rt:135:18
 mul-put-six : tie.Need-mul-put-six
 mul-put-six c = search needs
 
--- src/writing.rt:135:18
 add-put-six-2 : tie.Need-add-put-six-2
 add-put-six-2 c = search needs
 
--- src/writing.rt:135:9
 add-put-six-3 : tie.Need-add-put-six-3
 add-put-six-3 c = search needs
 
--- src/writing.rt:136:9
 add-put-six-4 : tie.Need-add-put-six-4
 add-put-six-4 c = search needs
 
--- src/writing.rt:128:5
 put-six-requires : tie.Need-put-six-requires
 put-six-requires c κs =
     let b2 = c .before .before in
@@ -70,11 +60,9 @@ put-six-requires c κs =
       ),
     )
 
--- src/writing.rt:121:1
 same-length : tie.Need-same-length
 same-length c = search needs
 
--- src/writing.rt:121:1
 returns : tie.Need-returns
 returns c =
     let b2 = c .before .before in

@@ -9,11 +9,9 @@ use Rattle.kd_query.proofs.writing.put_masks.Lts as lts
 use Rattle.kd_query.proofs.writing.node_mask.Reads as node-mask-reads
 use Rattle.kd_query.proofs.writing.put_six.Reads as put-six-reads
 
--- src/writing.rt:47:56
 node-mask-requires : tie.Need-node-mask-requires
 node-mask-requires c κs = search needs
 
--- src/writing.rt:47:5
 put-six-requires : tie.Need-put-six-requires
 put-six-requires c κs =
     let s = c .before .before .before in (
@@ -33,11 +31,9 @@ put-six-requires c κs =
       ),
     )
 
--- src/writing.rt:40:1
 same-length : tie.Need-same-length
 same-length c = search needs
 
--- src/writing.rt:40:1
 returns : tie.Need-returns
 returns c =
     let b2 = c .before .before in

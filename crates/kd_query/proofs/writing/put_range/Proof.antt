@@ -6,15 +6,12 @@ use Rattle.kd_query.proofs.writing.put_range.Reads as reads
 use Rattle.kd_query.proofs.writing.put_range.Lts as lts
 use Rattle.kd_query.proofs.writing.put_six.Reads as put-six-reads
 
--- src/writing.rt:55:5
 put-six-requires : tie.Need-put-six-requires
 put-six-requires c κs = search needs
 
--- src/writing.rt:51:1
 same-length : tie.Need-same-length
 same-length c = search needs
 
--- src/writing.rt:51:1
 returns : tie.Need-returns
 unfolding rangeWords
 returns c = c .before .before .put-six .ensures

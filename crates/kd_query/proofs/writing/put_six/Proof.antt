@@ -6,79 +6,60 @@ use Rattle.kd_query.proofs.writing.put_six.Reads as reads
 use Rattle.kd_query.proofs.writing.put_six.Lts as lts
 use Rattle.words.proofs.put.Reads as put-reads
 
--- src/writing.rt:112:23
 cast-put : tie.Need-cast-put
 cast-put c = search needs
 
--- src/writing.rt:112:5
 put-requires : tie.Need-put-requires
 put-requires c κs = search needs
 
--- src/writing.rt:113:19
 add-put : tie.Need-add-put
 add-put c = search needs
 
--- src/writing.rt:113:27
 cast-put-2 : tie.Need-cast-put-2
 cast-put-2 c = search needs
 
--- src/writing.rt:113:5
 put-requires-2 : tie.Need-put-requires-2
 put-requires-2 c κs = search needs
 
--- src/writing.rt:114:19
 add-put-2 : tie.Need-add-put-2
 add-put-2 c = search needs
 
--- src/writing.rt:114:27
 cast-put-3 : tie.Need-cast-put-3
 cast-put-3 c = search needs
 
--- src/writing.rt:114:5
 put-requires-3 : tie.Need-put-requires-3
 put-requires-3 c κs = search needs
 
--- src/writing.rt:115:19
 add-put-3 : tie.Need-add-put-3
 add-put-3 c = search needs
 
--- src/writing.rt:115:27
 cast-put-4 : tie.Need-cast-put-4
 cast-put-4 c = search needs
 
--- src/writing.rt:115:5
 put-requires-4 : tie.Need-put-requires-4
 put-requires-4 c κs = search needs
 
--- src/writing.rt:116:19
 add-put-4 : tie.Need-add-put-4
 add-put-4 c = search needs
 
--- src/writing.rt:116:27
 cast-put-5 : tie.Need-cast-put-5
 cast-put-5 c = search needs
 
--- src/writing.rt:116:5
 put-requires-5 : tie.Need-put-requires-5
 put-requires-5 c κs = search needs
 
--- src/writing.rt:117:19
 add-put-5 : tie.Need-add-put-5
 add-put-5 c = search needs
 
--- src/writing.rt:117:27
 cast-put-6 : tie.Need-cast-put-6
 cast-put-6 c = search needs
 
--- src/writing.rt:117:5
 put-requires-6 : tie.Need-put-requires-6
 put-requires-6 c κs = search needs
 
--- src/writing.rt:107:1
 same-length : tie.Need-same-length
 same-length c = search needs
 
--- src/writing.rt:107:1
 returns : tie.Need-returns
 returns c =
     let b2 = c .before .before in

@@ -8,45 +8,36 @@ use Rattle.kd_query.proofs.writing.put_slot.Lts as lts
 use Rattle.kd_query.proofs.writing.slot_of.Reads as slot-of-reads
 use Rattle.words.proofs.put.Reads as put-reads
 
--- src/writing.rt:85:9
 slot-of-requires : tie.Need-slot-of-requires
 slot-of-requires c κs = search needs
 
--- src/writing.rt:86:32
 cast-put : tie.Need-cast-put
 cast-put c = omega (arith, c .before .slot-of .ensures, slot-small (c .before .before .before .args .s) (c .before .before .before .pre .0) (c .before .before .before .args .lm))
 
--- src/writing.rt:86:5
 put-requires : tie.Need-put-requires
 put-requires c κs = search needs
 
--- src/writing.rt:90:18
 add-put : tie.Need-add-put
 add-put c = search needs
 
--- src/writing.rt:90:10
 add-put-2 : tie.Need-add-put-2
 add-put-2 c =
     let b6 = c .before .before .before .before .before .before in
     let s = b6 .before .before in
     omega (arith, b6 .slot-of .ensures, slot-small (s .args .s) (s .pre .0) (s .args .lm), s .pre .0 .vars-to)
 
--- src/writing.rt:90:9
 cast-put-2 : tie.Need-cast-put-2
 cast-put-2 c =
     let b6 = c .before .before .before .before .before .before in
     let s = b6 .before .before in
     omega (arith, b6 .slot-of .ensures, slot-small (s .args .s) (s .pre .0) (s .args .lm), s .pre .0 .vars-to)
 
--- src/writing.rt:87:5
 put-requires-2 : tie.Need-put-requires-2
 put-requires-2 c κs = search needs
 
--- src/writing.rt:80:1
 same-length : tie.Need-same-length
 same-length c = search needs
 
--- src/writing.rt:80:1
 returns : tie.Need-returns
 returns c =
     let b2 = c .before .before in

@@ -6,23 +6,18 @@ use Rattle.kd_query.proofs.writing.slot_of.Reads as reads
 use Rattle.kd_query.proofs.writing.slot_of.Lts as lts
 use Rattle.index_image.proofs.Shape.entry_at.Reads as entry-at-reads
 
--- src/writing.rt:72:9
 entry-at-requires : tie.Need-entry-at-requires
 entry-at-requires c κs = search needs
 
--- src/writing.rt:74:9
 returns : tie.Need-returns
 returns c = lm-slot (c .before .before .args .s) (c .before .entry-at .result) (c .before .before .args .lm) (c .if1 .taken) (c .before .entry-at .ensures)
 
--- src/writing.rt:76:14
 add-result : tie.Need-add-result
 add-result c = search needs
 
--- src/writing.rt:76:5
 add-result-2 : tie.Need-add-result-2
 add-result-2 c = search needs
 
--- src/writing.rt:68:1
 returns-2 : tie.Need-returns-2
 returns-2 c =
     let b2 = c .before .before in

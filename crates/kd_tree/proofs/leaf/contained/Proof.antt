@@ -20,33 +20,26 @@ Inv-loop image q m lo c acc i₀ i = (i ≤ c) × Scanning image m (shapeIn (wor
 abbrev μ-loop : tie.MeasureT-loop
 μ-loop image q m lo c acc i₀ i = c - i
 
--- src/leaf.rt:75:5
 loop-holds : tie.Need-loop-holds Inv-loop μ-loop
 loop-holds c = (omega arith, scan-none _ _ _ _ _ _ _ (c .before .before .before .pre .0 .inside))
 
--- src/leaf.rt:76:43
 add-entry-at : tie.Need-add-entry-at Inv-loop μ-loop
 add-entry-at c = omega (arith, c .before .before .before .before .before .pre .0 .inside, few-entries _ _ _ _ _ _ _ (c .before .before .before .before .before .pre .0))
 
--- src/leaf.rt:76:13
 entry-at-requires : tie.Need-entry-at-requires Inv-loop μ-loop
 entry-at-requires c κs =
     let start = c .before .before .before .before .before in
     (start .pre .0 .asks .laid, (entries-ready _ _ _ _ _ _ _ (start .pre .0), omega (arith, start .pre .0 .inside)))
 
--- src/leaf.rt:77:12
 is-divisor-requires : tie.Need-is-divisor-requires Inv-loop μ-loop
 is-divisor-requires c κs = entered _ _ _ _ _ _ _ (c .before .before .before .before .before .before .pre .0) _ (c .entry-at .ensures .1)
 
--- src/leaf.rt:78:39
 add-stopped : tie.Need-add-stopped Inv-loop μ-loop
 add-stopped c = omega (arith, c .before .before .entry-at .ensures .1, few-entries _ _ _ _ _ _ _ (c .before .before .before .before .before .before .before .before .pre .0))
 
--- src/leaf.rt:78:13
 stopped-requires : tie.Need-stopped-requires Inv-loop μ-loop
 stopped-requires c κs = omega (arith, c .before .before .entry-at .ensures .1, few-entries _ _ _ _ _ _ _ (c .before .before .before .before .before .before .before .before .pre .0))
 
--- src/leaf.rt:78:13
 returns : tie.Need-returns Inv-loop μ-loop
 returns c =
     let start = c .before .before .before .before .before .before .before .before .before in
@@ -59,15 +52,12 @@ returns c =
       c .stopped .ensures .0,
     )
 
--- src/leaf.rt:80:9
 add-i : tie.Need-add-i Inv-loop μ-loop
 add-i c = omega arith
 
--- src/leaf.rt:75:5
 loop-less : tie.Need-loop-less Inv-loop μ-loop
 loop-less c = omega arith
 
--- src/leaf.rt:75:5
 loop-again : tie.Need-loop-again Inv-loop μ-loop
 loop-again c =
     let start = c .before .before .before .before .before .before .before .before in
@@ -79,7 +69,6 @@ loop-again c =
           (contained-miss _ _ _ _ _ _ (entry-at .ensures .1) _ (start .pre .1 .1) (c .before .is-divisor .ensures) (c .if1 .left)),
     )
 
--- src/leaf.rt:69:1
 returns-2 : tie.Need-returns-2 Inv-loop μ-loop
 returns-2 c =
     let start = c .before .before .before .before .before in

@@ -12,41 +12,33 @@ use Rattle.kd_tree.proofs.leaf.may.Reads as may-reads
 use Rattle.kd_tree.proofs.query.label.Reads as label-reads
 use Rattle.words.proofs.pairs.get.Reads as get-reads
 
--- src/leaf.rt:55:9
 may-requires : tie.Need-may-requires
 may-requires c κs = search needs
 
--- src/leaf.rt:56:9
 returns : tie.Need-returns
 returns c =
     let start = c .before .before .before .before .before in
     count-masked _ _ _ _ _ _ (out-by-mask (start .args .image .now) (start .args .q .now) _ _ _ (start .pre .0) (sym (c .before .may .ensures) ∙ not-true _ (c .if1 .taken)))
 
--- src/leaf.rt:58:9
 label-requires : tie.Need-label-requires
 label-requires c κs =
     let start = c .before .before .before .before .before in
     (start .pre .0 .asks .laid, (tested-at (start .args .image .now) (start .args .q .now) _ _ _ (start .pre .0) .ready, (start .pre .1, start .pre .0 .inside)))
 
--- src/leaf.rt:60:9
 returns-2 : tie.Need-returns-2
 returns-2 c = count-below _ _ _ _ _ _ _ (c .before .label .ensures .0) (c .if2 .taken)
 
--- src/leaf.rt:62:8
 get-requires : tie.Need-get-requires
 get-requires c κs =
     let start = c .before .before .before .before .before .before .before in
     omega (arith, tested-at (start .args .image .now) (start .args .q .now) _ _ _ (start .pre .0) .long)
 
--- src/leaf.rt:63:9
 returns-3 : tie.Need-returns-3
 returns-3 c = count-past _ _ _ _ _ _ _ (c .before .before .before .label .ensures .0) (omega (arith, c .before .get .ensures, c .if3 .taken))
 
--- src/leaf.rt:65:5
 divides-requires : tie.Need-divides-requires
 divides-requires c κs = search needs
 
--- src/leaf.rt:50:1
 returns-4 : tie.Need-returns-4
 returns-4 c =
     let label = c .before .before .before .before .label in

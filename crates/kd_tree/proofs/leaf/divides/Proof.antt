@@ -11,51 +11,42 @@ use Rattle.kd_tree.proofs.leaf.divides.Lts as lts
 use Rattle.kd_tree.proofs.query.num.Reads as num-reads
 use Rattle.monomial.proofs.divides.Reads as divides-reads
 
--- src/leaf.rt:29:19
 num-requires : tie.Need-num-requires
 num-requires c κs = omega (arith, tested-at (c .before .before .before .args .image .now) (c .before .before .before .args .q .now) _ _ _ (c .before .before .before .pre) .long)
 
--- src/leaf.rt:29:52
 num-requires-2 : tie.Need-num-requires-2
 num-requires-2 c κs =
     let start = c .before .before .before .before in
     omega (arith, tested-at (start .args .image .now) (start .args .q .now) _ _ _ (start .pre) .long)
 
--- src/leaf.rt:29:48
 mul-at : tie.Need-mul-at
 mul-at c =
     let start = c .before .before .before .before .before in
     rw (c .num2 .ensures .0) (omega (arith, tested-at (start .args .image .now) (start .args .q .now) _ _ _ (start .pre) .slot-small))
 
--- src/leaf.rt:29:19
 add-at : tie.Need-add-at
 add-at c =
     let start = c .before .before .before .before .before in
     rw (c .num2 .ensures .0) (omega (arith, tested-at (start .args .image .now) (start .args .q .now) _ _ _ (start .pre) .slot-small, c .before .num .ensures .0))
 
--- src/leaf.rt:29:14
 mul-at-2 : tie.Need-mul-at-2
 mul-at-2 c =
     let start = c .before .before .before .before .before in
     rw (c .num2 .ensures .0) (omega (arith, tested-at (start .args .image .now) (start .args .q .now) _ _ _ (start .pre) .slot-small, c .before .num .ensures .0))
 
--- src/leaf.rt:30:23
 sub-divides : tie.Need-sub-divides
 sub-divides c =
     let start = c .before .before .before .before .before in
     rw (c .num2 .ensures .0) (omega (arith, tested-at (start .args .image .now) (start .args .q .now) _ _ _ (start .pre) .slot-room, c .before .num .ensures .0))
 
--- src/leaf.rt:30:23
 part-divides-start : tie.Need-part-divides-start
 part-divides-start c =
     let start = c .before .before .before .before .before in
     rw (c .num2 .ensures .0) (omega (arith, tested-at (start .args .image .now) (start .args .q .now) _ _ _ (start .pre) .slot-room, c .before .num .ensures .0))
 
--- src/leaf.rt:30:23
 part-divides-end : tie.Need-part-divides-end
 part-divides-end c = omega arith
 
--- src/leaf.rt:30:5
 divides-requires : tie.Need-divides-requires
 divides-requires c κs =
     let start = c .before .before .before .before .before .before in
@@ -64,7 +55,6 @@ divides-requires c κs =
     both-start (start .args .image .now) (start .args .q .now) _ _ _ (start .pre) p (length (start .args .image .now) - 4 * p) (omega arith)
     (rw (num .ensures .0, c .before .num2 .ensures .0) refl)
 
--- src/leaf.rt:25:1
 returns : tie.Need-returns
 returns c =
     let start = c .before .before .before .before .before .before .before in

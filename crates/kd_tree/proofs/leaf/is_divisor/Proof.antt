@@ -9,21 +9,17 @@ use Rattle.kd_tree.proofs.leaf.is_divisor.Lts as lts
 use Rattle.kd_tree.proofs.leaf.divides.Reads as divides-reads
 use Rattle.kd_tree.proofs.leaf.may.Reads as may-reads
 
--- src/leaf.rt:43:9
 may-requires : tie.Need-may-requires
 may-requires c κs = search needs
 
--- src/leaf.rt:44:9
 returns : tie.Need-returns
 returns c =
     let start = c .before .before .before .before .before in
     sym (out-by-mask (start .args .image .now) (start .args .q .now) _ _ _ (start .pre) (sym (c .before .may .ensures) ∙ not-true _ (c .if1 .taken)))
 
--- src/leaf.rt:46:5
 divides-requires : tie.Need-divides-requires
 divides-requires c κs = search needs
 
--- src/leaf.rt:39:1
 returns-2 : tie.Need-returns-2
 returns-2 c = search needs
 

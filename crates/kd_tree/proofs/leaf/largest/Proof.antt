@@ -27,11 +27,9 @@ Inv-loop image q m lo c acc found₀ least₀ i₀ found least i = (i ≤ c) ×
 abbrev μ-loop : tie.MeasureT-loop
 μ-loop image q m lo c acc found₀ least₀ i₀ found least i = c - i
 
--- src/leaf.rt:145:9
 best-requires : tie.Need-best-requires Inv-loop μ-loop
 best-requires c κs = search needs
 
--- src/leaf.rt:146:9
 least-above-requires : tie.Need-least-above-requires Inv-loop μ-loop
 least-above-requires c κs =
     let start = c .before .before .before .before in (
@@ -42,33 +40,27 @@ least-above-requires c κs =
       ),
     )
 
--- src/leaf.rt:148:5
 loop-holds : tie.Need-loop-holds Inv-loop μ-loop
 loop-holds c =
     let start = c .before .before .before .before .before in
     (omega arith, (rw (c .before .best .ensures) (start .pre .0 .small), (c .least-above .ensures, rw (c .before .best .ensures) (scan-none _ _ _ _ _ _ _ (start .pre .0 .inside)))))
 
--- src/leaf.rt:149:43
 add-entry-at : tie.Need-add-entry-at Inv-loop μ-loop
 add-entry-at c = omega (arith, c .before .before .before .before .before .before .before .pre .0 .inside, few-entries _ _ _ _ _ _ _ (c .before .before .before .before .before .before .before .pre .0))
 
--- src/leaf.rt:149:13
 entry-at-requires : tie.Need-entry-at-requires Inv-loop μ-loop
 entry-at-requires c κs =
     let start = c .before .before .before .before .before .before .before in
     (start .pre .0 .asks .laid, (entries-ready _ _ _ _ _ _ _ (start .pre .0), omega (arith, start .pre .0 .inside)))
 
--- src/leaf.rt:150:12
 counts-requires : tie.Need-counts-requires Inv-loop μ-loop
 counts-requires c κs =
     let start = c .before .before .before .before .before .before .before .before in
     (entered _ _ _ _ _ _ _ (start .pre .0) _ (c .entry-at .ensures .1), has-labels _ _ _ _ _ _ _ (start .pre .0) (λ z. omega (arith, start .pre .1)))
 
--- src/leaf.rt:151:21
 add-found : tie.Need-add-found Inv-loop μ-loop
 add-found c = omega (arith, c .before .before .entry-at .ensures .1, few-entries _ _ _ _ _ _ _ (c .before .before .before .before .before .before .before .before .before .before .pre .0))
 
--- src/leaf.rt:152:13
 least-above-requires-2 : tie.Need-least-above-requires-2 Inv-loop μ-loop
 least-above-requires-2 c κs =
     let start = c .before .before .before .before .before .before .before .before .before .before in (
@@ -79,15 +71,12 @@ least-above-requires-2 c κs =
       ),
     )
 
--- src/leaf.rt:154:9
 add-i : tie.Need-add-i Inv-loop μ-loop
 add-i c = omega arith
 
--- src/leaf.rt:148:5
 loop-less : tie.Need-loop-less Inv-loop μ-loop
 loop-less c = omega arith
 
--- src/leaf.rt:148:5
 loop-again : tie.Need-loop-again Inv-loop μ-loop
 loop-again c =
     let start = c .before .before .before .before .before .before .before .before .before .before in
@@ -118,11 +107,9 @@ loop-again c =
       ),
     )) (c .if1 .came)
 
--- src/leaf.rt:156:5
 going-requires : tie.Need-going-requires Inv-loop μ-loop
 going-requires c κs = omega (arith, c .before .loop .inv .1 .0, few-entries _ _ _ _ _ _ _ (c .before .before .before .before .before .before .before .pre .0))
 
--- src/leaf.rt:140:1
 returns : tie.Need-returns Inv-loop μ-loop
 returns c =
     let start = c .before .before .before .before .before .before .before .before in

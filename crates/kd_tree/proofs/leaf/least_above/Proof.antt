@@ -10,33 +10,26 @@ use Rattle.kd_tree.proofs.leaf.least_above.Lts as lts
 use Rattle.kd_tree.proofs.query.label.Reads as label-reads
 use Rattle.words.proofs.pairs.get.Reads as get-reads
 
--- src/leaf.rt:131:9
 get-requires : tie.Need-get-requires
 get-requires c κs = omega (arith, query-long _ _ (c .before .before .pre .0))
 
--- src/leaf.rt:133:9
 returns : tie.Need-returns
 returns c = c .before .get .ensures ∙ least-first _ _ _ (c .if1 .taken)
 
--- src/leaf.rt:135:36
 sub-label : tie.Need-sub-label
 sub-label c = omega (arith, c .if1 .left)
 
--- src/leaf.rt:135:9
 label-requires : tie.Need-label-requires
 label-requires c κs =
     let start = c .before .before .before .before in
     (start .pre .0, (start .pre .1 .0, (start .pre .1 .1 .0, omega (arith, start .pre .1 .1 .1, c .if1 .left))))
 
--- src/leaf.rt:136:20
 add-result : tie.Need-add-result
 add-result c = omega (arith, c .before .label .ensures .1)
 
--- src/leaf.rt:126:1
 returns-2 : tie.Need-returns-2
 returns-2 c = least-next _ _ _ _ _ (c .before .before .if1 .left) (c .before .label .ensures .0) (omega (arith, c .if2 .taken, c .before .before .before .get .ensures))
 
--- src/leaf.rt:126:1
 returns-3 : tie.Need-returns-3
 returns-3 c = least-next _ _ _ _ _ (c .before .before .if1 .left) (c .before .label .ensures .0) (omega (arith, c .if2 .left, c .before .before .before .get .ensures))
 

@@ -11,45 +11,37 @@ use Rattle.divmask.proofs.pairs.within.Reads as within-reads
 use Rattle.kd_tree.proofs.query.num.Reads as num-reads
 use Rattle.words.proofs.pairs.get.Reads as get-reads
 
--- src/leaf.rt:20:14
 num-requires : tie.Need-num-requires
 num-requires c κs = omega (arith, tested-at (c .before .before .before .args .image .now) (c .before .before .before .args .q .now) _ _ _ (c .before .before .before .pre) .long)
 
--- src/leaf.rt:20:50
 num-requires-2 : tie.Need-num-requires-2
 num-requires-2 c κs =
     let start = c .before .before .before .before in
     omega (arith, tested-at (start .args .image .now) (start .args .q .now) _ _ _ (start .pre) .long)
 
--- src/leaf.rt:20:46
 mul-at : tie.Need-mul-at
 mul-at c =
     let start = c .before .before .before .before .before in
     rw (c .num2 .ensures .0) (omega (arith, tested-at (start .args .image .now) (start .args .q .now) _ _ _ (start .pre) .mask-small))
 
--- src/leaf.rt:20:14
 add-at : tie.Need-add-at
 add-at c =
     let start = c .before .before .before .before .before in
     rw (c .num2 .ensures .0) (omega (arith, tested-at (start .args .image .now) (start .args .q .now) _ _ _ (start .pre) .mask-small, c .before .num .ensures .0))
 
--- src/leaf.rt:21:28
 get-requires : tie.Need-get-requires
 get-requires c κs =
     let start = c .before .before .before .before .before in
     rw (c .num2 .ensures .0) (omega (arith, tested-at (start .args .image .now) (start .args .q .now) _ _ _ (start .pre) .mask-room, c .before .num .ensures .0))
 
--- src/leaf.rt:21:58
 get-requires-2 : tie.Need-get-requires-2
 get-requires-2 c κs =
     let start = c .before .before .before .before .before .before in
     omega (arith, tested-at (start .args .image .now) (start .args .q .now) _ _ _ (start .pre) .long)
 
--- src/leaf.rt:21:5
 within-requires : tie.Need-within-requires
 within-requires c κs = search needs
 
--- src/leaf.rt:16:1
 returns : tie.Need-returns
 returns c =
     let start = c .before .before .before .before .before .before .before .before in

@@ -26,37 +26,30 @@ Inv-loop image q m lo c acc from found₀ i₀ found i = (i ≤ c) × ((found �
 abbrev μ-loop : tie.MeasureT-loop
 μ-loop image q m lo c acc from found₀ i₀ found i = c - i
 
--- src/leaf.rt:109:9
 get-requires : tie.Need-get-requires Inv-loop μ-loop
 get-requires c κs = omega (arith, query-long _ _ (c .before .before .before .pre .0 .asks .laid))
 
--- src/leaf.rt:110:9
 best-requires : tie.Need-best-requires Inv-loop μ-loop
 best-requires c κs = search needs
 
--- src/leaf.rt:112:5
 loop-holds : tie.Need-loop-holds Inv-loop μ-loop
 loop-holds c =
     let start = c .before .before .before .before .before in
     (omega arith, (rw (c .best .ensures) (start .pre .0 .small), rw (c .best .ensures) (scan-none _ _ _ _ _ _ _ (start .pre .0 .inside))))
 
--- src/leaf.rt:113:43
 add-entry-at : tie.Need-add-entry-at Inv-loop μ-loop
 add-entry-at c = omega (arith, c .before .before .before .before .before .before .before .pre .0 .inside, few-entries _ _ _ _ _ _ _ (c .before .before .before .before .before .before .before .pre .0))
 
--- src/leaf.rt:113:13
 entry-at-requires : tie.Need-entry-at-requires Inv-loop μ-loop
 entry-at-requires c κs =
     let start = c .before .before .before .before .before .before .before in
     (start .pre .0 .asks .laid, (entries-ready _ _ _ _ _ _ _ (start .pre .0), omega (arith, start .pre .0 .inside)))
 
--- src/leaf.rt:114:12
 counts-requires : tie.Need-counts-requires Inv-loop μ-loop
 counts-requires c κs =
     let start = c .before .before .before .before .before .before .before .before in
     (entered _ _ _ _ _ _ _ (start .pre .0) _ (c .entry-at .ensures .1), has-labels _ _ _ _ _ _ _ (start .pre .0) (λ z. omega (arith, start .pre .1 .1)))
 
--- src/leaf.rt:115:16
 label-requires : tie.Need-label-requires Inv-loop μ-loop
 label-requires c κs =
     let start = c .before .before .before .before .before .before .before .before .before .before in (
@@ -67,25 +60,21 @@ label-requires c κs =
       ),
     )
 
--- src/leaf.rt:115:44
 get-requires-2 : tie.Need-get-requires-2 Inv-loop μ-loop
 get-requires-2 c κs = omega (arith, query-long _ _ (c .before .before .before .before .before .before .before .before .before .before .before .pre .0 .asks .laid))
 
--- src/leaf.rt:116:43
 add-stopped : tie.Need-add-stopped Inv-loop μ-loop
 add-stopped c =
     let start = c .before .before .before .before .before .before .before .before .before .before .before .before .before in
     let entry-at = c .before .before .before .before .before .entry-at in
     omega (arith, entry-at .ensures .1, few-entries _ _ _ _ _ _ _ (start .pre .0))
 
--- src/leaf.rt:116:17
 stopped-requires : tie.Need-stopped-requires Inv-loop μ-loop
 stopped-requires c κs =
     let start = c .before .before .before .before .before .before .before .before .before .before .before .before .before in
     let entry-at = c .before .before .before .before .before .entry-at in
     omega (arith, entry-at .ensures .1, few-entries _ _ _ _ _ _ _ (start .pre .0))
 
--- src/leaf.rt:116:17
 returns : tie.Need-returns Inv-loop μ-loop
 returns c =
     let start = c .before .before .before .before .before .before .before .before .before .before .before .before .before .before in
@@ -104,22 +93,18 @@ returns c =
       c .stopped .ensures .0,
     )
 
--- src/leaf.rt:118:21
 add-found : tie.Need-add-found Inv-loop μ-loop
 add-found c =
     let start = c .before .before .before .before .before .before .before .before .before .before .before .before .before in
     let entry-at = c .before .before .before .before .before .entry-at in
     omega (arith, entry-at .ensures .1, few-entries _ _ _ _ _ _ _ (start .pre .0))
 
--- src/leaf.rt:120:9
 add-i : tie.Need-add-i Inv-loop μ-loop
 add-i c = omega arith
 
--- src/leaf.rt:112:5
 loop-less : tie.Need-loop-less Inv-loop μ-loop
 loop-less c = omega arith
 
--- src/leaf.rt:112:5
 loop-again : tie.Need-loop-again Inv-loop μ-loop
 loop-again c =
     let start = c .before .before .before .before .before .before .before .before .before .before in
@@ -147,11 +132,9 @@ loop-again c =
       ),
     )) (c .if1 .came)
 
--- src/leaf.rt:122:5
 going-requires : tie.Need-going-requires Inv-loop μ-loop
 going-requires c κs = omega (arith, c .before .loop .inv .1 .0, few-entries _ _ _ _ _ _ _ (c .before .before .before .before .before .before .before .pre .0))
 
--- src/leaf.rt:104:1
 returns-2 : tie.Need-returns-2 Inv-loop μ-loop
 returns-2 c =
     let start = c .before .before .before .before .before .before .before .before in

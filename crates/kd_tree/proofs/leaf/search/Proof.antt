@@ -15,73 +15,57 @@ use Rattle.kd_tree.proofs.leaf.reducer.Reads as reducer-reads
 use Rattle.kd_tree.proofs.leaf.singular.Reads as singular-reads
 use Rattle.kd_tree.proofs.query.search_in.Reads as search-in-reads
 
--- src/leaf.rt:165:11
 search-in-requires : tie.Need-search-in-requires
 search-in-requires c κs = let start = (c .before .before .before) in
     (omega (arith, query-long _ _ (start .pre .0 .asks .laid)), five-searches _ _ _ _ _ _ _ (start .pre .0))
 
--- src/leaf.rt:166:30
 enum-told : tie.Need-enum-told
 enum-told c = search needs
 
--- src/leaf.rt:166:30
 contained-requires : tie.Need-contained-requires
 unfolding searchNumber
 contained-requires c κs = (c .before .before .before .before .before .before .pre .0, (c .before .before .before .before .before .before .pre .1, c .before .before .search-in .ensures ∙ ap searchNumber (c .enum-told .given .1)))
 
--- src/leaf.rt:167:28
 enum-told-2 : tie.Need-enum-told-2
 enum-told-2 c = search needs
 
--- src/leaf.rt:167:28
 reducer-requires : tie.Need-reducer-requires
 unfolding searchNumber
 reducer-requires c κs = (c .before .before .before .before .before .before .pre .0, (c .before .before .before .before .before .before .pre .1, c .before .before .search-in .ensures ∙ ap searchNumber (c .enum-told2 .given .1)))
 
--- src/leaf.rt:168:25
 enum-told-3 : tie.Need-enum-told-3
 enum-told-3 c = search needs
 
--- src/leaf.rt:168:25
 largest-requires : tie.Need-largest-requires
 unfolding searchNumber
 largest-requires c κs = let e = c .before .before .search-in .ensures ∙ ap searchNumber (c .enum-told3 .given .1) in (c .before .before .before .before .before .before .pre .0, (omega (arith, e), omega (arith, e)))
 
--- src/leaf.rt:169:24
 enum-told-4 : tie.Need-enum-told-4
 enum-told-4 c = search needs
 
--- src/leaf.rt:169:24
 largest-requires-2 : tie.Need-largest-requires-2
 unfolding searchNumber
 largest-requires-2 c κs = let e = c .before .before .search-in .ensures ∙ ap searchNumber (c .enum-told4 .given .1) in (c .before .before .before .before .before .before .pre .0, (omega (arith, e), omega (arith, e)))
 
--- src/leaf.rt:170:29
 enum-told-5 : tie.Need-enum-told-5
 enum-told-5 c = search needs
 
--- src/leaf.rt:170:29
 singular-requires : tie.Need-singular-requires
 unfolding searchNumber
 singular-requires c κs = (c .before .before .before .before .before .before .pre .0, (c .before .before .before .before .before .before .pre .1, c .before .before .search-in .ensures ∙ ap searchNumber (c .enum-told5 .given .1)))
 
--- src/leaf.rt:160:1
 returns : tie.Need-returns
 returns c = search needs
 
--- src/leaf.rt:160:1
 returns-2 : tie.Need-returns-2
 returns-2 c = search needs
 
--- src/leaf.rt:160:1
 returns-3 : tie.Need-returns-3
 returns-3 c = search needs
 
--- src/leaf.rt:160:1
 returns-4 : tie.Need-returns-4
 returns-4 c = search needs
 
--- src/leaf.rt:160:1
 returns-5 : tie.Need-returns-5
 returns-5 c = search needs
 

@@ -22,39 +22,31 @@ Inv-loop image q m lo c acc from i₀ i = (i ≤ c) × Scanning image m (shapeIn
 abbrev μ-loop : tie.MeasureT-loop
 μ-loop image q m lo c acc from i₀ i = c - i
 
--- src/leaf.rt:91:9
 get-requires : tie.Need-get-requires Inv-loop μ-loop
 get-requires c κs = omega (arith, query-long _ _ (c .before .before .before .pre .0 .asks .laid))
 
--- src/leaf.rt:93:5
 loop-holds : tie.Need-loop-holds Inv-loop μ-loop
 loop-holds c = (omega arith, scan-none _ _ _ _ _ _ _ (c .before .before .before .before .pre .0 .inside))
 
--- src/leaf.rt:94:43
 add-entry-at : tie.Need-add-entry-at Inv-loop μ-loop
 add-entry-at c = omega (arith, c .before .before .before .before .before .before .pre .0 .inside, few-entries _ _ _ _ _ _ _ (c .before .before .before .before .before .before .pre .0))
 
--- src/leaf.rt:94:13
 entry-at-requires : tie.Need-entry-at-requires Inv-loop μ-loop
 entry-at-requires c κs =
     let start = c .before .before .before .before .before .before in
     (start .pre .0 .asks .laid, (entries-ready _ _ _ _ _ _ _ (start .pre .0), omega (arith, start .pre .0 .inside)))
 
--- src/leaf.rt:95:12
 counts-requires : tie.Need-counts-requires Inv-loop μ-loop
 counts-requires c κs =
     let start = c .before .before .before .before .before .before .before in
     (entered _ _ _ _ _ _ _ (start .pre .0) _ (c .entry-at .ensures .1), has-labels _ _ _ _ _ _ _ (start .pre .0) (λ z. omega (arith, start .pre .1 .1)))
 
--- src/leaf.rt:96:39
 add-stopped : tie.Need-add-stopped Inv-loop μ-loop
 add-stopped c = omega (arith, c .before .before .entry-at .ensures .1, few-entries _ _ _ _ _ _ _ (c .before .before .before .before .before .before .before .before .before .pre .0))
 
--- src/leaf.rt:96:13
 stopped-requires : tie.Need-stopped-requires Inv-loop μ-loop
 stopped-requires c κs = omega (arith, c .before .before .entry-at .ensures .1, few-entries _ _ _ _ _ _ _ (c .before .before .before .before .before .before .before .before .before .pre .0))
 
--- src/leaf.rt:96:13
 returns : tie.Need-returns Inv-loop μ-loop
 returns c =
     let start = c .before .before .before .before .before .before .before .before .before .before in
@@ -69,15 +61,12 @@ returns c =
       c .stopped .ensures .0,
     )
 
--- src/leaf.rt:98:9
 add-i : tie.Need-add-i Inv-loop μ-loop
 add-i c = omega arith
 
--- src/leaf.rt:93:5
 loop-less : tie.Need-loop-less Inv-loop μ-loop
 loop-less c = omega arith
 
--- src/leaf.rt:93:5
 loop-again : tie.Need-loop-again Inv-loop μ-loop
 loop-again c =
     let start = c .before .before .before .before .before .before .before .before .before in
@@ -91,7 +80,6 @@ loop-again c =
           (rw (get .ensures) at (c .before .counts .ensures)) (c .if1 .left)),
     )
 
--- src/leaf.rt:86:1
 returns-2 : tie.Need-returns-2 Inv-loop μ-loop
 returns-2 c =
     let start = c .before .before .before .before .before .before in

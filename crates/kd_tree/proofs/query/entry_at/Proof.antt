@@ -10,23 +10,19 @@ use Rattle.kd_tree.proofs.query.entry_at.Reads as reads
 use Rattle.kd_tree.proofs.query.entry_at.Lts as lts
 use Rattle.kd_tree.proofs.query.num.Reads as num-reads
 
--- src/query.rt:71:16
 num-requires : tie.Need-num-requires
 num-requires c κs = omega (arith, query-long _ _ (c .before .before .pre .0))
 
--- src/query.rt:71:16
 add-num : tie.Need-add-num
 add-num c =
     let start = c .before .before .before in
     omega (arith, place-room (start .args .image .now) _ (start .pre .1 .0) (start .args .p) (omega (arith, start .pre .1 .1)), c .num .ensures .0, start .pre .0 .permutation)
 
--- src/query.rt:71:5
 num-requires-2 : tie.Need-num-requires-2
 num-requires-2 c κs =
     let start = c .before .before .before in
     omega (arith, place-room (start .args .image .now) _ (start .pre .1 .0) ((start .args .p) + 1) (omega (arith, start .pre .1 .1)), c .num .ensures .0, start .pre .0 .permutation)
 
--- src/query.rt:65:1
 returns : tie.Need-returns
 returns c =
     let start = c .before .before .before .before in (

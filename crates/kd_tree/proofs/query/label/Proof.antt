@@ -8,15 +8,12 @@ use Rattle.kd_tree.proofs.query.label.Reads as reads
 use Rattle.kd_tree.proofs.query.label.Lts as lts
 use Rattle.kd_tree.proofs.query.num.Reads as num-reads
 
--- src/query.rt:81:26
 num-requires : tie.Need-num-requires
 num-requires c κs = omega (arith, query-long _ _ (c .before .before .pre .0))
 
--- src/query.rt:81:44
 num-requires-2 : tie.Need-num-requires-2
 num-requires-2 c κs = omega (arith, query-long _ _ (c .before .before .before .pre .0))
 
--- src/query.rt:81:40
 mul-num : tie.Need-mul-num
 mul-num c =
     let start = c .before .before .before .before in
@@ -28,7 +25,6 @@ mul-num c =
           (start .pre .1 .1 .0) (start .pre .1 .1 .1) .small,
     ))
 
--- src/query.rt:81:26
 add-num : tie.Need-add-num
 add-num c =
     let start = c .before .before .before .before in
@@ -41,7 +37,6 @@ add-num c =
       c .before .num .ensures .0,
     ))
 
--- src/query.rt:81:9
 num-requires-3 : tie.Need-num-requires-3
 num-requires-3 c κs =
     let start = c .before .before .before .before in
@@ -54,15 +49,12 @@ num-requires-3 c κs =
       c .before .num .ensures .0,
     ))
 
--- src/query.rt:82:16
 num-requires-4 : tie.Need-num-requires-4
 num-requires-4 c κs = omega (arith, query-long _ _ (c .before .before .before .before .before .pre .0))
 
--- src/query.rt:82:38
 num-requires-5 : tie.Need-num-requires-5
 num-requires-5 c κs = omega (arith, query-long _ _ (c .before .before .before .before .before .before .pre .0))
 
--- src/query.rt:82:32
 mul-num-2 : tie.Need-mul-num-2
 mul-num-2 c =
     let start = c .before .before .before .before .before .before .before in
@@ -75,7 +67,6 @@ mul-num-2 c =
           (start .pre .1 .1 .0) (start .pre .1 .1 .1) (num3 .result) (num3 .ensures .0 ∙ rw (num .ensures .0, num2 .ensures .0) refl) .small,
     ))
 
--- src/query.rt:82:16
 add-num-2 : tie.Need-add-num-2
 add-num-2 c =
     let start = c .before .before .before .before .before .before .before in
@@ -89,7 +80,6 @@ add-num-2 c =
       c .before .num4 .ensures .0,
     ))
 
--- src/query.rt:82:5
 num-requires-6 : tie.Need-num-requires-6
 num-requires-6 c κs =
     let start = c .before .before .before .before .before .before .before in
@@ -103,7 +93,6 @@ num-requires-6 c κs =
       c .before .num4 .ensures .0,
     ))
 
--- src/query.rt:75:1
 returns : tie.Need-returns
 returns c =
     let start = c .before .before .before .before .before .before .before .before in

@@ -7,21 +7,17 @@ use Rattle.kd_tree.proofs.query.node_at.Reads as reads
 use Rattle.kd_tree.proofs.query.node_at.Lts as lts
 use Rattle.kd_tree.proofs.query.num.Reads as num-reads
 
--- src/query.rt:61:5
 num-requires : tie.Need-num-requires
 num-requires c κs = omega (arith, query-long _ _ (c .before .pre .0))
 
--- src/query.rt:61:24
 num-requires-2 : tie.Need-num-requires-2
 num-requires-2 c κs = omega (arith, query-long _ _ (c .before .before .pre .0))
 
--- src/query.rt:61:20
 mul-result : tie.Need-mul-result
 mul-result c =
     let start = c .before .before .before in
     rw (c .num2 .ensures .0) (omega (arith, node-word _ _ (start .pre .0) (start .args .k) (start .pre .1) .is, node-word _ _ (start .pre .0) (start .args .k) (start .pre .1) .small))
 
--- src/query.rt:61:5
 add-result : tie.Need-add-result
 add-result c =
     let start = c .before .before .before in
@@ -32,7 +28,6 @@ add-result c =
       c .before .num .ensures .0,
     ))
 
--- src/query.rt:56:1
 returns : tie.Need-returns
 returns c =
     let start = c .before .before .before in

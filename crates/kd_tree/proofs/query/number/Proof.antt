@@ -5,47 +5,37 @@ use Rattle.kd_tree.proofs.query.number.Tie as tie
 use Rattle.kd_tree.proofs.query.number.Reads as reads
 use Rattle.kd_tree.proofs.query.number.Lts as lts
 
--- src/query.rt:35:30
 enum-told : tie.Need-enum-told
 enum-told c = search needs
 
--- src/query.rt:36:28
 enum-told-2 : tie.Need-enum-told-2
 enum-told-2 c = search needs
 
--- src/query.rt:37:25
 enum-told-3 : tie.Need-enum-told-3
 enum-told-3 c = search needs
 
--- src/query.rt:38:24
 enum-told-4 : tie.Need-enum-told-4
 enum-told-4 c = search needs
 
--- src/query.rt:39:29
 enum-told-5 : tie.Need-enum-told-5
 enum-told-5 c = search needs
 
--- src/query.rt:31:1
 returns : tie.Need-returns
 unfolding searchNumber
 returns c = search needs
 
--- src/query.rt:31:1
 returns-2 : tie.Need-returns-2
 unfolding searchNumber
 returns-2 c = search needs
 
--- src/query.rt:31:1
 returns-3 : tie.Need-returns-3
 unfolding searchNumber
 returns-3 c = search needs
 
--- src/query.rt:31:1
 returns-4 : tie.Need-returns-4
 unfolding searchNumber
 returns-4 c = search needs
 
--- src/query.rt:31:1
 returns-5 : tie.Need-returns-5
 unfolding searchNumber
 returns-5 c = search needs

@@ -8,31 +8,25 @@ use Rattle.kd_tree.proofs.query.search_in.Reads as reads
 use Rattle.kd_tree.proofs.query.search_in.Lts as lts
 use Rattle.kd_tree.proofs.query.num.Reads as num-reads
 
--- src/query.rt:89:9
 num-requires : tie.Need-num-requires
 num-requires c κs = search needs
 
--- src/query.rt:91:9
 returns : tie.Need-returns
 unfolding searchNumber
 returns c = sym (c .before .num .ensures .0) ∙ c .if1 .taken
 
--- src/query.rt:94:9
 returns-2 : tie.Need-returns-2
 unfolding searchNumber
 returns-2 c = sym (c .before .before .num .ensures .0) ∙ c .if2 .taken
 
--- src/query.rt:97:9
 returns-3 : tie.Need-returns-3
 unfolding searchNumber
 returns-3 c = sym (c .before .before .before .num .ensures .0) ∙ c .if3 .taken
 
--- src/query.rt:100:9
 returns-4 : tie.Need-returns-4
 unfolding searchNumber
 returns-4 c = sym (c .before .before .before .before .num .ensures .0) ∙ c .if4 .taken
 
--- src/query.rt:84:1
 returns-5 : tie.Need-returns-5
 unfolding searchNumber
 returns-5 c = omega (arith, c .before .before .before .before .num .ensures .0, c .before .before .before .if1 .left, c .before .before .if2 .left, c .before .if3 .left, c .if4 .left, c .before .before .before .before .before .before .pre .1)

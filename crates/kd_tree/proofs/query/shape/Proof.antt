@@ -7,27 +7,21 @@ use Rattle.kd_tree.proofs.query.shape.Reads as reads
 use Rattle.kd_tree.proofs.query.shape.Lts as lts
 use Rattle.kd_tree.proofs.query.num.Reads as num-reads
 
--- src/query.rt:47:15
 num-requires : tie.Need-num-requires
 num-requires c κs = search needs
 
--- src/query.rt:48:20
 num-requires-2 : tie.Need-num-requires-2
 num-requires-2 c κs = search needs
 
--- src/query.rt:49:19
 num-requires-3 : tie.Need-num-requires-3
 num-requires-3 c κs = search needs
 
--- src/query.rt:50:18
 num-requires-4 : tie.Need-num-requires-4
 num-requires-4 c κs = search needs
 
--- src/query.rt:51:16
 num-requires-5 : tie.Need-num-requires-5
 num-requires-5 c κs = search needs
 
--- src/query.rt:42:1
 returns : tie.Need-returns
 returns c =
     let num = c .before .before .before .before .num in

@@ -6,7 +6,6 @@ use Rattle.kd_tree.proofs.step.best.Tie as tie
 use Rattle.kd_tree.proofs.step.best.Reads as reads
 use Rattle.kd_tree.proofs.step.best.Lts as lts
 
--- src/step.rt:14:1
 returns : tie.Need-returns
 unfolding bestOf
 returns c = omega arith

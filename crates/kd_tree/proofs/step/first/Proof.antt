@@ -5,15 +5,12 @@ use Rattle.kd_tree.proofs.step.first.Tie as tie
 use Rattle.kd_tree.proofs.step.first.Reads as reads
 use Rattle.kd_tree.proofs.step.first.Lts as lts
 
--- src/step.rt:31:5
 mul-result : tie.Need-mul-result
 mul-result c = search needs
 
--- src/step.rt:31:5
 add-result : tie.Need-add-result
 add-result c = search needs
 
--- src/step.rt:27:1
 returns : tie.Need-returns
 returns c = packed-first _
 

@@ -7,7 +7,6 @@ use Rattle.kd_tree.proofs.step.goes_on.Tie as tie
 use Rattle.kd_tree.proofs.step.goes_on.Reads as reads
 use Rattle.kd_tree.proofs.step.goes_on.Lts as lts
 
--- src/step.rt:20:1
 returns : tie.Need-returns
 returns c = on-is _
 

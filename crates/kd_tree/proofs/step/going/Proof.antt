@@ -8,23 +8,18 @@ use Rattle.kd_tree.proofs.step.going.Tie as tie
 use Rattle.kd_tree.proofs.step.going.Reads as reads
 use Rattle.kd_tree.proofs.step.going.Lts as lts
 
--- src/step.rt:39:5
 mul-result : tie.Need-mul-result
 mul-result c = search needs
 
--- src/step.rt:39:30
 mul-result-2 : tie.Need-mul-result-2
 mul-result-2 c = search needs
 
--- src/step.rt:39:30
 add-result : tie.Need-add-result
 add-result c = search needs
 
--- src/step.rt:39:5
 add-result-2 : tie.Need-add-result-2
 add-result-2 c = search needs
 
--- src/step.rt:35:1
 returns : tie.Need-returns
 returns c = packed-going _ _ (c .pre)
 

@@ -6,7 +6,6 @@ use Rattle.kd_tree.proofs.step.rows.Tie as tie
 use Rattle.kd_tree.proofs.step.rows.Reads as reads
 use Rattle.kd_tree.proofs.step.rows.Lts as lts
 
--- src/step.rt:8:1
 returns : tie.Need-returns
 unfolding rowsOf
 returns c = omega arith

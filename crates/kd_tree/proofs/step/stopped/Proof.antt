@@ -8,19 +8,15 @@ use Rattle.kd_tree.proofs.step.stopped.Tie as tie
 use Rattle.kd_tree.proofs.step.stopped.Reads as reads
 use Rattle.kd_tree.proofs.step.stopped.Lts as lts
 
--- src/step.rt:47:5
 mul-result : tie.Need-mul-result
 mul-result c = search needs
 
--- src/step.rt:47:29
 mul-result-2 : tie.Need-mul-result-2
 mul-result-2 c = search needs
 
--- src/step.rt:47:5
 add-result : tie.Need-add-result
 add-result c = search needs
 
--- src/step.rt:43:1
 returns : tie.Need-returns
 returns c = packed-stopped _ _ (c .pre)
 

@@ -5,17 +5,14 @@ use Rattle.monomial.proofs.monomial_ordering.cmp.Tie as tie
 use Rattle.monomial.proofs.monomial_ordering.cmp.Reads as reads
 use Rattle.monomial.proofs.monomial_ordering.cmp.Lts as lts
 
--- src/monomial_ordering.rt:19:9
 returns : tie.Need-returns
 unfolding compare
 returns c = simp (lt-ltb _ _ (c .if1 .taken))
 
--- src/monomial_ordering.rt:22:9
 returns-2 : tie.Need-returns-2
 unfolding compare
 returns-2 c = simp (le-ltb _ _ (c .before .if1 .left), lt-ltb _ _ (c .if2 .taken))
 
--- src/monomial_ordering.rt:15:1
 returns-3 : tie.Need-returns-3
 unfolding compare
 returns-3 c = simp (le-ltb _ _ (c .before .if1 .left), le-ltb _ _ (c .if2 .left))

@@ -12,23 +12,18 @@ use Rattle.monomial.proofs.monomial_ordering.cmp.Reads as cmp-reads
 use Rattle.words.proofs.power.Reads as power-reads
 use Rattle.words.proofs.upper_half.Reads as upper-half-reads
 
--- src/monomial_ordering.rt:60:9
 upper-half-requires : tie.Need-upper-half-requires
 upper-half-requires c κs = search needs
 
--- src/monomial_ordering.rt:61:9
 upper-half-requires-2 : tie.Need-upper-half-requires-2
 upper-half-requires-2 c κs = search needs
 
--- src/monomial_ordering.rt:63:28
 power-requires : tie.Need-power-requires
 power-requires c κs = search needs
 
--- src/monomial_ordering.rt:63:9
 cmp-requires : tie.Need-cmp-requires
 cmp-requires c κs = search needs
 
--- src/monomial_ordering.rt:63:9
 returns : tie.Need-returns
 unfolding differing
 returns c =
@@ -37,15 +32,12 @@ returns c =
     rw (lt-ltb (upperHalf (start .args .x)) (upperHalf (start .args .y)) (omega (arith, upper-half .ensures, c .before .before .before .upper-half2 .ensures)))
     (c .cmp .ensures ∙ rw (c .before .power .ensures))
 
--- src/monomial_ordering.rt:66:20
 power-requires-2 : tie.Need-power-requires-2
 power-requires-2 c κs = search needs
 
--- src/monomial_ordering.rt:66:9
 cmp-requires-2 : tie.Need-cmp-requires-2
 cmp-requires-2 c κs = search needs
 
--- src/monomial_ordering.rt:66:9
 returns-2 : tie.Need-returns-2
 unfolding differing
 returns-2 c =
@@ -58,19 +50,15 @@ returns-2 c =
     )
     (c .cmp2 .ensures ∙ rw (c .before .power2 .ensures))
 
--- src/monomial_ordering.rt:68:9
 power-requires-3 : tie.Need-power-requires-3
 power-requires-3 c κs = search needs
 
--- src/monomial_ordering.rt:68:26
 power-requires-4 : tie.Need-power-requires-4
 power-requires-4 c κs = search needs
 
--- src/monomial_ordering.rt:68:5
 cmp-requires-3 : tie.Need-cmp-requires-3
 cmp-requires-3 c κs = search needs
 
--- src/monomial_ordering.rt:57:1
 returns-3 : tie.Need-returns-3
 unfolding differing
 returns-3 c =

@@ -22,47 +22,38 @@ Inv-loop a i b j kind absent m₀ n₀ m n = Matching kind (first kind (words a)
 abbrev μ-loop : tie.MeasureT-loop
 μ-loop a i b j kind absent m₀ n₀ m n = m
 
--- src/monomial_ordering.rt:74:27
 sub-absent : tie.Need-sub-absent Inv-loop μ-loop
 sub-absent c = search needs
 
--- src/monomial_ordering.rt:74:18
 mul-absent : tie.Need-mul-absent Inv-loop μ-loop
 mul-absent c = search needs
 
--- src/monomial_ordering.rt:77:5
 loop-holds : tie.Need-loop-holds Inv-loop μ-loop
 loop-holds c =
     let start = c .before .before in
     match-begin (start .pre .0 .0) (begins (start .pre .0 .0) (start .pre .1 .0)) (begins (start .pre .0 .0) (start .pre .1 .1 .0)) (start .pre .1 .1 .1 .0)
     (start .pre .1 .1 .1 .1)
 
--- src/monomial_ordering.rt:80:17
 returns : tie.Need-returns Inv-loop μ-loop
 returns c =
     let start = c .before .before .before .before .before in
     all-equal (start .pre .0 .0) (begins (start .pre .0 .0) (start .pre .1 .0)) (begins (start .pre .0 .0) (start .pre .1 .1 .0)) (c .before .before .loop .inv)
     (c .before .if1 .taken) (c .if2 .taken)
 
--- src/monomial_ordering.rt:82:51
 sub-get : tie.Need-sub-get Inv-loop μ-loop
 sub-get c = search needs
 
--- src/monomial_ordering.rt:82:37
 get-requires : tie.Need-get-requires Inv-loop μ-loop
 get-requires c κs =
     let start = c .before .before .before .before .before in
     omega (arith, c .before .before .loop .inv .jb, first-bytes (start .args .kind) (start .args .b .now))
 
--- src/monomial_ordering.rt:82:24
 power-requires : tie.Need-power-requires Inv-loop μ-loop
 power-requires c κs = search needs
 
--- src/monomial_ordering.rt:82:13
 cmp-requires : tie.Need-cmp-requires Inv-loop μ-loop
 cmp-requires c κs = search needs
 
--- src/monomial_ordering.rt:82:13
 returns-2 : tie.Need-returns-2 Inv-loop μ-loop
 returns-2 c =
     let if1 = c .before .before .before .before .if1 in
@@ -72,25 +63,20 @@ returns-2 c =
     (begins (start .pre .0 .0) (start .pre .1 .1 .0)) (loop .inv) (if1 .taken) (omega arith)
     (read (start .args .kind) _ ((loop .n) - 1) (omega (arith, loop .inv .jb)) (c .before .before .get .ensures)))
 
--- src/monomial_ordering.rt:84:31
 sub-get-2 : tie.Need-sub-get-2 Inv-loop μ-loop
 sub-get-2 c = search needs
 
--- src/monomial_ordering.rt:84:13
 get-requires-2 : tie.Need-get-requires-2 Inv-loop μ-loop
 get-requires-2 c κs =
     let start = c .before .before .before .before in
     omega (arith, c .before .loop .inv .ia, first-bytes (start .args .kind) (start .args .a .now))
 
--- src/monomial_ordering.rt:86:32
 power-requires-2 : tie.Need-power-requires-2 Inv-loop μ-loop
 power-requires-2 c κs = search needs
 
--- src/monomial_ordering.rt:86:13
 cmp-requires-2 : tie.Need-cmp-requires-2 Inv-loop μ-loop
 cmp-requires-2 c κs = search needs
 
--- src/monomial_ordering.rt:86:13
 returns-3 : tie.Need-returns-3 Inv-loop μ-loop
 returns-3 c =
     let loop = c .before .before .before .before .before .loop in
@@ -99,21 +85,17 @@ returns-3 c =
     (begins (start .pre .0 .0) (start .pre .1 .1 .0)) (loop .inv) (c .before .before .if3 .taken) (omega arith)
     (read (start .args .kind) _ ((loop .m) - 1) (omega (arith, loop .inv .ia)) (c .before .before .before .get2 .ensures)))
 
--- src/monomial_ordering.rt:88:31
 sub-get-3 : tie.Need-sub-get-3 Inv-loop μ-loop
 sub-get-3 c = search needs
 
--- src/monomial_ordering.rt:88:13
 get-requires-3 : tie.Need-get-requires-3 Inv-loop μ-loop
 get-requires-3 c κs =
     let start = c .before .before .before .before .before .before in
     omega (arith, c .before .before .before .loop .inv .jb, first-bytes (start .args .kind) (start .args .b .now))
 
--- src/monomial_ordering.rt:90:13
 differ-requires : tie.Need-differ-requires Inv-loop μ-loop
 differ-requires c κs = search needs
 
--- src/monomial_ordering.rt:90:13
 returns-4 : tie.Need-returns-4 Inv-loop μ-loop
 returns-4 c =
     let get2 = c .before .before .before .before .get2 in
@@ -123,19 +105,15 @@ returns-4 c =
     (omega arith) (omega arith) (read (start .args .kind) _ ((loop .m) - 1) (omega (arith, loop .inv .ia)) (get2 .ensures))
     (read (start .args .kind) _ ((loop .n) - 1) (omega (arith, loop .inv .jb)) (c .before .before .get3 .ensures)) (c .before .if4 .taken)
 
--- src/monomial_ordering.rt:92:9
 sub-m : tie.Need-sub-m Inv-loop μ-loop
 sub-m c = search needs
 
--- src/monomial_ordering.rt:93:9
 sub-n : tie.Need-sub-n Inv-loop μ-loop
 sub-n c = search needs
 
--- src/monomial_ordering.rt:77:5
 loop-less : tie.Need-loop-less Inv-loop μ-loop
 loop-less c = omega arith
 
--- src/monomial_ordering.rt:77:5
 loop-again : tie.Need-loop-again Inv-loop μ-loop
 loop-again c =
     let loop = c .before .before .before .before .before .loop in

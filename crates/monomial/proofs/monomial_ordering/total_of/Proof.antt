@@ -22,27 +22,21 @@ Inv-loop s kind absent sum₀ i₀ sum i = Totalling kind (first kind (words s))
 abbrev μ-loop : tie.MeasureT-loop
 μ-loop s kind absent sum₀ i₀ sum i = length (first kind (words s)) - i
 
--- src/monomial_ordering.rt:40:27
 sub-absent : tie.Need-sub-absent Inv-loop μ-loop
 sub-absent c = search needs
 
--- src/monomial_ordering.rt:40:18
 mul-absent : tie.Need-mul-absent Inv-loop μ-loop
 mul-absent c = search needs
 
--- src/monomial_ordering.rt:43:5
 loop-holds : tie.Need-loop-holds Inv-loop μ-loop
 loop-holds c = total-begin (begins (c .before .pre .0 .0) (c .before .pre .1))
 
--- src/monomial_ordering.rt:44:13
 get-requires : tie.Need-get-requires Inv-loop μ-loop
 get-requires c κs = omega (arith, within (c .loop .inv .ra), first-bytes (c .before .before .args .kind) (c .before .before .args .s .now))
 
--- src/monomial_ordering.rt:45:12
 is-end-requires : tie.Need-is-end-requires Inv-loop μ-loop
 is-end-requires c κs = search needs
 
--- src/monomial_ordering.rt:47:36
 cast-t9 : tie.Need-cast-t9 Inv-loop μ-loop
 cast-t9 c =
     let loop = c .before .before .before .loop in
@@ -53,7 +47,6 @@ cast-t9 c =
           (first-canonical (start .pre .0 .0) (start .pre .1)) (is-end-true _ (c .before .is-end .ensures) (c .if1 .taken)) .few,
     )
 
--- src/monomial_ordering.rt:47:29
 sub-t10 : tie.Need-sub-t10 Inv-loop μ-loop
 sub-t10 c =
     let loop = c .before .before .before .loop in
@@ -64,7 +57,6 @@ sub-t10 c =
           (first-canonical (start .pre .0 .0) (start .pre .1)) (is-end-true _ (c .before .is-end .ensures) (c .if1 .taken)) .few,
     )
 
--- src/monomial_ordering.rt:47:28
 mul-t11 : tie.Need-mul-t11 Inv-loop μ-loop
 mul-t11 c =
     let loop = c .before .before .before .loop in
@@ -75,7 +67,6 @@ mul-t11 c =
           (first-canonical (start .pre .0 .0) (start .pre .1)) (is-end-true _ (c .before .is-end .ensures) (c .if1 .taken)) .fits,
     )
 
--- src/monomial_ordering.rt:47:22
 add-t12 : tie.Need-add-t12 Inv-loop μ-loop
 add-t12 c =
     let loop = c .before .before .before .loop in
@@ -86,7 +77,6 @@ add-t12 c =
           (first-canonical (start .pre .0 .0) (start .pre .1)) (is-end-true _ (c .before .is-end .ensures) (c .if1 .taken)) .fits,
     )
 
--- src/monomial_ordering.rt:46:13
 returns : tie.Need-returns Inv-loop μ-loop
 returns c =
     let loop = c .before .before .before .loop in
@@ -95,11 +85,9 @@ returns c =
     (first-canonical (start .pre .0 .0) (start .pre .1)) (is-end-true _ (c .before .is-end .ensures) (c .if1 .taken)) in
     record { sum = t .is; variables = t .last }
 
--- src/monomial_ordering.rt:51:16
 power-requires : tie.Need-power-requires Inv-loop μ-loop
 power-requires c κs = search needs
 
--- src/monomial_ordering.rt:51:9
 add-sum : tie.Need-add-sum Inv-loop μ-loop
 add-sum c =
     let loop = c .before .before .before .before .loop in
@@ -111,18 +99,15 @@ add-sum c =
           (seen _ (loop .inv .ra) (c .before .before .before .get .ensures)) (is-end-false _ (c .before .before .is-end .ensures) (c .before .if1 .left)) .small,
     )
 
--- src/monomial_ordering.rt:52:9
 add-i : tie.Need-add-i Inv-loop μ-loop
 add-i c =
     let loop = c .before .before .before .before .loop in
     let start = c .before .before .before .before .before .before in
     omega (arith, within (loop .inv .ra), first-bytes (start .args .kind) (start .args .s .now))
 
--- src/monomial_ordering.rt:43:5
 loop-less : tie.Need-loop-less Inv-loop μ-loop
 loop-less c = omega (arith, within (c .before .before .before .before .loop .inv .ra))
 
--- src/monomial_ordering.rt:43:5
 loop-again : tie.Need-loop-again Inv-loop μ-loop
 loop-again c =
     let loop = c .before .before .before .before .loop in

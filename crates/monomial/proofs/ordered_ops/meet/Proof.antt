@@ -5,59 +5,45 @@ use Rattle.monomial.proofs.ordered_ops.meet.Tie as tie
 use Rattle.monomial.proofs.ordered_ops.meet.Reads as reads
 use Rattle.monomial.proofs.ordered_ops.meet.Lts as lts
 
--- src/ordered_ops.rt:39:16
 enum-told : tie.Need-enum-told
 enum-told c = search needs
 
--- src/ordered_ops.rt:45:24
 enum-told-2 : tie.Need-enum-told-2
 enum-told-2 c = search needs
 
--- src/ordered_ops.rt:45:24
 add-result : tie.Need-add-result
 add-result c = search needs
 
--- src/ordered_ops.rt:47:16
 enum-told-3 : tie.Need-enum-told-3
 enum-told-3 c = search needs
 
--- src/ordered_ops.rt:48:17
 sub-result : tie.Need-sub-result
 sub-result c = search needs
 
--- src/ordered_ops.rt:53:22
 enum-told-4 : tie.Need-enum-told-4
 enum-told-4 c = search needs
 
--- src/ordered_ops.rt:53:22
 add-result-2 : tie.Need-add-result-2
 add-result-2 c = search needs
 
--- src/ordered_ops.rt:53:22
 sub-result-2 : tie.Need-sub-result-2
 sub-result-2 c = search needs
 
--- src/ordered_ops.rt:33:1
 returns : tie.Need-returns
 returns c = rw (c .before .enum-told .given .1) (omega arith)
 
--- src/ordered_ops.rt:33:1
 returns-2 : tie.Need-returns-2
 returns-2 c = rw (c .before .enum-told .given .1) (omega arith)
 
--- src/ordered_ops.rt:33:1
 returns-3 : tie.Need-returns-3
 returns-3 c = rw (c .enum-told2 .given .1)
 
--- src/ordered_ops.rt:33:1
 returns-4 : tie.Need-returns-4
 returns-4 c = rw (c .before .enum-told3 .given .1)
 
--- src/ordered_ops.rt:33:1
 returns-5 : tie.Need-returns-5
 returns-5 c = rw (c .before .enum-told3 .given .1) (omega arith)
 
--- src/ordered_ops.rt:33:1
 returns-6 : tie.Need-returns-6
 returns-6 c = rw (c .enum-told4 .given .1)
 

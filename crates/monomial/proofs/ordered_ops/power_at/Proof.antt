@@ -9,20 +9,16 @@ use Rattle.monomial.proofs.ordered_ops.power_at.Lts as lts
 use Rattle.words.proofs.power.Reads as power-reads
 use Rattle.words.proofs.upper_half.Reads as upper-half-reads
 
--- src/ordered_ops.rt:58:8
 upper-half-requires : tie.Need-upper-half-requires
 upper-half-requires c κs = search needs
 
--- src/ordered_ops.rt:58:36
 power-requires : tie.Need-power-requires
 power-requires c κs = search needs
 
--- src/ordered_ops.rt:55:1
 returns : tie.Need-returns
 unfolding powerAt
 returns c = simp (eq-eqb _ _ (sym (c .before .before .upper-half .ensures) ∙ c .before .if1 .taken), c .power .ensures)
 
--- src/ordered_ops.rt:55:1
 returns-2 : tie.Need-returns-2
 unfolding powerAt
 returns-2 c = simp (ne-eqb _ _ (λ q. (c .if1 .left) (c .before .upper-half .ensures ∙ q)))

@@ -9,42 +9,33 @@ use Rattle.monomial.proofs.ordered_ops.push.Lts as lts
 use Rattle.words.proofs.put.Reads as put-reads
 use Rattle.words.proofs.var_word.Reads as var-word-reads
 
--- src/ordered_ops.rt:76:24
 var-word-requires : tie.Need-var-word-requires
 var-word-requires c κs = search needs
 
--- src/ordered_ops.rt:76:5
 put-requires : tie.Need-put-requires
 put-requires c κs = search needs
 
--- src/ordered_ops.rt:77:22
 sub-if1 : tie.Need-sub-if1
 sub-if1 c = search needs
 
--- src/ordered_ops.rt:77:13
 mul-if1 : tie.Need-mul-if1
 mul-if1 c = search needs
 
--- src/ordered_ops.rt:77:45
 add-result : tie.Need-add-result
 add-result c = search needs
 
--- src/ordered_ops.rt:71:1
 same-length : tie.Need-same-length
 same-length c = search needs
 
--- src/ordered_ops.rt:71:1
 returns : tie.Need-returns
 returns c =
     let var-word = c .before .before .before .before .var-word in
     let start = c .before .before .before .before .before .before .before in
     (rw (eq-eqb (start .args .p) (32768 * ((start .args .kind) - 1)) (c .if1 .taken)), c .before .before .before .put .ensures ∙ rw (var-word .ensures))
 
--- src/ordered_ops.rt:71:1
 same-length-2 : tie.Need-same-length-2
 same-length-2 c = search needs
 
--- src/ordered_ops.rt:71:1
 returns-2 : tie.Need-returns-2
 returns-2 c =
     let var-word = c .before .before .before .before .var-word in

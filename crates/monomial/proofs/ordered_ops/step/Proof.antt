@@ -8,20 +8,16 @@ use Rattle.monomial.proofs.ordered_ops.step.Reads as reads
 use Rattle.monomial.proofs.ordered_ops.step.Lts as lts
 use Rattle.words.proofs.upper_half.Reads as upper-half-reads
 
--- src/ordered_ops.rt:66:8
 upper-half-requires : tie.Need-upper-half-requires
 upper-half-requires c κs = search needs
 
--- src/ordered_ops.rt:66:36
 add-result : tie.Need-add-result
 add-result c = search needs
 
--- src/ordered_ops.rt:62:1
 returns : tie.Need-returns
 unfolding past
 returns c = simp (eq-eqb _ _ (sym (c .before .upper-half .ensures) ∙ c .if1 .taken))
 
--- src/ordered_ops.rt:62:1
 returns-2 : tie.Need-returns-2
 unfolding past
 returns-2 c = simp (ne-eqb _ _ (λ q. (c .if1 .left) (c .before .upper-half .ensures ∙ q)))

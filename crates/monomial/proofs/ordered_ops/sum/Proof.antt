@@ -29,33 +29,27 @@ Inv-loop a b op out₀ kind i₀ j₀ n₀ out i j n = Summing op (first 1 (word
 abbrev μ-loop : tie.MeasureT-loop
 μ-loop a b op out₀ kind i₀ j₀ n₀ out i j n = (length (first 1 (words a)) - i) + (length (first 1 (words b)) - j)
 
--- src/ordered_ops.rt:124:9
 kind-of-requires : tie.Need-kind-of-requires Inv-loop μ-loop
 kind-of-requires c κs = search needs
 
--- src/ordered_ops.rt:128:5
 loop-holds : tie.Need-loop-holds Inv-loop μ-loop
 loop-holds c =
     let start = c .before .before .before .before in
     begin (start .args .op) (start .args .out .now) (begins (omega arith) (start .pre .0)) (begins (omega arith) (start .pre .1 .0))
 
--- src/ordered_ops.rt:129:13
 get-requires : tie.Need-get-requires Inv-loop μ-loop
 get-requires c κs =
     let start = c .before .before .before .before .before in
     omega (arith, fits (c .loop .inv) (start .pre .1 .1), first-bytes 1 (start .args .a .now))
 
--- src/ordered_ops.rt:130:13
 get-requires-2 : tie.Need-get-requires-2 Inv-loop μ-loop
 get-requires-2 c κs =
     let start = c .before .before .before .before .before .before in
     omega (arith, fits (c .before .loop .inv) (start .pre .1 .1), first-bytes 1 (start .args .b .now))
 
--- src/ordered_ops.rt:131:13
 upper-requires : tie.Need-upper-requires Inv-loop μ-loop
 upper-requires c κs = search needs
 
--- src/ordered_ops.rt:133:13
 finish-requires : tie.Need-finish-requires Inv-loop μ-loop
 finish-requires c κs =
     let loop = c .before .before .before .before .before .loop in
@@ -63,14 +57,12 @@ finish-requires c κs =
     let f = fits (loop .inv) (start .pre .1 .1) in
     (f .few, omega (arith, f))
 
--- src/ordered_ops.rt:133:13
 same-length : tie.Need-same-length Inv-loop μ-loop
 same-length c =
     let b8 = c .before .before .before .before .before .before .before .before in
     let start = b8 .before .before .before .before .before in
     c .before .before .finish .kept .0 ∙ fits (b8 .loop .inv) (start .pre .1 .1) .kept
 
--- src/ordered_ops.rt:133:13
 returns : tie.Need-returns Inv-loop μ-loop
 returns c =
     let finish = c .before .before .finish in
@@ -83,15 +75,12 @@ returns c =
     let f = finished (loop .inv) (start .pre .1 .1) (seen _ (loop .inv .ra) (b7 .get .ensures)) (seen _ (loop .inv .rb) (get2 .ensures)) (upper .ensures) (if1 .taken) in
     (finish .ensures .0 ∙ f .0, finish .ensures .1 ∙ f .1)
 
--- src/ordered_ops.rt:135:26
 power-at-requires : tie.Need-power-at-requires Inv-loop μ-loop
 power-at-requires c κs = search needs
 
--- src/ordered_ops.rt:135:45
 power-at-requires-2 : tie.Need-power-at-requires-2 Inv-loop μ-loop
 power-at-requires-2 c κs = search needs
 
--- src/ordered_ops.rt:135:13
 meet-requires : tie.Need-meet-requires Inv-loop μ-loop
 meet-requires c κs =
     let get2 = c .before .before .before .before .get2 in
@@ -103,11 +92,9 @@ meet-requires c κs =
     (first-canonical (omega arith) (start .pre .1 .0)) in
     (rw (c .before .power-at .ensures) (p .a-small), rw (c .power-at2 .ensures) (p .b-small))
 
--- src/ordered_ops.rt:136:36
 upper-id-requires : tie.Need-upper-id-requires Inv-loop μ-loop
 upper-id-requires c κs = search needs
 
--- src/ordered_ops.rt:136:9
 push-requires : tie.Need-push-requires Inv-loop μ-loop
 push-requires c κs =
     let power-at2 = c .before .before .before .power-at2 in
@@ -137,21 +124,18 @@ push-requires c κs =
       (f .few, omega (arith, f)),
     )
 
--- src/ordered_ops.rt:137:9
 step-requires : tie.Need-step-requires Inv-loop μ-loop
 step-requires c κs =
     let b12 = c .before .before .before .before .before .before .before .before .before .before .before .before in
     let start = b12 .before .before .before .before .before in
     omega (arith, fits (b12 .loop .inv) (start .pre .1 .1), first-bytes 1 (start .args .a .now))
 
--- src/ordered_ops.rt:138:9
 step-requires-2 : tie.Need-step-requires-2 Inv-loop μ-loop
 step-requires-2 c κs =
     let b13 = c .before .before .before .before .before .before .before .before .before .before .before .before .before in
     let start = b13 .before .before .before .before .before in
     omega (arith, fits (b13 .loop .inv) (start .pre .1 .1), first-bytes 1 (start .args .b .now))
 
--- src/ordered_ops.rt:128:5
 loop-less : tie.Need-loop-less Inv-loop μ-loop
 loop-less c =
     let b11 = c .before .before .before .before .before .before .before .before .before .before .before in
@@ -163,7 +147,6 @@ loop-less c =
     rw (c .before .step .ensures, c .step2 .ensures) (falls (get .result) (b11 .before .get2 .result) (upper .result) (loop .i) (loop .j) _ _ (upper .ensures)
     (f .ia) (f .jb))
 
--- src/ordered_ops.rt:128:5
 loop-again : tie.Need-loop-again Inv-loop μ-loop
 loop-again c =
     let push = c .before .before .before .before .push in

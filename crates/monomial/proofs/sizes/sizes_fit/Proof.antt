@@ -9,21 +9,17 @@ use Rattle.monomial.proofs.sizes.sizes_fit.Reads as reads
 use Rattle.monomial.proofs.sizes.sizes_fit.Lts as lts
 use Rattle.monomial.proofs.sizes.variables_fit.Reads as variables-fit-reads
 
--- src/sizes.rt:19:9
 variables-fit-requires : tie.Need-variables-fit-requires
 variables-fit-requires c κs = search needs
 
--- src/sizes.rt:20:9
 returns : tie.Need-returns
 unfolding sizesFit
 returns c = simp (sym (c .before .variables-fit .ensures) ∙ not-true _ (c .if1 .taken))
 
--- src/sizes.rt:23:9
 returns-2 : tie.Need-returns-2
 unfolding sizesFit
 returns-2 c = simp (sym (c .before .before .variables-fit .ensures) ∙ not-false _ (c .before .if1 .left), lt-leb 1 (c .before .before .before .args .capacity) (omega arith))
 
--- src/sizes.rt:16:1
 returns-3 : tie.Need-returns-3
 unfolding sizesFit
 returns-3 c = simp (sym (c .before .before .variables-fit .ensures) ∙ not-false _ (c .before .if1 .left), le-leb 1 (c .before .before .before .args .capacity) (omega arith))

@@ -6,12 +6,10 @@ use Rattle.monomial.proofs.sizes.variables_fit.Tie as tie
 use Rattle.monomial.proofs.sizes.variables_fit.Reads as reads
 use Rattle.monomial.proofs.sizes.variables_fit.Lts as lts
 
--- src/sizes.rt:10:9
 returns : tie.Need-returns
 unfolding variablesFit
 returns c = simp (lt-leb 1 (c .before .args .variables) (omega arith))
 
--- src/sizes.rt:6:1
 returns-2 : tie.Need-returns-2
 unfolding variablesFit
 returns-2 c = simp (le-leb 1 (c .before .args .variables) (omega arith))

@@ -13,39 +13,30 @@ Inv-loop list n answers k₀ at₀ k at = (at ≤ n) × (k ≤ at)
 abbrev μ-loop : tie.MeasureT-loop
 μ-loop list n answers k₀ at₀ k at = n - at
 
--- src/calls.rt:230:5
 loop-holds : tie.Need-loop-holds Inv-loop μ-loop
 loop-holds c = search needs
 
--- src/calls.rt:230:11
 add-loop : tie.Need-add-loop Inv-loop μ-loop
 add-loop c = search needs
 
--- src/calls.rt:231:32
 get-requires : tie.Need-get-requires Inv-loop μ-loop
 get-requires c κs = search needs
 
--- src/calls.rt:231:14
 line-at-requires : tie.Need-line-at-requires Inv-loop μ-loop
 line-at-requires c κs = search needs
 
--- src/calls.rt:231:9
 add-k : tie.Need-add-k Inv-loop μ-loop
 add-k c = search needs
 
--- src/calls.rt:232:9
 add-at : tie.Need-add-at Inv-loop μ-loop
 add-at c = search needs
 
--- src/calls.rt:230:5
 loop-less : tie.Need-loop-less Inv-loop μ-loop
 loop-less c = search needs
 
--- src/calls.rt:230:5
 loop-again : tie.Need-loop-again Inv-loop μ-loop
 loop-again c = search needs
 
--- src/calls.rt:225:1
 returns : tie.Need-returns Inv-loop μ-loop
 returns c = search needs
 

@@ -14,43 +14,33 @@ Inv-loop m end n₀ i₀ n i = (i ≤ end) × (n ≤ i)
 abbrev μ-loop : tie.MeasureT-loop
 μ-loop m end n₀ i₀ n i = end - i
 
--- src/notation.rt:78:5
 loop-holds : tie.Need-loop-holds Inv-loop μ-loop
 loop-holds c = search needs
 
--- src/notation.rt:78:11
 add-loop : tie.Need-add-loop Inv-loop μ-loop
 add-loop c = search needs
 
--- src/notation.rt:79:30
 get-requires : tie.Need-get-requires Inv-loop μ-loop
 get-requires c κs = search needs
 
--- src/notation.rt:79:21
 power-on-requires : tie.Need-power-on-requires Inv-loop μ-loop
 power-on-requires c κs = search needs
 
--- src/notation.rt:79:14
 one-if-requires : tie.Need-one-if-requires Inv-loop μ-loop
 one-if-requires c κs = search needs
 
--- src/notation.rt:79:9
 add-n : tie.Need-add-n Inv-loop μ-loop
 add-n c = search needs
 
--- src/notation.rt:80:9
 add-i : tie.Need-add-i Inv-loop μ-loop
 add-i c = search needs
 
--- src/notation.rt:78:5
 loop-less : tie.Need-loop-less Inv-loop μ-loop
 loop-less c = search needs
 
--- src/notation.rt:78:5
 loop-again : tie.Need-loop-again Inv-loop μ-loop
 loop-again c = search needs
 
--- src/notation.rt:74:1
 returns : tie.Need-returns Inv-loop μ-loop
 returns c = search needs
 

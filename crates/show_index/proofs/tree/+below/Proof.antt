@@ -21,7 +21,6 @@ below-at t = and 1 below-kinds.ps (is 1 below-kinds.ps μ-below t) below.Pre
 abbrev below-below : ℕ → In 1 below-kinds.ps
 below-below t = and 1 below-kinds.ps (falls 1 below-kinds.ps _<_ μ-below t) below.Pre
 
--- src/tree.rt:117:9
 below-returns : (t : ℕ) → below-lts.Need-returns (
   node-row-at-reads.Asked,
   node-row-at-reads.Learnt,
@@ -36,7 +35,6 @@ below-returns : (t : ℕ) → below-lts.Need-returns (
 ) (below-at t) below.Post
 below-returns t c = search needs
 
--- src/tree.rt:119:9
 below-node-row-at-requires : (t : ℕ) → below-lts.Need-node-row-at-requires (
   node-row-at-reads.Asked,
   node-row-at-reads.Learnt,
@@ -51,7 +49,6 @@ below-node-row-at-requires : (t : ℕ) → below-lts.Need-node-row-at-requires (
 ) (below-at t) below.Post
 below-node-row-at-requires t c κs = search needs
 
--- src/tree.rt:120:5
 below-indent-requires : (t : ℕ) → below-lts.Need-indent-requires (
   node-row-at-reads.Asked,
   node-row-at-reads.Learnt,
@@ -66,7 +63,6 @@ below-indent-requires : (t : ℕ) → below-lts.Need-indent-requires (
 ) (below-at t) below.Post
 below-indent-requires t c κs = search needs
 
--- src/tree.rt:121:5
 below-line-requires : (t : ℕ) → below-lts.Need-line-requires (
   node-row-at-reads.Asked,
   node-row-at-reads.Learnt,
@@ -81,7 +77,6 @@ below-line-requires : (t : ℕ) → below-lts.Need-line-requires (
 ) (below-at t) below.Post
 below-line-requires t c κs = search needs
 
--- src/tree.rt:122:8
 below-word-requires : (t : ℕ) → below-lts.Need-word-requires (
   node-row-at-reads.Asked,
   node-row-at-reads.Learnt,
@@ -96,7 +91,6 @@ below-word-requires : (t : ℕ) → below-lts.Need-word-requires (
 ) (below-at t) below.Post
 below-word-requires t c κs = search needs
 
--- src/tree.rt:123:9
 below-returns-2 : (t : ℕ) → below-lts.Need-returns-2 (
   node-row-at-reads.Asked,
   node-row-at-reads.Learnt,
@@ -111,7 +105,6 @@ below-returns-2 : (t : ℕ) → below-lts.Need-returns-2 (
 ) (below-at t) below.Post
 below-returns-2 t c = search needs
 
--- src/tree.rt:125:28
 below-add-word : (t : ℕ) → below-lts.Need-add-word (
   node-row-at-reads.Asked,
   node-row-at-reads.Learnt,
@@ -126,7 +119,6 @@ below-add-word : (t : ℕ) → below-lts.Need-add-word (
 ) (below-at t) below.Post
 below-add-word t c = search needs
 
--- src/tree.rt:125:16
 below-word-requires-2 : (t : ℕ) → below-lts.Need-word-requires-2 (
   node-row-at-reads.Asked,
   node-row-at-reads.Learnt,
@@ -141,7 +133,6 @@ below-word-requires-2 : (t : ℕ) → below-lts.Need-word-requires-2 (
 ) (below-at t) below.Post
 below-word-requires-2 t c κs = search needs
 
--- src/tree.rt:125:16
 below-cast-skip : (t : ℕ) → below-lts.Need-cast-skip (
   node-row-at-reads.Asked,
   node-row-at-reads.Learnt,
@@ -156,7 +147,6 @@ below-cast-skip : (t : ℕ) → below-lts.Need-cast-skip (
 ) (below-at t) below.Post
 below-cast-skip t c = search needs
 
--- src/tree.rt:126:21
 below-add-below : (t : ℕ) → below-lts.Need-add-below (
   node-row-at-reads.Asked,
   node-row-at-reads.Learnt,
@@ -171,7 +161,6 @@ below-add-below : (t : ℕ) → below-lts.Need-add-below (
 ) (below-at t) below.Post
 below-add-below t c = search needs
 
--- src/tree.rt:126:28
 below-add-below-2 : (t : ℕ) → below-lts.Need-add-below-2 (
   node-row-at-reads.Asked,
   node-row-at-reads.Learnt,
@@ -186,7 +175,6 @@ below-add-below-2 : (t : ℕ) → below-lts.Need-add-below-2 (
 ) (below-at t) below.Post
 below-add-below-2 t c = search needs
 
--- src/tree.rt:126:5
 below-below-requires : (t : ℕ) → below-lts.Need-below-requires (
   node-row-at-reads.Asked,
   node-row-at-reads.Learnt,
@@ -201,7 +189,6 @@ below-below-requires : (t : ℕ) → below-lts.Need-below-requires (
 ) (below-at t) below.Post
 below-below-requires t c κs = search needs
 
--- src/tree.rt:127:21
 below-add-below-3 : (t : ℕ) → below-lts.Need-add-below-3 (
   node-row-at-reads.Asked,
   node-row-at-reads.Learnt,
@@ -216,7 +203,6 @@ below-add-below-3 : (t : ℕ) → below-lts.Need-add-below-3 (
 ) (below-at t) below.Post
 below-add-below-3 t c = search needs
 
--- src/tree.rt:127:21
 below-add-below-4 : (t : ℕ) → below-lts.Need-add-below-4 (
   node-row-at-reads.Asked,
   node-row-at-reads.Learnt,
@@ -231,7 +217,6 @@ below-add-below-4 : (t : ℕ) → below-lts.Need-add-below-4 (
 ) (below-at t) below.Post
 below-add-below-4 t c = search needs
 
--- src/tree.rt:127:35
 below-add-below-5 : (t : ℕ) → below-lts.Need-add-below-5 (
   node-row-at-reads.Asked,
   node-row-at-reads.Learnt,
@@ -246,7 +231,6 @@ below-add-below-5 : (t : ℕ) → below-lts.Need-add-below-5 (
 ) (below-at t) below.Post
 below-add-below-5 t c = search needs
 
--- src/tree.rt:127:5
 below-below-requires-2 : (t : ℕ) → below-lts.Need-below-requires-2 (
   node-row-at-reads.Asked,
   node-row-at-reads.Learnt,
@@ -261,7 +245,6 @@ below-below-requires-2 : (t : ℕ) → below-lts.Need-below-requires-2 (
 ) (below-at t) below.Post
 below-below-requires-2 t c κs = search needs
 
--- src/tree.rt:112:1
 below-returns-3 : (t : ℕ) → below-lts.Need-returns-3 (
   node-row-at-reads.Asked,
   node-row-at-reads.Learnt,

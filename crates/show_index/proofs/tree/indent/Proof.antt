@@ -12,27 +12,21 @@ Inv-loop depth i₀ i = i ≤ depth
 abbrev μ-loop : tie.MeasureT-loop
 μ-loop depth i₀ i = depth - i
 
--- src/tree.rt:91:5
 loop-holds : tie.Need-loop-holds Inv-loop μ-loop
 loop-holds c = search needs
 
--- src/tree.rt:92:9
 two-spaces-requires : tie.Need-two-spaces-requires Inv-loop μ-loop
 two-spaces-requires c κs = search needs
 
--- src/tree.rt:93:9
 add-i : tie.Need-add-i Inv-loop μ-loop
 add-i c = search needs
 
--- src/tree.rt:91:5
 loop-less : tie.Need-loop-less Inv-loop μ-loop
 loop-less c = search needs
 
--- src/tree.rt:91:5
 loop-again : tie.Need-loop-again Inv-loop μ-loop
 loop-again c = search needs
 
--- src/tree.rt:89:1
 returns : tie.Need-returns Inv-loop μ-loop
 returns c = search needs
 

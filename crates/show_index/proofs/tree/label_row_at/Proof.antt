@@ -7,29 +7,23 @@ use Rattle.show_index.proofs.tree.label_row_at.Reads as reads
 use Rattle.show_index.proofs.tree.label_row_at.Lts as lts
 use Rattle.index_image.proofs.Shape.labels_at.Reads as labels-at-reads
 
--- src/tree.rt:24:5
 labels-at-requires : tie.Need-labels-at-requires
 labels-at-requires c κs = search needs
 
--- src/tree.rt:24:53
 add-result : tie.Need-add-result
 add-result c = search needs
 
--- src/tree.rt:24:39
 mul-result : tie.Need-mul-result
 mul-result c = omega (arith, row-near (c .before .before .args .s) (c .before .before .pre) (c .before .before .args .r) (omega arith))
 
--- src/tree.rt:24:22
 add-result-2 : tie.Need-add-result-2
 add-result-2 c = omega (arith, row-near (c .before .before .args .s) (c .before .before .pre) (c .before .before .args .r) (omega arith))
 
--- src/tree.rt:24:5
 add-result-3 : tie.Need-add-result-3
 add-result-3 c =
     let s = c .before .before in
     omega (arith, c .before .labels-at .ensures, labels-near (s .args .s) (s .pre), row-near (s .args .s) (s .pre) (s .args .r) (omega arith))
 
--- src/tree.rt:20:1
 returns : tie.Need-returns
 returns c =
     let s = c .before .before in

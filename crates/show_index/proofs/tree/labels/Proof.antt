@@ -17,59 +17,45 @@ Inv-loop image s n order i₀ i = i ≤ n
 abbrev μ-loop : tie.MeasureT-loop
 μ-loop image s n order i₀ i = n - i
 
--- src/tree.rt:61:25
 labels-at-requires : tie.Need-labels-at-requires Inv-loop μ-loop
 labels-at-requires c κs = search needs
 
--- src/tree.rt:61:25
 add-word : tie.Need-add-word Inv-loop μ-loop
 add-word c = omega (arith, c .labels-at .ensures, labels-near (c .before .before .args .s) (c .before .before .pre))
 
--- src/tree.rt:61:13
 word-requires : tie.Need-word-requires Inv-loop μ-loop
 word-requires c κs = search needs
 
--- src/tree.rt:61:13
 cast-n : tie.Need-cast-n Inv-loop μ-loop
 cast-n c = search needs
 
--- src/tree.rt:62:33
 cast-label-row-at : tie.Need-cast-label-row-at Inv-loop μ-loop
 cast-label-row-at c = search needs
 
--- src/tree.rt:62:9
 label-row-at-requires : tie.Need-label-row-at-requires Inv-loop μ-loop
 label-row-at-requires c κs = search needs
 
--- src/tree.rt:64:5
 loop-holds : tie.Need-loop-holds Inv-loop μ-loop
 loop-holds c = search needs
 
--- src/tree.rt:65:42
 add-word-2 : tie.Need-add-word-2 Inv-loop μ-loop
 add-word-2 c = search needs
 
--- src/tree.rt:65:30
 word-requires-2 : tie.Need-word-requires-2 Inv-loop μ-loop
 word-requires-2 c κs = search needs
 
--- src/tree.rt:65:9
 label-line-requires : tie.Need-label-line-requires Inv-loop μ-loop
 label-line-requires c κs = search needs
 
--- src/tree.rt:66:9
 add-i : tie.Need-add-i Inv-loop μ-loop
 add-i c = search needs
 
--- src/tree.rt:64:5
 loop-less : tie.Need-loop-less Inv-loop μ-loop
 loop-less c = search needs
 
--- src/tree.rt:64:5
 loop-again : tie.Need-loop-again Inv-loop μ-loop
 loop-again c = search needs
 
--- src/tree.rt:58:1
 returns : tie.Need-returns Inv-loop μ-loop
 returns c = search needs
 

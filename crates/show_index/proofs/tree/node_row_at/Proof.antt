@@ -7,11 +7,9 @@ use Rattle.show_index.proofs.tree.node_row_at.Reads as reads
 use Rattle.show_index.proofs.tree.node_row_at.Lts as lts
 use Rattle.index_image.proofs.Shape.node_at.Reads as node-at-reads
 
--- src/tree.rt:108:5
 node-at-requires : tie.Need-node-at-requires
 node-at-requires c κs = search needs
 
--- src/tree.rt:103:1
 returns : tie.Need-returns
 returns c = omega (arith, c .node-at .ensures, node-near (c .before .args .s) (c .before .pre .0) (c .before .args .k) (c .before .pre .1))
 

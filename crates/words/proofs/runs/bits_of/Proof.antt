@@ -19,27 +19,21 @@ Inv-loop s at n bits₀ i₀ bits i = (i ≤ n) × ((bits ≡ 0) ↔ (part (word
 abbrev μ-loop : tie.MeasureT-loop
 μ-loop s at n bits₀ i₀ bits i = n - i
 
--- src/runs.rt:19:5
 loop-holds : tie.Need-loop-holds Inv-loop μ-loop
 loop-holds c = (omega arith, bits-none (words (c .before .args .s .now)) (c .before .args .at))
 
--- src/runs.rt:20:37
 add-get : tie.Need-add-get Inv-loop μ-loop
 add-get c = search needs
 
--- src/runs.rt:20:23
 get-requires : tie.Need-get-requires Inv-loop μ-loop
 get-requires c κs = search needs
 
--- src/runs.rt:21:9
 add-i : tie.Need-add-i Inv-loop μ-loop
 add-i c = search needs
 
--- src/runs.rt:19:5
 loop-less : tie.Need-loop-less Inv-loop μ-loop
 loop-less c = search needs
 
--- src/runs.rt:19:5
 loop-again : tie.Need-loop-again Inv-loop μ-loop
 loop-again c =
     let loop = c .before .before .loop in
@@ -49,7 +43,6 @@ loop-again c =
           (omega (arith, length-words (start .args .s .now))) (c .get .ensures) (loop .inv .1),
     )
 
--- src/runs.rt:13:1
 returns : tie.Need-returns Inv-loop μ-loop
 returns c = let e : (c .before .loop .i) ≡ (c .before .before .before .args .n) = omega (arith, c .before .loop .inv .0) in rw e at (c .before .loop .inv .1)
 

@@ -18,27 +18,21 @@ Inv-loop s₀ at n i₀ s i = (i ≤ n) × ((s ≡ pasteW s₀ at (zeros i)) × 
 abbrev μ-loop : tie.MeasureT-loop
 μ-loop s₀ at n i₀ s i = n - i
 
--- src/runs.rt:32:5
 loop-holds : tie.Need-loop-holds Inv-loop μ-loop
 loop-holds c = (omega arith, (clear-none (c .before .args .s .now) (c .before .args .at), refl))
 
--- src/runs.rt:33:23
 add-put : tie.Need-add-put Inv-loop μ-loop
 add-put c = search needs
 
--- src/runs.rt:33:9
 put-requires : tie.Need-put-requires Inv-loop μ-loop
 put-requires c κs = search needs
 
--- src/runs.rt:34:9
 add-i : tie.Need-add-i Inv-loop μ-loop
 add-i c = search needs
 
--- src/runs.rt:32:5
 loop-less : tie.Need-loop-less Inv-loop μ-loop
 loop-less c = search needs
 
--- src/runs.rt:32:5
 loop-again : tie.Need-loop-again Inv-loop μ-loop
 loop-again c =
     let put = c .before .before .put in
@@ -46,11 +40,9 @@ loop-again c =
     let start = c .before .before .before .before .before .before .before in
     (omega arith, (put .ensures ∙ clear-more (start .args .s .now) (loop .s) (start .args .at) (loop .i) (loop .inv .1 .0) (omega arith), put .kept .0 ∙ loop .inv .1 .1))
 
--- src/runs.rt:27:1
 same-length : tie.Need-same-length Inv-loop μ-loop
 same-length c = search needs
 
--- src/runs.rt:27:1
 returns : tie.Need-returns Inv-loop μ-loop
 returns c = c .before .loop .inv .1 .0 ∙ ap (λ (z : ℕ). pasteW (c .before .before .before .args .s .now) (c .before .before .before .args .at) (zeros z)) (omega arith)
 

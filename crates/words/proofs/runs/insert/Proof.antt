@@ -14,19 +14,15 @@ use Rattle.words.proofs.runs.insert.Lts as lts
 use Rattle.words.proofs.put.Reads as put-reads
 use Rattle.words.proofs.runs.move_up.Reads as move-up-reads
 
--- src/runs.rt:72:5
 move-up-requires : tie.Need-move-up-requires
 move-up-requires c κs = search needs
 
--- src/runs.rt:73:5
 put-requires : tie.Need-put-requires
 put-requires c κs = search needs
 
--- src/runs.rt:67:1
 same-length : tie.Need-same-length
 same-length c = search needs
 
--- src/runs.rt:67:1
 returns : tie.Need-returns
 returns c =
     let move-up = c .before .before .before .before .before .before .move-up in

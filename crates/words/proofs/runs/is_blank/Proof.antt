@@ -9,11 +9,9 @@ use Rattle.words.proofs.runs.is_blank.Reads as reads
 use Rattle.words.proofs.runs.is_blank.Lts as lts
 use Rattle.words.proofs.runs.bits_of.Reads as bits-of-reads
 
--- src/runs.rt:31:5
 bits-of-requires : tie.Need-bits-of-requires
 bits-of-requires c κs = search needs
 
--- src/runs.rt:27:1
 returns : tie.Need-returns
 returns c = (λ (z : eqb (c .bits-of .result) 0 ≡ true). (c .bits-of .ensures .0) (eqb-true _ 0 z), λ h. eq-eqb _ 0 ((c .bits-of .ensures .1) h))
 

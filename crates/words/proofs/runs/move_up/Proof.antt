@@ -19,31 +19,24 @@ Inv-loop s₀ at end by i₀ s i = ((at ≤ i) × (i ≤ end)) × ((s ≡ pasteW
 abbrev μ-loop : tie.MeasureT-loop
 μ-loop s₀ at end by i₀ s i = i
 
--- src/runs.rt:59:5
 loop-holds : tie.Need-loop-holds Inv-loop μ-loop
 loop-holds c = ((omega arith, omega arith), (up-none (c .before .args .s .now) (c .before .args .end) (c .before .args .by), refl))
 
--- src/runs.rt:60:9
 sub-i : tie.Need-sub-i Inv-loop μ-loop
 sub-i c = search needs
 
--- src/runs.rt:61:13
 get-requires : tie.Need-get-requires Inv-loop μ-loop
 get-requires c κs = search needs
 
--- src/runs.rt:62:23
 add-put : tie.Need-add-put Inv-loop μ-loop
 add-put c = search needs
 
--- src/runs.rt:62:9
 put-requires : tie.Need-put-requires Inv-loop μ-loop
 put-requires c κs = search needs
 
--- src/runs.rt:59:5
 loop-less : tie.Need-loop-less Inv-loop μ-loop
 loop-less c = search needs
 
--- src/runs.rt:59:5
 loop-again : tie.Need-loop-again Inv-loop μ-loop
 loop-again c =
     let put = c .before .before .put in
@@ -64,11 +57,9 @@ loop-again c =
       ),
     )
 
--- src/runs.rt:53:1
 same-length : tie.Need-same-length Inv-loop μ-loop
 same-length c = search needs
 
--- src/runs.rt:53:1
 returns : tie.Need-returns Inv-loop μ-loop
 returns c = let e : (c .before .loop .i) ≡ (c .before .before .before .args .at) = omega arith in rw e at (c .before .loop .inv .1 .0)
 

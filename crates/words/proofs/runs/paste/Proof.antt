@@ -20,31 +20,24 @@ Inv-loop s₀ at row n i₀ s i = (i ≤ n) × ((s ≡ pasteW s₀ at (take i (w
 abbrev μ-loop : tie.MeasureT-loop
 μ-loop s₀ at row n i₀ s i = n - i
 
--- src/runs.rt:45:5
 loop-holds : tie.Need-loop-holds Inv-loop μ-loop
 loop-holds c = (omega arith, (sym (pasteW-nil (c .before .before .args .s .now) (c .before .before .args .at)), refl))
 
--- src/runs.rt:46:13
 get-requires : tie.Need-get-requires Inv-loop μ-loop
 get-requires c κs = search needs
 
--- src/runs.rt:47:23
 add-put : tie.Need-add-put Inv-loop μ-loop
 add-put c = search needs
 
--- src/runs.rt:47:9
 put-requires : tie.Need-put-requires Inv-loop μ-loop
 put-requires c κs = search needs
 
--- src/runs.rt:48:9
 add-i : tie.Need-add-i Inv-loop μ-loop
 add-i c = search needs
 
--- src/runs.rt:45:5
 loop-less : tie.Need-loop-less Inv-loop μ-loop
 loop-less c = search needs
 
--- src/runs.rt:45:5
 loop-again : tie.Need-loop-again Inv-loop μ-loop
 loop-again c =
     let put = c .before .before .put in
@@ -69,11 +62,9 @@ loop-again c =
       ),
     )
 
--- src/runs.rt:39:1
 same-length : tie.Need-same-length Inv-loop μ-loop
 same-length c = search needs
 
--- src/runs.rt:39:1
 returns : tie.Need-returns Inv-loop μ-loop
 returns c =
     let start = c .before .before .before .before in
