@@ -9,6 +9,7 @@ mod product;
 mod ratio_monomial_index;
 mod reply;
 mod store;
+mod words;
 
 pub use batch::{Answers, MonomialBatch, RatioBatch, Ticket};
 pub use config::Config;
