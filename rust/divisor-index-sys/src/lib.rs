@@ -16,7 +16,7 @@
 #![deny(missing_docs)]
 
 #[cfg(not(all(target_arch = "x86_64", target_os = "linux")))]
-compile_error!("the archives of `rt staticlib` are for Linux on x86-64");
+compile_error!("libdivisor_index.a is for Linux on x86-64");
 
 /// A function on two monomials or two ratios, answering into a buffer.
 pub type OnTwo = unsafe extern "C" fn(
