@@ -60,7 +60,9 @@ pub enum DivMaskTestResult {
 }
 
 /// The maximum exponent of each variable. Growth is that over the beginning,
-/// when each maximum was 1; there is no `reset_tracking`.
+/// when each maximum was 1; there is no `reset_tracking`. That of an index, since it
+/// was opened, is
+/// [`has_grown_beyond_percentage`](crate::RatioMonomialIndex::has_grown_beyond_percentage).
 #[derive(Debug, Clone, PartialEq, Eq)]
 pub struct MaximumExponentsTracker {
     max_exponents: Vec<u32>,

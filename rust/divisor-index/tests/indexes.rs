@@ -481,6 +481,27 @@ fn reopened_ratio_indexes_answer_the_same() {
     assert!(kinds.iter().all(|&count| count > 0), "{kinds:?}");
 }
 
+/// Growth is that since the opening, as in the original since `reset_tracking`.
+#[test]
+fn growth_since_the_opening() {
+    let mut index = monomial_index(2, 5);
+    assert!(!index.has_grown_beyond_percentage(0));
+    index.insert(&[(1, 2), (0, 2)]).unwrap();
+    // From a total of 2 to one of 4.
+    assert!(index.has_grown_beyond_percentage(49));
+    assert!(!index.has_grown_beyond_percentage(50));
+    let mut index = index.reopened(&index.config()).unwrap();
+    assert!(!index.has_grown_beyond_percentage(0));
+    index.insert(&[(1, 3)]).unwrap();
+    assert!(index.has_grown_beyond_percentage(19));
+    assert!(!index.has_grown_beyond_percentage(20));
+
+    let mut index = ratio_index(2, 5);
+    index.insert(sign(0, &[(0, 3)]), &[(1, 2)]).unwrap();
+    assert!(index.has_grown_beyond_percentage(59));
+    assert!(!index.has_grown_beyond_percentage(60));
+}
+
 #[test]
 fn reopening_can_be_refused() {
     let index = five();

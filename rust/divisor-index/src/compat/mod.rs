@@ -7,6 +7,10 @@
 //! used: masks are made in the image, by the powers of the elements that an index
 //! is made from.
 //!
+//! When to make the indexes anew is the solver's own: its `MaximumExponentsTracker`
+//! stays as it is, and `maybe_rebuild_structures` calls `new` of both with the elements,
+//! as before. An index that is full grows without it.
+//!
 //! A solver puts these in place of its modules and implements the traits for its
 //! own types, with the generic parameters that these have:
 //!

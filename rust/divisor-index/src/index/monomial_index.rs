@@ -78,6 +78,13 @@ impl<B: AsRef<[u8]> + AsMut<[u8]>> MonomialIndex<B> {
         self.0.layout().config()
     }
 
+    /// Whether the maxima have grown, since the index was opened or
+    /// [reopened](Self::reopened), by more than this percentage of their present total,
+    /// rounded down as in the original.
+    pub fn has_grown_beyond_percentage(&self, percentage: u8) -> bool {
+        self.0.layout().has_grown_beyond_percentage(percentage)
+    }
+
     /// The number of monomials.
     pub fn len(&self) -> usize {
         self.0.layout().entries()
@@ -144,6 +151,9 @@ impl<B: AsRef<[u8]> + AsMut<[u8]>> MonomialIndex<B> {
     /// A new index of another capacity, or with masks by other maxima, which holds
     /// the same monomials under the same numbers. They are read from the image.
     /// Its tree is built anew, so it may list them in another order.
+    ///
+    /// [`RatioMonomialIndex::reopened`](super::RatioMonomialIndex::reopened) says when
+    /// the original makes its indexes anew.
     ///
     /// Refusals: [`Full`](Refusal::Full) where they are more than the capacity,
     /// [`NotCanonical`](Refusal::NotCanonical) where one has a variable that the
