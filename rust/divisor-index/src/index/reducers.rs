@@ -18,7 +18,8 @@ use crate::{monomial, Refusal};
 /// The quotient signature / t is made here. A term that is refused (it or the
 /// signature is not canonical) has the refusal as its answer and leaves the others
 /// as they are. Only an image that is no longer sound refuses a list whole, with
-/// [`Refusal::Unsound`], and then nothing new is known.
+/// [`Refusal::Unsound`], and then nothing new is known. A list needs up to
+/// [`STACK`](crate::STACK) bytes of stack.
 ///
 /// ```
 /// use std::collections::BTreeSet;
