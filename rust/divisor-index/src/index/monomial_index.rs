@@ -131,8 +131,8 @@ impl<B: AsRef<[u8]> + AsMut<[u8]>> MonomialIndex<B> {
     /// The monomials in the order of the tree, as (id, power), ids falling: of
     /// each branch the less side before the other side.
     pub fn to_vec(&self) -> Result<Vec<Vec<(u16, i32)>>, Refusal> {
-        // The image has the same monomials among others.
-        let mut words = vec![0; self.image().len()];
+        let longest = 4 * (self.0.layout().variables() + 1);
+        let mut words = vec![0; longest * self.len()];
         Refusal::check(doors::divisor_index_list(self.image(), &mut words))?;
         Ok(split(&words, self.len()))
     }

@@ -45,7 +45,7 @@ use crate::{monomial, Refusal};
 ///                 terms.insert(rest);
 ///             }
 ///         }
-///         // No term is left that could be reduced: x1·x0 is the leading one now.
+///         // Nothing reduces x1·x0, which leads now.
 ///         _ => {
 ///             assert_eq!(((p1, p0), terms.len()), ((1, 1), 2));
 ///             break;
