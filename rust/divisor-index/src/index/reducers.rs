@@ -15,7 +15,7 @@ use crate::{monomial, Refusal};
 /// asks for many terms in one list, which judges the image once, and never asks for
 /// a term again. It borrows the index, so nothing can be inserted meanwhile.
 ///
-/// The quotient signature / t is made here. A term that is refused (it or the
+/// The quotient signature / t is made here, by the port. A term that is refused (it or the
 /// signature is not canonical) has the refusal as its answer and leaves the others
 /// as they are. Only an image that is no longer sound refuses a list whole, with
 /// [`Refusal::Unsound`], and then nothing new is known. A list needs up to
