@@ -4,19 +4,26 @@
 //! Everything lent is 32-bit words, low byte first; a slice is a pointer and a
 //! length in bytes. Each function takes all bytes: it returns 0 and the answer
 //! stands at the front of `out`, or the number of a refusal, and then no byte
-//! is changed. docs/LAYOUT.md has the words and the answers.
+//! is changed. The header says of each what it writes, the room that this takes and
+//! what it refuses; docs/LAYOUT.md has the words.
 //!
 //! # Safety
 //!
 //! Each pointer must be valid for its length, a `*mut` one for writing too, and
 //! what is written must overlap nothing else that is lent. There is no other
-//! demand.
+//! demand: no alignment is needed, and a slice of length 0 may be a null pointer.
+//!
+//! # Stack and threads
+//!
+//! [`divisor_index_check`], [`divisor_index_run`] and [`divisor_index_list`] need up to
+//! 976 KiB of stack, on the deepest tree; the others less than 4 KiB. There is no
+//! global state.
 
 #![no_std]
 #![deny(missing_docs)]
 
 #[cfg(not(all(target_arch = "x86_64", target_os = "linux")))]
-compile_error!("the archives of `rt staticlib` are for Linux on x86-64");
+compile_error!("libdivisor_index.a is for Linux on x86-64");
 
 /// A function on two monomials or two ratios, answering into a buffer.
 pub type OnTwo = unsafe extern "C" fn(
@@ -142,9 +149,9 @@ extern "C" {
     pub fn divisor_index_check(image: *const u8, image_len: usize) -> u32;
 }
 
-// crates/divisor_index. Refusals: 1 kind, variables, capacity and maxima, 2 buffer, 3 image, 4 list, 6 no
-// monomial index, 5 room. Inside a list a refusal (6, 7, 8) is a kind 5 word in its call's place. On the
-// deepest tree the check, a list and the listing need 976 KiB of stack.
+// crates/divisor_index. Refusals: 1 kind, variables, capacity and maxima, 2 buffer, 3
+// image, 4 list, 6 no monomial index, 5 room. Inside a list a refusal (6, 7, 8) is a kind
+// 5 word in its call's place.
 extern "C" {
     /// The length in bytes of an index's image, which is above 16, or 1.
     pub fn divisor_index_length(

@@ -1,10 +1,13 @@
 //! The C functions on byte slices.
 //!
-//! Each takes all bytes, so each is safe. It returns 0, and the answer stands
-//! at the front of `out`, or the number of a [`Refusal`](crate::Refusal), and
-//! then no byte is changed. Where a number is the answer, it is said.
-
-use std::slice;
+//! Each takes all bytes, at any alignment, so each is safe. It returns 0, and the
+//! answer stands at the front of `out`, the bytes behind it being as they were; or
+//! the number of a [`Refusal`](crate::Refusal), and then no byte is changed. Where a
+//! number is the answer, it is said. Room is what an answer takes at most, in bytes;
+//! 260 suffice for any one monomial or ratio. There is no global state.
+//!
+//! [`divisor_index_check`], [`divisor_index_run`] and [`divisor_index_list`] need up to
+//! [`STACK`](crate::STACK) bytes of stack, the others less than 4 KiB.
 
 use divisor_index_sys as sys;
 
@@ -23,54 +26,94 @@ fn on_two(door: sys::OnTwo, variables: u32, a: &[u8], b: &[u8], out: &mut [u8]) 
     }
 }
 
-/// The greatest common divisor of two monomials. Refusals: 1, 7, 5.
+/// The greatest common divisor of two monomials. Room: the lesser of their lengths.
+/// Refusals: 1, 7, 5.
 pub fn divisor_index_monomial_gcd(variables: u32, a: &[u8], b: &[u8], out: &mut [u8]) -> u32 {
     on_two(sys::divisor_index_monomial_gcd, variables, a, b, out)
 }
 
-/// The product of two monomials. Refusals: 1, 7, 9, 5.
+/// The product of two monomials. Room: the sum of their lengths, less 4. Refusals: 1,
+/// 7, 9, 5.
 pub fn divisor_index_monomial_mul(variables: u32, a: &[u8], b: &[u8], out: &mut [u8]) -> u32 {
     on_two(sys::divisor_index_monomial_mul, variables, a, b, out)
 }
 
-/// The quotient a / b, or a kind 4 word with payload 0 for none. Refusals: 1, 7, 5.
-pub fn divisor_index_monomial_whole_division(variables: u32, a: &[u8], b: &[u8], out: &mut [u8]) -> u32 {
-    on_two(sys::divisor_index_monomial_whole_division, variables, a, b, out)
+/// The quotient a / b, or a kind 4 word with payload 0 for none. Room: the length of
+/// a. Refusals: 1, 7, 5.
+pub fn divisor_index_monomial_whole_division(
+    variables: u32,
+    a: &[u8],
+    b: &[u8],
+    out: &mut [u8],
+) -> u32 {
+    on_two(
+        sys::divisor_index_monomial_whole_division,
+        variables,
+        a,
+        b,
+        out,
+    )
 }
 
-/// The ratio a / b. Refusals: 1, 7, 5.
-pub fn divisor_index_monomial_fraction_division(variables: u32, a: &[u8], b: &[u8], out: &mut [u8]) -> u32 {
-    on_two(sys::divisor_index_monomial_fraction_division, variables, a, b, out)
+/// The ratio a / b. Room: the sum of their lengths, less 4. Refusals: 1, 7, 5.
+pub fn divisor_index_monomial_fraction_division(
+    variables: u32,
+    a: &[u8],
+    b: &[u8],
+    out: &mut [u8],
+) -> u32 {
+    on_two(
+        sys::divisor_index_monomial_fraction_division,
+        variables,
+        a,
+        b,
+        out,
+    )
 }
 
-/// Whether a divides b: a kind 4 word, yes 1, no 0. Refusals: 1, 7, 5.
+/// Whether a divides b: a kind 4 word, yes 1, no 0. Room: 4. Refusals: 1, 7, 5.
 pub fn divisor_index_monomial_divides(variables: u32, a: &[u8], b: &[u8], out: &mut [u8]) -> u32 {
     on_two(sys::divisor_index_monomial_divides, variables, a, b, out)
 }
 
-/// Whether two monomials are equal: a kind 4 word, yes 1, no 0. Refusals: 1, 7, 5.
+/// Whether two monomials are equal: a kind 4 word, yes 1, no 0. Room: 4. Refusals: 1,
+/// 7, 5.
 pub fn divisor_index_monomial_eq(variables: u32, a: &[u8], b: &[u8], out: &mut [u8]) -> u32 {
     on_two(sys::divisor_index_monomial_eq, variables, a, b, out)
 }
 
-/// How two monomials compare: a kind 4 word, less 0, equal 1, greater 2. Refusals: 1, 7, 5.
+/// How two monomials compare: a kind 4 word, less 0, equal 1, greater 2. Room: 4.
+/// Refusals: 1, 7, 5.
 pub fn divisor_index_monomial_cmp(variables: u32, a: &[u8], b: &[u8], out: &mut [u8]) -> u32 {
     on_two(sys::divisor_index_monomial_cmp, variables, a, b, out)
 }
 
-/// Whether two ratios are equal: a kind 4 word, yes 1, no 0. Refusals: 1, 7, 5.
+/// Whether two ratios are equal: a kind 4 word, yes 1, no 0. Room: 4. Refusals: 1, 7,
+/// 5.
 pub fn divisor_index_ratio_eq(variables: u32, a: &[u8], b: &[u8], out: &mut [u8]) -> u32 {
     on_two(sys::divisor_index_ratio_eq, variables, a, b, out)
 }
 
-/// How two ratios compare: a kind 4 word, less 0, equal 1, greater 2. Refusals: 1, 7, 5.
+/// How two ratios compare: a kind 4 word, less 0, equal 1, greater 2. Room: 4.
+/// Refusals: 1, 7, 5.
 pub fn divisor_index_ratio_cmp(variables: u32, a: &[u8], b: &[u8], out: &mut [u8]) -> u32 {
     on_two(sys::divisor_index_ratio_cmp, variables, a, b, out)
 }
 
-/// The mask of a monomial, as a bare word. Refusals: 1, 7, 5.
-pub fn divisor_index_divmask_mask(variables: u32, maxima: &[u8], monomial: &[u8], out: &mut [u8]) -> u32 {
-    on_two(sys::divisor_index_divmask_mask, variables, maxima, monomial, out)
+/// The mask of a monomial, as a bare word. Room: 4. Refusals: 1, 7, 5.
+pub fn divisor_index_divmask_mask(
+    variables: u32,
+    maxima: &[u8],
+    monomial: &[u8],
+    out: &mut [u8],
+) -> u32 {
+    on_two(
+        sys::divisor_index_divmask_mask,
+        variables,
+        maxima,
+        monomial,
+        out,
+    )
 }
 
 /// 0 not divisible, 1 unsure; it refuses nothing.
@@ -93,9 +136,14 @@ pub fn divisor_index_divmask_update(variables: u32, maxima: &mut [u8], monomial:
     }
 }
 
-/// Whether the maxima have grown beyond a percentage: a kind 4 word, yes 1, no 0.
-/// Refusals: 1, 5.
-pub fn divisor_index_divmask_growth(variables: u32, maxima: &[u8], percentage: u8, out: &mut [u8]) -> u32 {
+/// Whether the maxima, which began at 1, have grown by more than a percentage of their
+/// present total: a kind 4 word, yes 1, no 0. Room: 4. Refusals: 1, 5.
+pub fn divisor_index_divmask_growth(
+    variables: u32,
+    maxima: &[u8],
+    percentage: u8,
+    out: &mut [u8],
+) -> u32 {
     // SAFETY: as in `on_two`.
     unsafe {
         sys::divisor_index_divmask_growth(
@@ -115,10 +163,12 @@ pub fn divisor_index_fast_compare_length(variables: u32, capacity: u32) -> u32 {
     unsafe { sys::divisor_index_fast_compare_length(variables, capacity) }
 }
 
-/// Writes an empty label map. Refusals: 1, 2.
+/// Writes an empty label map. Room: its length. Refusals: 1, 2.
 pub fn divisor_index_fast_compare_open(variables: u32, capacity: u32, image: &mut [u8]) -> u32 {
     // SAFETY: as in `on_two`, with `image` exclusive.
-    unsafe { sys::divisor_index_fast_compare_open(variables, capacity, image.as_mut_ptr(), image.len()) }
+    unsafe {
+        sys::divisor_index_fast_compare_open(variables, capacity, image.as_mut_ptr(), image.len())
+    }
 }
 
 /// The label of a value, or a refusal (3, 7, 8, 10) in the upper 32 bits.
@@ -141,8 +191,8 @@ pub fn divisor_index_fast_compare_rebuild(image: &mut [u8]) -> u32 {
     unsafe { sys::divisor_index_fast_compare_rebuild(image.as_mut_ptr(), image.len()) }
 }
 
-/// Whether the bytes begin with the image of a valid index: 0 or 3. It needs up to
-/// [`STACK`](crate::STACK) bytes of stack.
+/// Whether the bytes begin with the image of a valid index: 0 or 3. Stack:
+/// [`STACK`](crate::STACK).
 pub fn divisor_index_check(image: &[u8]) -> u32 {
     // SAFETY: as in `on_two`, and nothing is written.
     unsafe { sys::divisor_index_check(image.as_ptr(), image.len()) }
@@ -152,12 +202,10 @@ pub fn divisor_index_check(image: &[u8]) -> u32 {
 /// monomial index, 1 a ratio index.
 pub fn divisor_index_length(kind: u32, variables: u32, capacity: u32, maxima: &[u8]) -> u32 {
     // SAFETY: as in `on_two`, and nothing is written.
-    unsafe {
-        sys::divisor_index_length(kind, variables, capacity, maxima.as_ptr(), maxima.len())
-    }
+    unsafe { sys::divisor_index_length(kind, variables, capacity, maxima.as_ptr(), maxima.len()) }
 }
 
-/// Writes the image of an index that holds nothing. Refusals: 1, 2.
+/// Writes the image of an index that holds nothing. Room: its length. Refusals: 1, 2.
 pub fn divisor_index_open(
     kind: u32,
     variables: u32,
@@ -179,8 +227,9 @@ pub fn divisor_index_open(
     }
 }
 
-/// Runs a list of calls on an image and writes one answer word a call. Refusals:
-/// 3, 4, 5. It needs up to [`STACK`](crate::STACK) bytes of stack.
+/// Runs a list of calls on an image, and writes one answer word a call, of kind 5 for
+/// a call that is refused by itself. Room: 4 a call. Refusals: 3, 4, 5. Stack:
+/// [`STACK`](crate::STACK).
 pub fn divisor_index_run(image: &mut [u8], list: &[u8], answers: &mut [u8]) -> u32 {
     // SAFETY: as in `on_two`, with `image` and `answers` exclusive.
     unsafe {
@@ -195,8 +244,8 @@ pub fn divisor_index_run(image: &mut [u8], list: &[u8], answers: &mut [u8]) -> u
     }
 }
 
-/// Writes the monomials of a monomial index, one behind the other. Refusals: 3, 6,
-/// 5. It needs up to [`STACK`](crate::STACK) bytes of stack.
+/// Writes the monomials of a monomial index, one behind the other. Room: 4 x
+/// (variables + 1) an entry. Refusals: 3, 6, 5. Stack: [`STACK`](crate::STACK).
 pub fn divisor_index_list(image: &[u8], answers: &mut [u8]) -> u32 {
     // SAFETY: as in `on_two`, with `answers` exclusive.
     unsafe {
@@ -207,17 +256,4 @@ pub fn divisor_index_list(image: &[u8], answers: &mut [u8]) -> u32 {
             answers.len(),
         )
     }
-}
-
-/// The bytes of words. The doors are for x86-64, where words stand low byte
-/// first in memory.
-pub(crate) fn bytes(words: &[u32]) -> &[u8] {
-    // SAFETY: the same memory, and a byte has no alignment and no bad values.
-    unsafe { slice::from_raw_parts(words.as_ptr().cast(), size_of_val(words)) }
-}
-
-/// The same, to be written.
-pub(crate) fn bytes_mut(words: &mut [u32]) -> &mut [u8] {
-    // SAFETY: as in `bytes`, and all bytes make good words.
-    unsafe { slice::from_raw_parts_mut(words.as_mut_ptr().cast(), size_of_val(words)) }
 }

@@ -42,8 +42,9 @@
 //! Write calls that do not wait for each other's answers into a [`MonomialBatch`]
 //! or a [`RatioBatch`], or ask [`MonomialIndex::contains_divisors`] and
 //! [`RatioMonomialIndex::find_reducers`]. The calls of a batch are served in
-//! order, each on what the earlier ones left. docs/DECISIONS.md has the
-//! measurements.
+//! order, each on what the earlier ones left. For a regular reduction, whose calls do
+//! wait for each other, [`Reducers`] asks ahead and keeps the answers.
+//! docs/DECISIONS.md has the measurements.
 //!
 //! # Code written for the original
 //!
@@ -72,7 +73,7 @@ mod refusal;
 
 pub use index::{
     Answers, Config, EntryNumber, MonomialBatch, MonomialIndex, Product, Ratio, RatioBatch,
-    RatioMonomialIndex, Reducer, ReducerKind, Refused, Signature, SignatureIndex,
+    RatioMonomialIndex, Reducer, ReducerKind, Reducers, Refused, Signature, SignatureIndex,
     StoredEntry, StoredMonomial, Ticket,
 };
 pub use refusal::{Refusal, UnknownNumber};
@@ -80,6 +81,6 @@ pub use refusal::{Refusal, UnknownNumber};
 /// The stack in bytes that any call of this crate may need, 1 MiB.
 ///
 /// It is the tree in the image that decides: one as deep as its 4,096 entries
-/// takes 976 KiB, a balanced one 16 KiB. Rust's threads have 2 MiB, if nothing
+/// takes 976 KiB, a balanced one some 20 KiB. Rust's threads have 2 MiB, if nothing
 /// else is asked for.
 pub const STACK: usize = 1 << 20;

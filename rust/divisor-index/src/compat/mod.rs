@@ -7,6 +7,10 @@
 //! used: masks are made in the image, by the powers of the elements that an index
 //! is made from.
 //!
+//! When to make the indexes anew is the solver's own: its `MaximumExponentsTracker`
+//! stays as it is, and `maybe_rebuild_structures` calls `new` of both with the elements,
+//! as before. An index that is full grows without it.
+//!
 //! A solver puts these in place of its modules and implements the traits for its
 //! own types, with the generic parameters that these have:
 //!
@@ -20,17 +24,64 @@
 //! - [`Element`] for `SignPoly`,
 //! - [`HasRatio`] for `Ratio`.
 //!
-//! `tests/compat.rs` has them, under the functions of the original's
-//! basis_calculator.rs. Each search lends a list of one call and pays for the
-//! check of the whole image (see [Cost](crate#cost)): this is the way to begin;
-//! the [batches](crate::RatioBatch) are the fast one. It needs up to
+//! With types cut down to the least, and without `Ratio`:
+//!
+//! ```
+//! use std::{cell::RefCell, rc::Rc};
+//! use divisor_index::{compat, Signature};
+//!
+//! type Monomial = Vec<(u16, i32)>;
+//!
+//! struct SignPoly {
+//!     idx: u32,
+//!     sign: Monomial,
+//!     terms: Vec<Monomial>,
+//! }
+//!
+//! impl compat::HasSignature for SignPoly {
+//!     type Monomial = Monomial;
+//!
+//!     fn signature(&self) -> Signature<'_, Monomial> {
+//!         Signature::new(self.idx, &self.sign)
+//!     }
+//! }
+//!
+//! impl compat::Element for SignPoly {
+//!     fn leading_monomial(&self) -> &Monomial {
+//!         &self.terms[0]
+//!     }
+//! }
+//!
+//! // x0^2 + x0 with signature e0, and x1·x0^2 + x1 with x1 · e1, which it reduces.
+//! let terms = vec![vec![(0, 2)], vec![(0, 1)]];
+//! let known = Rc::new(RefCell::new(SignPoly { idx: 0, sign: vec![], terms }));
+//! let terms = vec![vec![(1, 1), (0, 2)], vec![(1, 1)]];
+//! let poly = SignPoly { idx: 1, sign: vec![(1, 1)], terms };
+//!
+//! let index = compat::RatioMonomialIndex::new(2, (), &[Rc::clone(&known)]);
+//! let mut reducers = index.reducers(&poly);
+//! reducers.ask(&poly.terms);
+//! let reducer = reducers.find_a_reducer(&poly.terms[0]).unwrap();
+//! assert!(Rc::ptr_eq(&reducer, &known));
+//! assert!(reducers.find_a_reducer(&poly.terms[1]).is_none());
+//! assert_eq!(reducers.lists(), 1);
+//! ```
+//!
+//! `tests/compat.rs` has all of them, under the functions of the original's
+//! basis_calculator.rs and under its `regular_reduce`. Each search lends a list of
+//! one call and pays for the check of the whole image (see [Cost](crate#cost)): this
+//! is the way to begin. [`Reducers`] asks for all terms of a regular reduction in a
+//! few lists, with two lines of `regular_reduce` changed; for the other searches the
+//! [batches](crate::RatioBatch) are the fast way. Each needs up to
 //! [`STACK`](crate::STACK) bytes of stack.
 
 mod monomial_index;
 mod ratio_monomial_index;
+mod reducers;
 
 pub use monomial_index::MonomialIndex;
 pub use ratio_monomial_index::RatioMonomialIndex;
+pub use reducers::Reducers;
 
 use crate::{Config, Product, Ratio, Refusal, Signature};
 

@@ -38,6 +38,17 @@ impl<'a> Layout<'a> {
             .expect("the numbers of a sound image")
     }
 
+    /// Whether the maxima have grown, since the map of masks was made, by more than a
+    /// percentage of their present total.
+    pub fn has_grown_beyond_percentage(self, percentage: u8) -> bool {
+        let total = |first| {
+            let places = first..first + self.variables();
+            places.map(|place| u64::from(self.word(place))).sum::<u64>()
+        };
+        let (present, map) = (total(HEADER), total(HEADER + self.variables()));
+        present.saturating_sub(map) * 100 / present > u64::from(percentage)
+    }
+
     /// The leading monomial of an entry, or the monomial of a monomial index.
     pub fn lm(self, number: usize) -> StoredMonomial<'a> {
         self.monomial(self.entry(number))
@@ -59,7 +70,7 @@ impl<'a> Layout<'a> {
         (0..self.entries()).map(move |place| self.word(first + place) as usize)
     }
 
-    fn variables(self) -> usize {
+    pub fn variables(self) -> usize {
         self.word(2) as usize
     }
 

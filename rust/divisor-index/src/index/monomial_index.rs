@@ -78,6 +78,13 @@ impl<B: AsRef<[u8]> + AsMut<[u8]>> MonomialIndex<B> {
         self.0.layout().config()
     }
 
+    /// Whether the maxima have grown, since the index was opened or
+    /// [reopened](Self::reopened), by more than this percentage of their present total,
+    /// rounded down as in the original.
+    pub fn has_grown_beyond_percentage(&self, percentage: u8) -> bool {
+        self.0.layout().has_grown_beyond_percentage(percentage)
+    }
+
     /// The number of monomials.
     pub fn len(&self) -> usize {
         self.0.layout().entries()
@@ -124,8 +131,8 @@ impl<B: AsRef<[u8]> + AsMut<[u8]>> MonomialIndex<B> {
     /// The monomials in the order of the tree, as (id, power), ids falling: of
     /// each branch the less side before the other side.
     pub fn to_vec(&self) -> Result<Vec<Vec<(u16, i32)>>, Refusal> {
-        // The image has the same monomials among others.
-        let mut words = vec![0; self.image().len()];
+        let longest = 4 * (self.0.layout().variables() + 1);
+        let mut words = vec![0; longest * self.len()];
         Refusal::check(doors::divisor_index_list(self.image(), &mut words))?;
         Ok(split(&words, self.len()))
     }
@@ -144,6 +151,9 @@ impl<B: AsRef<[u8]> + AsMut<[u8]>> MonomialIndex<B> {
     /// A new index of another capacity, or with masks by other maxima, which holds
     /// the same monomials under the same numbers. They are read from the image.
     /// Its tree is built anew, so it may list them in another order.
+    ///
+    /// [`RatioMonomialIndex::reopened`](super::RatioMonomialIndex::reopened) says when
+    /// the original makes its indexes anew.
     ///
     /// Refusals: [`Full`](Refusal::Full) where they are more than the capacity,
     /// [`NotCanonical`](Refusal::NotCanonical) where one has a variable that the

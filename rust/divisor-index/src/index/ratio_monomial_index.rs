@@ -2,10 +2,11 @@ use std::fmt;
 
 use super::{
     batch::{Answers, RatioBatch},
+    calls::CallList,
     config::Kind,
     layout::StoredEntry,
     store::{Refused, Store},
-    Config, EntryNumber, Product, Ratio, Reducer, Signature,
+    Config, EntryNumber, Product, Ratio, Reducer, Reducers, Signature,
 };
 use crate::Refusal;
 
@@ -90,6 +91,13 @@ impl<B: AsRef<[u8]> + AsMut<[u8]>> RatioMonomialIndex<B> {
         self.0.layout().config()
     }
 
+    /// Whether the maxima have grown, since the index was opened or
+    /// [reopened](Self::reopened), by more than this percentage of their present total,
+    /// rounded down as in the original.
+    pub fn has_grown_beyond_percentage(&self, percentage: u8) -> bool {
+        self.0.layout().has_grown_beyond_percentage(percentage)
+    }
+
     /// The number of entries.
     pub fn len(&self) -> usize {
         self.0.layout().entries()
@@ -151,6 +159,15 @@ impl<B: AsRef<[u8]> + AsMut<[u8]>> RatioMonomialIndex<B> {
         Ok(tickets.into_iter().map(|t| answers.get(t)).collect())
     }
 
+    /// The reducers of one regular reduction, that of a polynomial with this
+    /// signature: many terms are asked for at once, and none twice.
+    pub fn reducers<S>(&mut self, signature: Signature<'_, S>) -> Reducers<'_, B>
+    where
+        S: Product + ?Sized,
+    {
+        Reducers::new(self, signature)
+    }
+
     /// Of the entries whose leading monomial divides, with a ratio above this one,
     /// one with the largest ratio.
     ///
@@ -203,6 +220,16 @@ impl<B: AsRef<[u8]> + AsMut<[u8]>> RatioMonomialIndex<B> {
         self.0.run(&batch.0)
     }
 
+    /// Runs a list of calls, and gives one answer word a call.
+    pub(super) fn answer_words(&mut self, calls: &CallList) -> Result<Vec<u32>, Refusal> {
+        self.0.answer_words(calls)
+    }
+
+    /// The number of variables.
+    pub(super) fn variables(&self) -> u32 {
+        self.0.layout().variables() as u32
+    }
+
     /// The entries in the order of their numbers.
     pub fn entries(&self) -> impl Iterator<Item = StoredEntry<'_>> {
         let layout = self.0.layout();
@@ -213,6 +240,26 @@ impl<B: AsRef<[u8]> + AsMut<[u8]>> RatioMonomialIndex<B> {
     /// the same entries under the same numbers. They are read from the image. Its
     /// tree is built anew, so of several right answers to a search it may give
     /// another.
+    ///
+    /// The original's `maybe_rebuild_structures` makes both indexes anew where the
+    /// maxima have grown beyond 20 percent. So does
+    ///
+    /// ```
+    /// # use divisor_index::{Config, RatioMonomialIndex, Refusal, Signature};
+    /// # let mut index = RatioMonomialIndex::open(&Config::new(2, 10)?);
+    /// # index.insert(Signature::new(0, &[(0, 3)]), &[(1, 2)])?;
+    /// if index.has_grown_beyond_percentage(20) {
+    ///     index = index.reopened(&index.config())?;
+    /// }
+    /// # assert_eq!(index.config().maxima(), [3, 2]);
+    /// # assert!(!index.has_grown_beyond_percentage(0));
+    /// # Ok::<(), Refusal>(())
+    /// ```
+    ///
+    /// The maxima of an index are those of the signatures and leading monomials that
+    /// it was given. The original tracks all terms, and for both indexes together: a
+    /// solver that keeps its own `MaximumExponentsTracker` reopens with
+    /// [`Config::with_maxima`] of its maxima when that one says so.
     ///
     /// Refusals: [`Full`](Refusal::Full) where they are more than the capacity,
     /// [`NotCanonical`](Refusal::NotCanonical) where one has a variable that the
