@@ -1,0 +1,68 @@
+//! The tables, one after the other.
+
+mod calls;
+mod doors;
+mod labels;
+mod listing;
+mod lists;
+mod memory;
+mod opening;
+mod operations;
+mod pairs;
+mod question3;
+
+use crate::timing::Rounds;
+
+/// One table or more on one subject.
+pub struct Part {
+    pub name: &'static str,
+    pub run: fn(Rounds) -> Report,
+}
+
+/// What a part has found.
+pub struct Report {
+    /// Tables in Markdown.
+    pub text: String,
+    /// Plots as SVG, each with the name of its file.
+    pub plots: Vec<(&'static str, String)>,
+}
+
+impl Report {
+    fn new(text: impl ToString) -> Self {
+        Report {
+            text: text.to_string(),
+            plots: vec![],
+        }
+    }
+}
+
+pub const PARTS: [Part; 7] = [
+    Part {
+        name: "calls",
+        run: calls::run,
+    },
+    Part {
+        name: "lists",
+        run: lists::run,
+    },
+    Part {
+        name: "question3",
+        run: question3::run,
+    },
+    Part {
+        name: "opening",
+        run: opening::run,
+    },
+    Part {
+        name: "listing",
+        run: listing::run,
+    },
+    Part {
+        name: "memory",
+        run: memory::run,
+    },
+    Part {
+        name: "doors",
+        run: doors::run,
+    },
+];
