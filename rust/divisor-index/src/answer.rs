@@ -2,7 +2,9 @@
 
 use std::cmp::Ordering;
 
-use crate::{doors::bytes_mut, Refusal};
+use bytemuck::cast_slice_mut;
+
+use crate::Refusal;
 
 /// A bare word, or a kind 4 word.
 pub type Word = Answer<1>;
@@ -17,7 +19,7 @@ impl<const ROOM: usize> Answer<ROOM> {
     /// Calls a door with room for the answer.
     pub fn of(door: impl FnOnce(&mut [u8]) -> u32) -> Result<Self, Refusal> {
         let mut out = [0; ROOM];
-        Refusal::check(door(bytes_mut(&mut out)))?;
+        Refusal::check(door(cast_slice_mut(&mut out)))?;
         Ok(Answer(out))
     }
 }

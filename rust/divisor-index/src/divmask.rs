@@ -1,10 +1,8 @@
 //! Divmasks, with the original's names.
 
-use crate::{
-    answer::Word,
-    doors::{self, bytes, bytes_mut},
-    Refusal,
-};
+use bytemuck::{cast_slice, cast_slice_mut};
+
+use crate::{answer::Word, doors, Refusal};
 
 /// Makes masks by the maxima that it was made from.
 #[derive(Debug, Clone)]
@@ -24,7 +22,12 @@ impl DivMap {
     pub fn map(&self, monomial: &[u32]) -> Result<DivMask, Refusal> {
         let variables = self.maxima.len() as u32;
         let made = Word::of(|out| {
-            doors::divisor_index_divmask_mask(variables, bytes(&self.maxima), bytes(monomial), out)
+            doors::divisor_index_divmask_mask(
+                variables,
+                cast_slice(&self.maxima),
+                cast_slice(monomial),
+                out,
+            )
         })?;
         Ok(DivMask(made.bare()))
     }
@@ -90,15 +93,21 @@ impl MaximumExponentsTracker {
     /// the first variable that is not above its maximum.
     pub fn update(&mut self, monomial: &[u32]) -> Result<(), Refusal> {
         let variables = self.len() as u32;
-        let maxima = bytes_mut(&mut self.max_exponents);
-        Refusal::check(doors::divisor_index_divmask_update(variables, maxima, bytes(monomial)))
+        let maxima = cast_slice_mut(&mut self.max_exponents);
+        Refusal::check(doors::divisor_index_divmask_update(
+            variables,
+            maxima,
+            cast_slice(monomial),
+        ))
     }
 
     /// Whether the growth is above a percentage of the present total.
     pub fn has_grown_beyond_percentage(&self, percentage: u8) -> Result<bool, Refusal> {
         let variables = self.len() as u32;
-        let maxima = bytes(&self.max_exponents);
-        let made = Word::of(|out| doors::divisor_index_divmask_growth(variables, maxima, percentage, out))?;
+        let maxima = cast_slice(&self.max_exponents);
+        let made = Word::of(|out| {
+            doors::divisor_index_divmask_growth(variables, maxima, percentage, out)
+        })?;
         Ok(made.yes())
     }
 }

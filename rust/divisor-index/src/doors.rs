@@ -4,8 +4,6 @@
 //! at the front of `out`, or the number of a [`Refusal`](crate::Refusal), and
 //! then no byte is changed. Where a number is the answer, it is said.
 
-use std::slice;
-
 use divisor_index_sys as sys;
 
 fn on_two(door: sys::OnTwo, variables: u32, a: &[u8], b: &[u8], out: &mut [u8]) -> u32 {
@@ -34,13 +32,35 @@ pub fn divisor_index_monomial_mul(variables: u32, a: &[u8], b: &[u8], out: &mut 
 }
 
 /// The quotient a / b, or a kind 4 word with payload 0 for none. Refusals: 1, 7, 5.
-pub fn divisor_index_monomial_whole_division(variables: u32, a: &[u8], b: &[u8], out: &mut [u8]) -> u32 {
-    on_two(sys::divisor_index_monomial_whole_division, variables, a, b, out)
+pub fn divisor_index_monomial_whole_division(
+    variables: u32,
+    a: &[u8],
+    b: &[u8],
+    out: &mut [u8],
+) -> u32 {
+    on_two(
+        sys::divisor_index_monomial_whole_division,
+        variables,
+        a,
+        b,
+        out,
+    )
 }
 
 /// The ratio a / b. Refusals: 1, 7, 5.
-pub fn divisor_index_monomial_fraction_division(variables: u32, a: &[u8], b: &[u8], out: &mut [u8]) -> u32 {
-    on_two(sys::divisor_index_monomial_fraction_division, variables, a, b, out)
+pub fn divisor_index_monomial_fraction_division(
+    variables: u32,
+    a: &[u8],
+    b: &[u8],
+    out: &mut [u8],
+) -> u32 {
+    on_two(
+        sys::divisor_index_monomial_fraction_division,
+        variables,
+        a,
+        b,
+        out,
+    )
 }
 
 /// Whether a divides b: a kind 4 word, yes 1, no 0. Refusals: 1, 7, 5.
@@ -69,8 +89,19 @@ pub fn divisor_index_ratio_cmp(variables: u32, a: &[u8], b: &[u8], out: &mut [u8
 }
 
 /// The mask of a monomial, as a bare word. Refusals: 1, 7, 5.
-pub fn divisor_index_divmask_mask(variables: u32, maxima: &[u8], monomial: &[u8], out: &mut [u8]) -> u32 {
-    on_two(sys::divisor_index_divmask_mask, variables, maxima, monomial, out)
+pub fn divisor_index_divmask_mask(
+    variables: u32,
+    maxima: &[u8],
+    monomial: &[u8],
+    out: &mut [u8],
+) -> u32 {
+    on_two(
+        sys::divisor_index_divmask_mask,
+        variables,
+        maxima,
+        monomial,
+        out,
+    )
 }
 
 /// 0 not divisible, 1 unsure; it refuses nothing.
@@ -95,7 +126,12 @@ pub fn divisor_index_divmask_update(variables: u32, maxima: &mut [u8], monomial:
 
 /// Whether the maxima have grown beyond a percentage: a kind 4 word, yes 1, no 0.
 /// Refusals: 1, 5.
-pub fn divisor_index_divmask_growth(variables: u32, maxima: &[u8], percentage: u8, out: &mut [u8]) -> u32 {
+pub fn divisor_index_divmask_growth(
+    variables: u32,
+    maxima: &[u8],
+    percentage: u8,
+    out: &mut [u8],
+) -> u32 {
     // SAFETY: as in `on_two`.
     unsafe {
         sys::divisor_index_divmask_growth(
@@ -118,7 +154,9 @@ pub fn divisor_index_fast_compare_length(variables: u32, capacity: u32) -> u32 {
 /// Writes an empty label map. Refusals: 1, 2.
 pub fn divisor_index_fast_compare_open(variables: u32, capacity: u32, image: &mut [u8]) -> u32 {
     // SAFETY: as in `on_two`, with `image` exclusive.
-    unsafe { sys::divisor_index_fast_compare_open(variables, capacity, image.as_mut_ptr(), image.len()) }
+    unsafe {
+        sys::divisor_index_fast_compare_open(variables, capacity, image.as_mut_ptr(), image.len())
+    }
 }
 
 /// The label of a value, or a refusal (3, 7, 8, 10) in the upper 32 bits.
@@ -152,9 +190,7 @@ pub fn divisor_index_check(image: &[u8]) -> u32 {
 /// monomial index, 1 a ratio index.
 pub fn divisor_index_length(kind: u32, variables: u32, capacity: u32, maxima: &[u8]) -> u32 {
     // SAFETY: as in `on_two`, and nothing is written.
-    unsafe {
-        sys::divisor_index_length(kind, variables, capacity, maxima.as_ptr(), maxima.len())
-    }
+    unsafe { sys::divisor_index_length(kind, variables, capacity, maxima.as_ptr(), maxima.len()) }
 }
 
 /// Writes the image of an index that holds nothing. Refusals: 1, 2.
@@ -207,17 +243,4 @@ pub fn divisor_index_list(image: &[u8], answers: &mut [u8]) -> u32 {
             answers.len(),
         )
     }
-}
-
-/// The bytes of words. The doors are for x86-64, where words stand low byte
-/// first in memory.
-pub(crate) fn bytes(words: &[u32]) -> &[u8] {
-    // SAFETY: the same memory, and a byte has no alignment and no bad values.
-    unsafe { slice::from_raw_parts(words.as_ptr().cast(), size_of_val(words)) }
-}
-
-/// The same, to be written.
-pub(crate) fn bytes_mut(words: &mut [u32]) -> &mut [u8] {
-    // SAFETY: as in `bytes`, and all bytes make good words.
-    unsafe { slice::from_raw_parts_mut(words.as_mut_ptr().cast(), size_of_val(words)) }
 }

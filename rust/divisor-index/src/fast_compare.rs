@@ -1,13 +1,14 @@
 //! The label map, with the original's names.
 
-use crate::{
-    doors::{self, bytes},
-    Refusal,
-};
+use bytemuck::cast_slice;
+
+use crate::{doors, Refusal};
 
 /// The length in bytes of a map's image.
 pub fn length(variables: u32, capacity: u32) -> Result<usize, Refusal> {
-    Refusal::or_length(doors::divisor_index_fast_compare_length(variables, capacity))
+    Refusal::or_length(doors::divisor_index_fast_compare_length(
+        variables, capacity,
+    ))
 }
 
 /// Maps values, which are a signature index and a ratio, to numbers in the same
@@ -51,12 +52,18 @@ impl<I: AsRef<[u8]> + AsMut<[u8]>> ComparerMap<I> {
     /// [`Refusal::NoLabel`] a rebuild is needed.
     pub fn get_comparer(&mut self, index: u32, ratio: &[u32]) -> Result<u32, Refusal> {
         let image = self.image.as_mut();
-        Refusal::or_answer(doors::divisor_index_fast_compare_get_comparer(image, index, bytes(ratio)))
+        Refusal::or_answer(doors::divisor_index_fast_compare_get_comparer(
+            image,
+            index,
+            cast_slice(ratio),
+        ))
     }
 
     /// Spaces the comparers of all values evenly. Those given before no longer
     /// count.
     pub fn rebuild(&mut self) -> Result<(), Refusal> {
-        Refusal::check(doors::divisor_index_fast_compare_rebuild(self.image.as_mut()))
+        Refusal::check(doors::divisor_index_fast_compare_rebuild(
+            self.image.as_mut(),
+        ))
     }
 }

@@ -72,7 +72,7 @@ mod refusal;
 
 pub use index::{
     Answers, Config, EntryNumber, MonomialBatch, MonomialIndex, Product, Ratio, RatioBatch,
-    RatioMonomialIndex, Reducer, ReducerKind, Refused, Signature, SignatureIndex,
+    RatioMonomialIndex, Reducer, ReducerKind, Reducers, Refused, Signature, SignatureIndex,
     StoredEntry, StoredMonomial, Ticket,
 };
 pub use refusal::{Refusal, UnknownNumber};

@@ -101,7 +101,9 @@ impl TryFrom<u32> for Refusal {
     type Error = UnknownNumber;
 
     fn try_from(number: u32) -> Result<Self, UnknownNumber> {
-        let known = Self::ALL.into_iter().find(|refusal| refusal.number() == number);
+        let known = Self::ALL
+            .into_iter()
+            .find(|refusal| refusal.number() == number);
         known.ok_or(UnknownNumber(number))
     }
 }

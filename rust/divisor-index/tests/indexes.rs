@@ -1,10 +1,13 @@
 //! The two indexes: each method found and not found, refusals that change
 //! nothing, batches, lent buffers, and indexes built anew.
 
+mod drawn;
+
 use divisor_index::{
-    Config, EntryNumber, MonomialBatch, MonomialIndex, Product, Ratio, RatioBatch,
-    RatioMonomialIndex, Reducer, ReducerKind, Refusal, Signature,
+    Config, EntryNumber, MonomialBatch, MonomialIndex, Ratio, RatioBatch, RatioMonomialIndex,
+    Reducer, ReducerKind, Refusal, Signature,
 };
+use drawn::{divides, drawn, quotient, ratio_key};
 
 type Pairs<'a> = &'a [(u16, i32)];
 
@@ -401,33 +404,6 @@ fn lent_buffers() {
     assert_eq!((owned.len(), owned.image().len()), (2, length));
 }
 
-/// Monomials in three variables, powers up to 5, the same each time.
-fn drawn(count: usize, mut seed: u32) -> Vec<Vec<(u16, i32)>> {
-    let mut power = || {
-        seed = seed.wrapping_mul(1_664_525).wrapping_add(1_013_904_223);
-        (seed >> 24) as i32 % 6
-    };
-    let monomial = |_| {
-        let all = [2, 1, 0].map(|id| (id, power()));
-        all.into_iter().filter(|(_, power)| *power > 0).collect()
-    };
-    (0..count).map(monomial).collect()
-}
-
-fn power_of(monomial: &impl Product, id: u16) -> i32 {
-    let found = monomial.variables().find(|variable| variable.0 == id);
-    found.map_or(0, |variable| variable.1)
-}
-
-/// Powers by variable.
-fn dense(monomial: &impl Product) -> [i32; 3] {
-    [0, 1, 2].map(|id| power_of(monomial, id))
-}
-
-fn divides(a: &impl Product, b: &impl Product) -> bool {
-    (0..3).all(|id| power_of(a, id) <= power_of(b, id))
-}
-
 #[test]
 fn reopened_monomial_indexes_answer_the_same() {
     let mut old = monomial_index(3, 200);
@@ -455,20 +431,6 @@ fn reopened_monomial_indexes_answer_the_same() {
     listed.sort();
     sorted.sort();
     assert_eq!(listed, sorted);
-}
-
-/// The ratio of a signature and a leading monomial, as a key that sorts as ratios
-/// do: index, total, then the smaller power at the smallest id is larger.
-fn ratio_key(index: u32, signature: &impl Product, lm: &impl Product) -> (u32, i32, [i32; 3]) {
-    let (over, under) = (dense(signature), dense(lm));
-    let powers = [0, 1, 2].map(|id| over[id] - under[id]);
-    (index, powers.iter().sum(), powers.map(|power| -power))
-}
-
-fn quotient(signature: &impl Product, lm: &impl Product) -> Vec<(u16, i32)> {
-    let (over, under) = (dense(signature), dense(lm));
-    let all = [2u16, 1, 0].map(|id| (id, over[id as usize] - under[id as usize]));
-    all.into_iter().filter(|(_, power)| *power != 0).collect()
 }
 
 /// What searches must find, whatever the tree: the kind of a reducer, and the

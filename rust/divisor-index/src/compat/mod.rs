@@ -21,16 +21,20 @@
 //! - [`HasRatio`] for `Ratio`.
 //!
 //! `tests/compat.rs` has them, under the functions of the original's
-//! basis_calculator.rs. Each search lends a list of one call and pays for the
-//! check of the whole image (see [Cost](crate#cost)): this is the way to begin;
-//! the [batches](crate::RatioBatch) are the fast one. It needs up to
+//! basis_calculator.rs and under its `regular_reduce`. Each search lends a list of
+//! one call and pays for the check of the whole image (see [Cost](crate#cost)): this
+//! is the way to begin. [`Reducers`] asks for all terms of a regular reduction in a
+//! few lists, with two lines of `regular_reduce` changed; for the other searches the
+//! [batches](crate::RatioBatch) are the fast way. Each needs up to
 //! [`STACK`](crate::STACK) bytes of stack.
 
 mod monomial_index;
 mod ratio_monomial_index;
+mod reducers;
 
 pub use monomial_index::MonomialIndex;
 pub use ratio_monomial_index::RatioMonomialIndex;
+pub use reducers::Reducers;
 
 use crate::{Config, Product, Ratio, Refusal, Signature};
 

@@ -1,6 +1,9 @@
-use std::{cell::RefCell, rc::Rc};
+use std::{
+    cell::{RefCell, RefMut},
+    rc::Rc,
+};
 
-use super::{doubled, served, Element, HasRatio, HasSignature, Maxima};
+use super::{doubled, served, Element, HasRatio, HasSignature, Maxima, Reducers};
 use crate::{EntryNumber, Product, RatioBatch, Refusal};
 
 /// The original's `RatioMonomialIndex`, over its `SignPoly` or any other
@@ -70,7 +73,7 @@ impl<T: Element> RatioMonomialIndex<T> {
         s_lm_ratio: &impl HasRatio,
         lm: impl Product,
     ) -> Option<Rc<RefCell<T>>> {
-        let mut index = self.index.borrow_mut();
+        let mut index = self.index();
         let found = index.find_high_base_divisor(s_lm_ratio.ratio(), &lm);
         self.elem(served(found))
     }
@@ -82,7 +85,7 @@ impl<T: Element> RatioMonomialIndex<T> {
     ///
     /// Where the port refuses: no signature.
     pub fn find_low_base_divisor(&self, sign_poly: &impl HasSignature) -> Option<Rc<RefCell<T>>> {
-        let mut index = self.index.borrow_mut();
+        let mut index = self.index();
         let found = index.find_low_base_divisor(sign_poly.signature());
         self.elem(served(found))
     }
@@ -98,9 +101,15 @@ impl<T: Element> RatioMonomialIndex<T> {
         s_lm_ratio: &impl HasRatio,
         lm: impl Product,
     ) -> Option<Rc<RefCell<T>>> {
-        let mut index = self.index.borrow_mut();
+        let mut index = self.index();
         let found = index.find_a_reducer(s_lm_ratio.ratio(), &lm);
         self.elem(served(found).map(|reducer| reducer.entry))
+    }
+
+    /// The reducers of one regular reduction, that of a polynomial with this
+    /// signature.
+    pub fn reducers(&self, sign: &impl HasSignature) -> Reducers<'_, T> {
+        Reducers::new(self, sign)
     }
 
     /// Whether an element of the same index, whose signature divides, has a ratio
@@ -110,11 +119,16 @@ impl<T: Element> RatioMonomialIndex<T> {
     ///
     /// Where the port refuses: no signature, or no monomial.
     pub fn test_singular_criterion(&self, sign: &impl HasSignature, lm: &impl Product) -> bool {
-        let mut index = self.index.borrow_mut();
+        let mut index = self.index();
         served(index.test_singular_criterion(sign.signature(), lm))
     }
 
-    fn elem(&self, found: Option<EntryNumber>) -> Option<Rc<RefCell<T>>> {
+    /// The index itself, for a search.
+    pub(super) fn index(&self) -> RefMut<'_, crate::RatioMonomialIndex> {
+        self.index.borrow_mut()
+    }
+
+    pub(super) fn elem(&self, found: Option<EntryNumber>) -> Option<Rc<RefCell<T>>> {
         found.map(|entry| Rc::clone(&self.elems[entry.index()]))
     }
 }

@@ -24,7 +24,7 @@ pub struct Ticket<T> {
 #[derive(Debug, Clone)]
 pub struct Answers {
     batch: u64,
-    words: Vec<u8>,
+    words: Vec<u32>,
 }
 
 impl Answers {
@@ -36,14 +36,13 @@ impl Answers {
     /// On the ticket of another batch, or of a call written after the run.
     pub fn get<T: Reply>(&self, ticket: Ticket<T>) -> Result<T, Refusal> {
         assert_eq!(ticket.batch, self.batch, "a ticket of another batch");
-        let word = self.words.chunks_exact(4).nth(ticket.place);
-        let word = word.expect("the ticket of a call that was run");
-        read(word.try_into().expect("four bytes"))
+        let word = self.words.get(ticket.place);
+        read(*word.expect("the ticket of a call that was run"))
     }
 
     /// The number of answers.
     pub fn len(&self) -> usize {
-        self.words.len() / 4
+        self.words.len()
     }
 
     /// Whether no call was run.
@@ -77,7 +76,7 @@ impl Batch {
     }
 
     /// The answers of this batch, from their words.
-    pub fn answers(&self, words: Vec<u8>) -> Answers {
+    pub fn answers(&self, words: Vec<u32>) -> Answers {
         Answers {
             batch: self.number,
             words,

@@ -1,31 +1,23 @@
-use super::{Product, Ratio, Signature, SignatureIndex};
+use super::{
+    words::{push_monomial, push_quotient, word, CALL, INDEX},
+    Product, Ratio, Signature, SignatureIndex,
+};
 
-/// A list of calls, as the bytes that are lent.
+/// A list of calls, as the words that are lent.
 #[derive(Debug, Clone, Default)]
 pub struct CallList {
-    bytes: Vec<u8>,
+    words: Vec<u32>,
     calls: usize,
 }
 
-/// A word of no kind that a body can have. It stands for numbers that no word
-/// can hold, so that the call is refused, and neither cut nor split.
-const NO_WORD: u32 = 0xF000_0000;
-
-/// The kinds of words.
-const END: u32 = 0;
-const VARIABLE: u32 = 1;
-const RATIO_VARIABLE: u32 = 2;
-const INDEX: u32 = 3;
-const CALL: u32 = 6;
-
 impl CallList {
     pub fn clear(&mut self) {
-        self.bytes.clear();
+        self.words.clear();
         self.calls = 0;
     }
 
-    pub fn bytes(&self) -> &[u8] {
-        &self.bytes
+    pub fn words(&self) -> &[u32] {
+        &self.words
     }
 
     /// The number of calls.
@@ -57,6 +49,11 @@ impl CallList {
         self.call(3).ratio(ratio).monomial(lm);
     }
 
+    /// The same, from words as they stand.
+    pub fn find_a_reducer_of_words(&mut self, index: SignatureIndex, quotient: &[u32], lm: &[u32]) {
+        self.call(3).index(index).push(quotient).push(lm);
+    }
+
     pub fn find_high_base_divisor<R, L>(&mut self, ratio: Ratio<'_, R>, lm: &L)
     where
         R: Product + ?Sized,
@@ -82,7 +79,7 @@ impl CallList {
 
     fn call(&mut self, number: u32) -> &mut Self {
         self.calls += 1;
-        self.word(word(CALL, number))
+        self.push(&[word(CALL, number)])
     }
 
     fn signature<S: Product + ?Sized>(&mut self, signature: Signature<'_, S>) -> &mut Self {
@@ -90,50 +87,23 @@ impl CallList {
     }
 
     fn ratio<R: Product + ?Sized>(&mut self, ratio: Ratio<'_, R>) -> &mut Self {
-        let variables = ratio.monomial.variables();
-        self.index(ratio.index).product(
-            variables.map(|(id, power)| variable(RATIO_VARIABLE, id, power.saturating_add(32_768))),
-        )
+        self.index(ratio.index);
+        push_quotient(&mut self.words, ratio.monomial);
+        self
     }
 
     fn monomial<M: Product + ?Sized>(&mut self, monomial: &M) -> &mut Self {
-        let variables = monomial.variables();
-        self.product(variables.map(|(id, power)| variable(VARIABLE, id, power)))
+        push_monomial(&mut self.words, monomial);
+        self
     }
 
     fn index(&mut self, index: SignatureIndex) -> &mut Self {
-        self.word(word(INDEX, index.get()))
+        self.push(&[word(INDEX, index.get())])
     }
 
-    /// The variables' words, and the end word with their number.
-    fn product(&mut self, variables: impl Iterator<Item = u32>) -> &mut Self {
-        let mut count = 0;
-        for variable in variables {
-            self.word(variable);
-            count += 1;
-        }
-        self.word(word(END, count))
-    }
-
-    fn word(&mut self, word: u32) -> &mut Self {
-        self.bytes.extend_from_slice(&word.to_le_bytes());
+    fn push(&mut self, words: &[u32]) -> &mut Self {
+        self.words.extend_from_slice(words);
         self
-    }
-}
-
-/// A word, where the payload has room in it.
-fn word(kind: u32, payload: u32) -> u32 {
-    match payload >> 28 {
-        0 => kind << 28 | payload,
-        _ => NO_WORD,
-    }
-}
-
-/// A variable's word, where id and power have room in it.
-fn variable(kind: u32, id: u16, power: i32) -> u32 {
-    match u16::try_from(power) {
-        Ok(power) => word(kind, u32::from(id) << 16 | u32::from(power)),
-        Err(_) => NO_WORD,
     }
 }
 
@@ -145,10 +115,7 @@ mod tests {
     fn words(write: impl FnOnce(&mut CallList)) -> Vec<u32> {
         let mut calls = CallList::default();
         write(&mut calls);
-        let words = calls.bytes().chunks_exact(4);
-        words
-            .map(|word| u32::from_le_bytes(word.try_into().unwrap()))
-            .collect()
+        calls.words
     }
 
     /// Document 01's list: insert x0^2; contained x0^3; contained x1.
@@ -177,21 +144,13 @@ mod tests {
         assert_eq!(list, [&[0x6000_0002], &signed[..], &lm_words].concat());
         let list = words(|calls| calls.find_a_reducer(ratio, lm));
         assert_eq!(list, [&[0x6000_0003], &below[..], &lm_words].concat());
+        let list = words(|calls| calls.find_a_reducer_of_words(5.into(), &below[1..], &lm_words));
+        assert_eq!(list, [&[0x6000_0003], &below[..], &lm_words].concat());
         let list = words(|calls| calls.find_high_base_divisor(ratio, lm));
         assert_eq!(list, [&[0x6000_0004], &below[..], &lm_words].concat());
         let list = words(|calls| calls.find_low_base_divisor(signature));
         assert_eq!(list, [&[0x6000_0005], &signed[..]].concat());
         let list = words(|calls| calls.test_singular_criterion(signature, lm));
         assert_eq!(list, [&[0x6000_0006], &signed[..], &lm_words].concat());
-    }
-
-    #[test]
-    fn what_no_word_holds() {
-        assert_eq!(variable(VARIABLE, 4095, 0xFFFF), 0x1FFF_FFFF);
-        assert_eq!(variable(VARIABLE, 4096, 1), NO_WORD);
-        assert_eq!(variable(VARIABLE, 0, 0x1_0000), NO_WORD);
-        assert_eq!(variable(VARIABLE, 0, -1), NO_WORD);
-        assert_eq!(word(INDEX, 0x0FFF_FFFF), 0x3FFF_FFFF);
-        assert_eq!(word(INDEX, 0x3000_0000), NO_WORD);
     }
 }

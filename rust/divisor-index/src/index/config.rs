@@ -1,7 +1,6 @@
-use crate::{
-    doors::{self, bytes},
-    Refusal,
-};
+use bytemuck::cast_slice;
+
+use crate::{doors, Refusal};
 
 /// The two kinds of index, with their numbers at the doors.
 #[derive(Debug, Clone, Copy, PartialEq, Eq)]
@@ -89,7 +88,7 @@ impl Config {
     }
 
     fn ask_length(&self, kind: Kind) -> Result<usize, Refusal> {
-        let maxima = bytes(&self.maxima);
+        let maxima = cast_slice(&self.maxima);
         Refusal::or_length(doors::divisor_index_length(
             kind as u32,
             self.variables,
@@ -100,7 +99,7 @@ impl Config {
 
     /// Opens an index in these bytes.
     pub(super) fn open(&self, kind: Kind, image: &mut [u8]) -> Result<(), Refusal> {
-        let maxima = bytes(&self.maxima);
+        let maxima = cast_slice(&self.maxima);
         Refusal::check(doors::divisor_index_open(
             kind as u32,
             self.variables,

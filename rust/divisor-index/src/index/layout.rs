@@ -59,7 +59,7 @@ impl<'a> Layout<'a> {
         (0..self.entries()).map(move |place| self.word(first + place) as usize)
     }
 
-    fn variables(self) -> usize {
+    pub fn variables(self) -> usize {
         self.word(2) as usize
     }
 

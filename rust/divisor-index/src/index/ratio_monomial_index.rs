@@ -2,10 +2,11 @@ use std::fmt;
 
 use super::{
     batch::{Answers, RatioBatch},
+    calls::CallList,
     config::Kind,
     layout::StoredEntry,
     store::{Refused, Store},
-    Config, EntryNumber, Product, Ratio, Reducer, Signature,
+    Config, EntryNumber, Product, Ratio, Reducer, Reducers, Signature,
 };
 use crate::Refusal;
 
@@ -151,6 +152,15 @@ impl<B: AsRef<[u8]> + AsMut<[u8]>> RatioMonomialIndex<B> {
         Ok(tickets.into_iter().map(|t| answers.get(t)).collect())
     }
 
+    /// The reducers of one regular reduction, that of a polynomial with this
+    /// signature: many terms are asked for at once, and none twice.
+    pub fn reducers<S>(&mut self, signature: Signature<'_, S>) -> Reducers<'_, B>
+    where
+        S: Product + ?Sized,
+    {
+        Reducers::new(self, signature)
+    }
+
     /// Of the entries whose leading monomial divides, with a ratio above this one,
     /// one with the largest ratio.
     ///
@@ -201,6 +211,16 @@ impl<B: AsRef<[u8]> + AsMut<[u8]>> RatioMonomialIndex<B> {
     /// Runs a batch as one list.
     pub fn run(&mut self, batch: &RatioBatch) -> Result<Answers, Refusal> {
         self.0.run(&batch.0)
+    }
+
+    /// Runs a list of calls, and gives one answer word a call.
+    pub(super) fn answer_words(&mut self, calls: &CallList) -> Result<Vec<u32>, Refusal> {
+        self.0.answer_words(calls)
+    }
+
+    /// The number of variables.
+    pub(super) fn variables(&self) -> u32 {
+        self.0.layout().variables() as u32
     }
 
     /// The entries in the order of their numbers.

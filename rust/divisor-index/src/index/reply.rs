@@ -106,8 +106,7 @@ impl Reply for Option<Reducer> {
 }
 
 /// Reads an answer word: kind 4 is an answer, kind 5 a refusal.
-pub fn read<T: Reply>(word: [u8; 4]) -> Result<T, Refusal> {
-    let word = u32::from_le_bytes(word);
+pub fn read<T: Reply>(word: u32) -> Result<T, Refusal> {
     match kind(word) {
         4 => Ok(T::of(payload(word))),
         _ => Err(Refusal::try_from(payload(word)).expect("an answer word")),

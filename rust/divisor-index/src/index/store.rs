@@ -2,6 +2,8 @@
 
 use std::{error, fmt};
 
+use bytemuck::{cast_slice, cast_slice_mut};
+
 use super::{
     batch::{Answers, Batch},
     calls::CallList,
@@ -104,22 +106,27 @@ impl<B: AsRef<[u8]> + AsMut<[u8]>> Store<B> {
     pub fn one<T: Reply>(&mut self, write: impl FnOnce(&mut CallList)) -> Result<T, Refusal> {
         self.calls.clear();
         write(&mut self.calls);
-        let mut answer = [0; 4];
+        let mut answer = [0];
         run(self.buffer.as_mut(), &self.calls, &mut answer)?;
-        read(answer)
+        read(answer[0])
     }
 
     /// Runs a batch as one list.
     pub fn run(&mut self, batch: &Batch) -> Result<Answers, Refusal> {
-        let calls = batch.calls();
-        let mut answers = vec![0; 4 * calls.len()];
+        Ok(batch.answers(self.answer_words(batch.calls())?))
+    }
+
+    /// Runs a list, and gives one answer word a call.
+    pub fn answer_words(&mut self, calls: &CallList) -> Result<Vec<u32>, Refusal> {
+        let mut answers = vec![0; calls.len()];
         run(self.buffer.as_mut(), calls, &mut answers)?;
-        Ok(batch.answers(answers))
+        Ok(answers)
     }
 }
 
-fn run(image: &mut [u8], calls: &CallList, answers: &mut [u8]) -> Result<(), Refusal> {
-    Refusal::check(doors::divisor_index_run(image, calls.bytes(), answers))
+fn run(image: &mut [u8], calls: &CallList, answers: &mut [u32]) -> Result<(), Refusal> {
+    let (list, answers) = (cast_slice(calls.words()), cast_slice_mut(answers));
+    Refusal::check(doors::divisor_index_run(image, list, answers))
 }
 
 /// Question 3, and whether the image is of this kind, else 6: none of the kind's

@@ -5,35 +5,35 @@ use std::{cell::RefCell, rc::Rc};
 use replace_with::replace_with_or_abort;
 
 use super::{
-    DivMap, Id, MaskedMonomial, MaskedMonomialRef, MaskedSignature, MonomialIndex, Ratio,
+    DivMap, Field, Id, MaskedMonomial, MaskedMonomialRef, MaskedSignature, MonomialIndex, Ratio,
     RatioMonomialIndex, SignPoly, SignedExponent,
 };
 
-pub struct KnownBasis<I: Id, P: SignedExponent> {
+pub struct KnownBasis<I: Id, C: Field, P: SignedExponent> {
     pub num_vars: usize,
     pub div_map: Rc<DivMap>,
-    pub polys: Vec<Rc<RefCell<SignPoly<I, P>>>>,
-    pub by_sign_lm_ratio_and_lm: RatioMonomialIndex<I, P>,
+    pub polys: Vec<Rc<RefCell<SignPoly<I, C, P>>>>,
+    pub by_sign_lm_ratio_and_lm: RatioMonomialIndex<I, C, P>,
 }
 
-impl<I: Id, P: SignedExponent> KnownBasis<I, P> {
+impl<I: Id, C: Field, P: SignedExponent> KnownBasis<I, C, P> {
     pub fn find_a_reducer(
         &self,
         ratio: &Ratio<I, P>,
         monomial: MaskedMonomialRef<I, P>,
-    ) -> Option<Rc<RefCell<SignPoly<I, P>>>> {
+    ) -> Option<Rc<RefCell<SignPoly<I, C, P>>>> {
         self.by_sign_lm_ratio_and_lm.find_a_reducer(ratio, monomial)
     }
 }
 
 pub type SyzygySet<I, E> = MonomialIndex<I, E>;
 
-pub struct BasisCalculator<I: Id, P: SignedExponent> {
-    basis: KnownBasis<I, P>,
+pub struct BasisCalculator<I: Id, C: Field, P: SignedExponent> {
+    basis: KnownBasis<I, C, P>,
     syzygies: SyzygySet<I, P>,
 }
 
-impl<I: Id, P: SignedExponent> BasisCalculator<I, P> {
+impl<I: Id, C: Field, P: SignedExponent> BasisCalculator<I, C, P> {
     pub fn new(num_vars: usize) -> Self {
         let div_map = Rc::new(DivMap);
         let by_sign_lm_ratio_and_lm = RatioMonomialIndex::new(num_vars, div_map.clone(), &[]);
@@ -49,7 +49,7 @@ impl<I: Id, P: SignedExponent> BasisCalculator<I, P> {
         }
     }
 
-    pub fn get_basis(&self) -> &KnownBasis<I, P> {
+    pub fn get_basis(&self) -> &KnownBasis<I, C, P> {
         &self.basis
     }
 
@@ -57,7 +57,7 @@ impl<I: Id, P: SignedExponent> BasisCalculator<I, P> {
         self.syzygies.len()
     }
 
-    pub fn insert_poly(&mut self, sign_poly: SignPoly<I, P>) {
+    pub fn insert_poly(&mut self, sign_poly: SignPoly<I, C, P>) {
         let sign_poly = Rc::new(RefCell::new(sign_poly));
 
         self.basis
@@ -86,7 +86,8 @@ impl<I: Id, P: SignedExponent> BasisCalculator<I, P> {
                 };
 
                 signature = sign_basis.signature().clone();
-                signature.monomial = signature.monomial * lm_basis.lm.clone();
+                signature.monomial =
+                    signature.monomial * lm_basis.polynomial.terms[0].monomial.clone();
                 divmask = self.basis.div_map.map(&signature.monomial);
             }
 
@@ -105,7 +106,7 @@ impl<I: Id, P: SignedExponent> BasisCalculator<I, P> {
 
         // Recalculate both masks of each polynomial.
         for mut poly in self.basis.polys.iter().map(|p| p.borrow_mut()) {
-            let lm_divmask = div_map.map(&poly.lm);
+            let lm_divmask = div_map.map(&poly.polynomial.terms[0].monomial);
             poly.lm_divmask = lm_divmask;
 
             let sign_divmask = div_map.map(&poly.signature().monomial);
@@ -137,7 +138,7 @@ impl<I: Id, P: SignedExponent> BasisCalculator<I, P> {
         });
     }
 
-    pub fn into_polys(self) -> Vec<SignPoly<I, P>> {
+    pub fn into_polys(self) -> Vec<SignPoly<I, C, P>> {
         // Drop the index here otherwise the unwrap of the Rc will fail.
         drop(self.basis.by_sign_lm_ratio_and_lm);
 
