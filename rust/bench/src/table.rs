@@ -40,9 +40,11 @@ impl Display for Table {
     }
 }
 
-/// Three digits that count, and more in front of the point.
+/// Three digits that count, and more in front of the point. A figure that is no
+/// number was not measured.
 pub fn figure(value: f64) -> String {
     match value.abs() {
+        size if size.is_nan() => "–".into(),
         size if size >= 100. => grouped(value.round() as i64),
         size if size >= 10. => format!("{value:.1}"),
         _ => format!("{value:.2}"),

@@ -9,7 +9,9 @@ mod memory;
 mod opening;
 mod operations;
 mod pairs;
+mod polynomials;
 mod question3;
+mod reduction;
 
 use crate::timing::Rounds;
 
@@ -36,7 +38,7 @@ impl Report {
     }
 }
 
-pub const PARTS: [Part; 7] = [
+pub const PARTS: [Part; 8] = [
     Part {
         name: "calls",
         run: calls::run,
@@ -56,6 +58,10 @@ pub const PARTS: [Part; 7] = [
     Part {
         name: "listing",
         run: listing::run,
+    },
+    Part {
+        name: "reduction",
+        run: reduction::run,
     },
     Part {
         name: "memory",

@@ -1,30 +1,27 @@
 //! Polynomials over a small field, with the original's monomials, and their
 //! regular reduction.
 
-use std::{borrow::Borrow, collections::BTreeMap};
+use std::{borrow, cell::RefCell, cmp::Ordering, collections::BTreeMap, mem, rc::Rc};
 
-use divisor_index::Product;
-use harness::{
-    model::{powers::Powers, state::Entry},
-    rng::Rng,
+use divisor_index::{
+    compat::{self, HasSignature},
+    Product, Signature,
 };
+use harness::{model::powers::Powers, rng::Rng};
 use original::oracle;
 
-use crate::sides::{
-    drawing::{draw_powers, HIGHEST_POWER},
-    monomial, Monomial, Sample,
-};
+use crate::sides::{drawing::draw_powers, monomial, Monomial, Sample};
 
 /// A prime: the field's elements are the numbers below it.
 const FIELD: u64 = 32_003;
 
-/// Terms of an element behind its leading one.
-const TAIL: usize = 4;
+/// The most terms of an element behind its leading one.
+const TAIL: usize = 8;
 
 /// A monomial of the original as it is lent to the port.
 pub struct Lent<M>(pub M);
 
-impl<M: Borrow<Monomial>> Product for Lent<M> {
+impl<M: borrow::Borrow<Monomial>> Product for Lent<M> {
     fn variables(&self) -> impl Iterator<Item = (u16, i32)> {
         let variables = oracle::variables(self.0.borrow());
         variables.map(|(id, power)| (*id, *power))
@@ -33,6 +30,9 @@ impl<M: Borrow<Monomial>> Product for Lent<M> {
 
 /// By falling monomial when the last is taken first.
 pub type Terms = BTreeMap<Monomial, u64>;
+
+/// Elements are shared as in the original.
+pub type Basis = [Rc<RefCell<Element>>];
 
 /// An element of the basis, its leading coefficient 1.
 pub struct Element {
@@ -45,11 +45,40 @@ pub struct Element {
     tail: Vec<(Monomial, u64)>,
 }
 
+impl HasSignature for Element {
+    type Monomial = Lent<Monomial>;
+
+    fn signature(&self) -> Signature<'_, Lent<Monomial>> {
+        Signature::new(self.index, &self.sign)
+    }
+}
+
+impl compat::Element for Element {
+    fn leading_monomial(&self) -> &Lent<Monomial> {
+        &self.lm
+    }
+}
+
 /// A polynomial to be reduced.
 pub struct Polynomial {
     pub index: u32,
-    pub sign: Monomial,
+    sign: Lent<Monomial>,
     pub terms: Terms,
+}
+
+impl Polynomial {
+    /// Of its signature and a term.
+    pub fn ratio(&self, term: &Monomial) -> Monomial {
+        self.sign.0.fraction_division(term)
+    }
+}
+
+impl HasSignature for Polynomial {
+    type Monomial = Lent<Monomial>;
+
+    fn signature(&self) -> Signature<'_, Lent<Monomial>> {
+        Signature::new(self.index, &self.sign)
+    }
 }
 
 /// Finds regular reducers in a basis.
@@ -59,11 +88,11 @@ pub trait Search {
 }
 
 /// Reduces terms, the largest first, until none has a regular reducer.
-pub fn reduce(basis: &[Element], mut terms: Terms, search: &mut impl Search) -> Terms {
+pub fn reduce(basis: &Basis, mut terms: Terms, search: &mut impl Search) -> Terms {
     let mut reduced = Terms::new();
     while let Some((term, coefficient)) = terms.pop_last() {
         match search.find(&term, &terms) {
-            Some(number) => subtract(&mut terms, &basis[number], term, coefficient),
+            Some(number) => subtract(&mut terms, &basis[number].borrow(), term, coefficient),
             None => {
                 reduced.insert(term, coefficient);
             }
@@ -83,7 +112,9 @@ fn subtract(terms: &mut Terms, element: &Element, term: Monomial, coefficient: u
 }
 
 fn add(terms: &mut Terms, monomial: Monomial, coefficient: u64) {
-    let sum = terms.get(&monomial).map_or(coefficient, |had| (had + coefficient) % FIELD);
+    let sum = terms
+        .get(&monomial)
+        .map_or(coefficient, |had| (had + coefficient) % FIELD);
     match sum {
         0 => terms.remove(&monomial),
         _ => terms.insert(monomial, sum),
@@ -91,32 +122,40 @@ fn add(terms: &mut Terms, monomial: Monomial, coefficient: u64) {
 }
 
 /// The entries of a sample with tails.
-pub fn draw_basis(sample: &Sample, rng: &mut Rng) -> Vec<Element> {
+pub fn draw_basis(sample: &Sample, rng: &mut Rng) -> Vec<Rc<RefCell<Element>>> {
     let mut by_total: Vec<_> = sample.entries.iter().map(|entry| &entry.lm).collect();
     by_total.sort_by_key(|lm| total(lm));
-    let element = |(number, entry): (usize, &Entry)| Element {
+    let entries = sample.entries.iter().enumerate();
+    let elements = entries.map(|(number, entry)| Element {
         number,
         index: entry.index,
         sign: Lent(monomial(&entry.sign)),
         lm: Lent(monomial(&entry.lm)),
         ratio: monomial(&entry.ratio().monomial),
-        tail: (0..TAIL)
-            .map(|_| (monomial(&draw_smaller(&entry.lm, &by_total, rng)), draw_coefficient(rng)))
-            .collect(),
-    };
-    sample.entries.iter().enumerate().map(element).collect()
+        tail: draw_tail(&entry.lm, &by_total, rng),
+    });
+    elements
+        .map(|element| Rc::new(RefCell::new(element)))
+        .collect()
 }
 
-/// A monomial of smaller total: by turns of chance any, or a multiple of a leading
-/// monomial that has at most half of the total.
-fn draw_smaller(lm: &Powers, by_total: &[&Powers], rng: &mut Rng) -> Powers {
-    let any = draw_powers(lm.0.len(), rng);
-    let small = by_total.partition_point(|other| 2 * total(other) <= total(lm));
-    if small == 0 || rng.chance(50) {
-        return shrunk(&any, total(lm) - 1);
+/// Terms of small total, and one that is a multiple of another leading monomial.
+fn draw_tail(lm: &Powers, by_total: &[&Powers], rng: &mut Rng) -> Vec<(Monomial, u64)> {
+    let half = total(lm) / 2;
+    let small = by_total.partition_point(|other| total(other) <= half);
+    let mut tail: Vec<_> = (1..TAIL).map(|_| draw_small(lm, half / 2, rng)).collect();
+    if small > 0 {
+        let divisor = *rng.choose(&by_total[..small]);
+        tail.push(divisor.times(&draw_small(lm, half / 2, rng)));
     }
-    let divisor = *rng.choose(&by_total[..small]);
-    divisor.times(&shrunk(&any, total(lm) - 1 - total(divisor)))
+    let coefficient = |rng: &mut Rng| 1 + rng.below(FIELD as usize - 1) as u64;
+    let with_coefficient = |powers| (monomial(&powers), coefficient(rng));
+    tail.into_iter().map(with_coefficient).collect()
+}
+
+/// In the variables of the other, of at most this total.
+fn draw_small(lm: &Powers, most: i32, rng: &mut Rng) -> Powers {
+    shrunk(&draw_powers(lm.0.len(), rng), most)
 }
 
 /// Each power made smaller in proportion, to at most this total.
@@ -129,17 +168,30 @@ fn total(powers: &Powers) -> i32 {
     powers.0.iter().sum()
 }
 
-fn draw_coefficient(rng: &mut Rng) -> u64 {
-    1 + rng.below(FIELD as usize - 1) as u64
+/// The sum of so many S-polynomials, with the largest of their signatures.
+pub fn draw_polynomial(basis: &Basis, parts: usize, rng: &mut Rng) -> Polynomial {
+    let drawn = (0..parts).map(|_| draw_s_polynomial(basis, rng));
+    let sum = drawn.reduce(|mut sum, mut other| {
+        if (sum.index, &sum.sign.0) < (other.index, &other.sign.0) {
+            mem::swap(&mut sum, &mut other);
+        }
+        for (monomial, coefficient) in other.terms {
+            add(&mut sum.terms, monomial, coefficient);
+        }
+        sum
+    });
+    sum.expect("one part at least")
 }
 
-/// The S-polynomial of two elements of different ratios, drawn.
-pub fn draw_polynomial(basis: &[Element], rng: &mut Rng) -> Polynomial {
-    let (a, b) = (rng.choose(basis), rng.choose(basis));
-    match (a.index, &a.ratio).cmp(&(b.index, &b.ratio)) {
-        std::cmp::Ordering::Equal => draw_polynomial(basis, rng),
-        std::cmp::Ordering::Less => s_polynomial(b, a),
-        std::cmp::Ordering::Greater => s_polynomial(a, b),
+/// Of two elements of different ratios.
+fn draw_s_polynomial(basis: &Basis, rng: &mut Rng) -> Polynomial {
+    loop {
+        let (a, b) = (rng.choose(basis).borrow(), rng.choose(basis).borrow());
+        match (a.index, &a.ratio).cmp(&(b.index, &b.ratio)) {
+            Ordering::Equal => continue,
+            Ordering::Less => return s_polynomial(&b, &a),
+            Ordering::Greater => return s_polynomial(&a, &b),
+        }
     }
 }
 
@@ -153,11 +205,15 @@ fn s_polynomial(a: &Element, b: &Element) -> Polynomial {
         add(&mut terms, of_a.clone() * monomial.clone(), *coefficient);
     }
     for (monomial, coefficient) in &b.tail {
-        add(&mut terms, of_b.clone() * monomial.clone(), FIELD - coefficient);
+        add(
+            &mut terms,
+            of_b.clone() * monomial.clone(),
+            FIELD - coefficient,
+        );
     }
     Polynomial {
         index: a.index,
-        sign: of_a * a.sign.0.clone(),
+        sign: Lent(of_a * a.sign.0.clone()),
         terms,
     }
 }

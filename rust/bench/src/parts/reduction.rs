@@ -1,14 +1,14 @@
 //! Whole regular reductions: the original term by term, the port through its cache
 //! of reducers and by single calls.
 
-use std::{cell::RefCell, rc::Rc, vec};
+use std::{cell::RefCell, rc::Rc, slice};
 
 use divisor_index::{
     compat::{self, HasRatio, HasSignature},
-    Ratio, Signature,
+    Ratio, RatioMonomialIndex, ReducerKind, Reducers,
 };
 use harness::{model::Kind, rng::Rng};
-use original::{oracle::Basis, polynomial::monomial_ordering::Grevlex};
+use original::{oracle, polynomial::monomial_ordering::Grevlex};
 
 use super::{
     polynomials::{draw_basis, draw_polynomial, reduce, Element, Lent, Polynomial, Search, Terms},
@@ -20,81 +20,247 @@ use crate::{
     timing::{medians, timed, Rounds},
 };
 
-const POLYNOMIALS: usize = 4;
+/// S-polynomials that are added up to one polynomial, and how many of these are
+/// drawn.
+const SIZES: [(usize, usize); 2] = [(1, 8), (16, 2)];
 
 pub fn run(rounds: Rounds) -> Report {
     let head = [
         "entries",
         "variables",
+        "terms",
         "searches",
         "reducers",
+        "lists of the cache",
         "arithmetic alone, µs",
         "original, µs",
+        "cache, µs",
+        "cache / original",
         "single calls, µs",
-        "single / original",
+        "single calls / original",
     ];
     let mut table = Table::new(head);
-    for shape in Shape::of_kind(Kind::Ratio) {
-        table.line(line(shape, rounds));
+    let sizes = |shape| SIZES.map(|size| (shape, size));
+    for (shape, size) in Shape::of_kind(Kind::Ratio).flat_map(sizes) {
+        table.line(line(shape, size, rounds));
     }
     Report::new(table)
 }
 
-fn line(shape: Shape, rounds: Rounds) -> [String; 8] {
-    let sample = Sample::draw(shape);
+/// Everything is shown for one polynomial, as the mean of those drawn.
+fn line(shape: Shape, (parts, count): (usize, usize), rounds: Rounds) -> Vec<String> {
     let mut rng = Rng::new(shape.variables as u64);
-    let basis = draw_basis(&sample, &mut rng);
-    let polynomials: Vec<_> = (0..POLYNOMIALS).map(|_| draw_polynomial(&basis, &mut rng)).collect();
-    let sides = Sides::new(&sample, basis);
-    let found: Vec<_> = polynomials.iter().map(|polynomial| sides.record(polynomial)).collect();
-    let searches: usize = found.iter().map(Vec::len).sum();
-    let reducers = found.iter().flatten().flatten().count();
+    let mut sides = Sides::new(&Sample::draw(shape), &mut rng);
+    let jobs: Vec<_> = (0..count)
+        .map(|_| sides.draw_job(parts, &mut rng))
+        .collect();
+    let mean = |of: &dyn Fn(&Job) -> usize| {
+        let sum: usize = jobs.iter().map(of).sum();
+        sum as f64 / count as f64
+    };
     let times = medians(rounds, |_| {
-        let sum = |time: &dyn Fn(&Polynomial, &[Option<usize>]) -> f64| {
-            let times = polynomials.iter().zip(&found).map(|(p, found)| time(p, found));
-            times.sum::<f64>()
-        };
-        [
-            sum(&|p, found| sides.time(p, Recorded(found.to_vec().into_iter()))),
-            sum(&|p, _| sides.time(p, sides.original(p))),
-            sum(&|p, _| sides.time(p, sides.single(p))),
-        ]
+        Way::ALL.map(|way| match way.is_fit_for(parts) {
+            true => jobs.iter().map(|job| sides.time(way, job)).sum(),
+            false => f64::NAN,
+        })
     });
-    let [arithmetic, original, single] = times.map(|time| time / 1e3 / POLYNOMIALS as f64);
-    [
-        grouped(shape.entries as i64),
-        shape.variables.to_string(),
-        figure(searches as f64 / POLYNOMIALS as f64),
-        figure(reducers as f64 / POLYNOMIALS as f64),
-        figure(arithmetic),
-        figure(original),
-        figure(single),
-        figure(single / original),
-    ]
+    let [arithmetic, original, cache, single] = times.map(|time: f64| time / 1e3 / count as f64);
+    let figures = [
+        mean(&|job| job.polynomial.terms.len()),
+        mean(&|job| job.found.len()),
+        mean(&|job| job.found.iter().flatten().count()),
+        mean(&|job| job.lists),
+        arithmetic,
+        original,
+        cache,
+        cache / original,
+        single,
+        single / original,
+    ];
+    let mut line = vec![grouped(shape.entries as i64), shape.variables.to_string()];
+    line.extend(figures.map(figure));
+    line
+}
+
+/// How reducers are found.
+#[derive(Debug, Clone, Copy)]
+enum Way {
+    /// They are known before.
+    Arithmetic,
+    Original,
+    Cache,
+    SingleCalls,
+}
+
+impl Way {
+    const ALL: [Way; 4] = [Way::Arithmetic, Way::Original, Way::Cache, Way::SingleCalls];
+
+    /// Single calls would take minutes for large polynomials.
+    fn is_fit_for(self, parts: usize) -> bool {
+        !matches!(self, Way::SingleCalls) || parts == 1
+    }
+}
+
+/// A polynomial, and what is known of its reduction by the original.
+struct Job {
+    polynomial: Polynomial,
+    found: Vec<Option<usize>>,
+    reduced: Terms,
+    /// That the port's cache lends.
+    lists: usize,
 }
 
 /// The same basis everywhere.
 struct Sides {
-    basis: Vec<Element>,
-    original: Basis<Grevlex>,
-    compat: compat::RatioMonomialIndex<Lead>,
+    basis: Vec<Rc<RefCell<Element>>>,
+    original: oracle::Basis<Grevlex>,
+    port: RatioMonomialIndex,
+    compat: compat::RatioMonomialIndex<Element>,
 }
 
 impl Sides {
-    fn new(sample: &Sample, basis: Vec<Element>) -> Self {
-        let Original::Ratio(original) = sample.original(sample.shape.entries) else {
+    fn new(sample: &Sample, rng: &mut Rng) -> Self {
+        let shape = sample.shape;
+        let Original::Ratio(original) = sample.original(shape.entries) else {
             panic!("a ratio index");
         };
-        let leads: Vec<_> = basis.iter().map(|element| Rc::new(RefCell::new(Lead::new(element)))).collect();
+        let basis = draw_basis(sample, rng);
+        let port = RatioMonomialIndex::from_image(sample.port(shape.entries).image);
         Sides {
-            compat: compat::RatioMonomialIndex::new(sample.shape.variables, (), &leads),
+            compat: compat::RatioMonomialIndex::new(shape.variables, (), &basis),
+            port: port.expect("an image of a ratio index"),
             original,
             basis,
         }
     }
 
-    fn time(&self, polynomial: &Polynomial, mut search: impl Search) -> f64 {
-        let terms = polynomial.terms.clone();
-        timed(|| reduce(&self.basis, terms, &mut search))
+    /// A drawn polynomial, reduced by the original and through the cache.
+    fn draw_job(&mut self, parts: usize, rng: &mut Rng) -> Job {
+        let polynomial = draw_polynomial(&self.basis, parts, rng);
+        let mut search = Recording(self.by_original(&polynomial), vec![]);
+        let reduced = reduce(&self.basis, polynomial.terms.clone(), &mut search);
+        let found = search.1;
+        let mut search = ByCache(self.port.reducers(polynomial.signature()));
+        reduce(&self.basis, polynomial.terms.clone(), &mut search);
+        let lists = search.0.lists();
+        let job = Job {
+            polynomial,
+            found,
+            reduced,
+            lists,
+        };
+        job
+    }
+
+    /// In each way the polynomial has to be reduced to the same.
+    fn time(&mut self, way: Way, job: &Job) -> f64 {
+        let terms = job.polynomial.terms.clone();
+        let mut reduced = Terms::new();
+        let time = timed(|| reduced = self.reduce(way, job, terms));
+        assert!(reduced == job.reduced, "{way:?} reduces as the original");
+        time
+    }
+
+    fn reduce(&mut self, way: Way, job: &Job, terms: Terms) -> Terms {
+        let (basis, polynomial) = (&self.basis, &job.polynomial);
+        match way {
+            Way::Arithmetic => reduce(basis, terms, &mut Recorded(job.found.iter())),
+            Way::Original => reduce(basis, terms, &mut self.by_original(polynomial)),
+            Way::Cache => {
+                let reducers = self.port.reducers(polynomial.signature());
+                reduce(basis, terms, &mut ByCache(reducers))
+            }
+            Way::SingleCalls => {
+                let index = &self.compat;
+                reduce(basis, terms, &mut BySingleCalls { index, polynomial })
+            }
+        }
+    }
+
+    fn by_original<'a>(&'a self, polynomial: &'a Polynomial) -> ByOriginal<'a> {
+        let basis = &self.original;
+        ByOriginal { basis, polynomial }
+    }
+}
+
+/// Answers given before.
+struct Recorded<'a>(slice::Iter<'a, Option<usize>>);
+
+impl Search for Recorded<'_> {
+    fn find(&mut self, _: &Monomial, _: &Terms) -> Option<usize> {
+        *self.0.next().expect("the same searches again")
+    }
+}
+
+/// A search whose answers are noted.
+struct Recording<S>(S, Vec<Option<usize>>);
+
+impl<S: Search> Search for Recording<S> {
+    fn find(&mut self, term: &Monomial, others: &Terms) -> Option<usize> {
+        let found = self.0.find(term, others);
+        self.1.push(found);
+        found
+    }
+}
+
+struct ByOriginal<'a> {
+    basis: &'a oracle::Basis<Grevlex>,
+    polynomial: &'a Polynomial,
+}
+
+impl Search for ByOriginal<'_> {
+    fn find(&mut self, term: &Monomial, _: &Terms) -> Option<usize> {
+        let ratio = self.polynomial.ratio(term);
+        let found = self
+            .basis
+            .find_a_reducer(self.polynomial.index, ratio, term);
+        found
+            .filter(|(_, is_singular)| !is_singular)
+            .map(|(number, _)| number as usize)
+    }
+}
+
+struct ByCache<'a>(Reducers<'a>);
+
+impl Search for ByCache<'_> {
+    fn find(&mut self, term: &Monomial, others: &Terms) -> Option<usize> {
+        let others = others.keys().rev().map(Lent);
+        let found = self.0.find_a_reducer_with(&Lent(term), others);
+        let found = found.expect("a monomial");
+        found
+            .filter(|reducer| reducer.kind == ReducerKind::Regular)
+            .map(|reducer| reducer.entry.index())
+    }
+}
+
+/// As code written for the original searches.
+struct BySingleCalls<'a> {
+    index: &'a compat::RatioMonomialIndex<Element>,
+    polynomial: &'a Polynomial,
+}
+
+impl Search for BySingleCalls<'_> {
+    fn find(&mut self, term: &Monomial, _: &Terms) -> Option<usize> {
+        let ratio = Query {
+            index: self.polynomial.index,
+            ratio: Lent(self.polynomial.ratio(term)),
+        };
+        let found = self.index.find_a_reducer(&ratio, Lent(term))?;
+        let found = found.borrow();
+        let is_singular = (found.index, &found.ratio) == (ratio.index, &ratio.ratio.0);
+        (!is_singular).then_some(found.number)
+    }
+}
+
+struct Query {
+    index: u32,
+    ratio: Lent<Monomial>,
+}
+
+impl HasRatio for Query {
+    type Monomial = Lent<Monomial>;
+
+    fn ratio(&self) -> Ratio<'_, Lent<Monomial>> {
+        Ratio::new(self.index, &self.ratio)
     }
 }
