@@ -2,7 +2,8 @@
 //!
 //! `bench` prints all tables, `bench PART` those of one part, and `bench write`
 //! puts all of them into docs/SPEED.md, with their plots. A number behind it is
-//! the most rounds of a measurement.
+//! the most rounds of a measurement. `bench sample CALL ENTRIES VARIABLES` makes
+//! one call, by its number, over and over again on the port, for a profiler.
 //!
 //! The sides take turns, and each figure is the median of its rounds. The port
 //! is called through C on bytes that were written before the clock starts, and
@@ -21,6 +22,7 @@ use std::{env, process::ExitCode};
 
 use allocator::Counting;
 use parts::{Part, Report, PARTS};
+use sides::Call;
 use timing::Rounds;
 
 #[global_allocator]
@@ -31,30 +33,44 @@ const ROUNDS: usize = 101;
 fn main() -> ExitCode {
     let words: Vec<_> = env::args().skip(1).collect();
     let words: Vec<_> = words.iter().map(String::as_str).collect();
-    let (word, rounds) = match words[..] {
-        [] => ("", ROUNDS),
-        [word] => word.parse().map_or((word, ROUNDS), |rounds| ("", rounds)),
-        [word, rounds] => (word, rounds.parse().unwrap_or(0)),
-        _ => return usage(),
-    };
-    if rounds == 0 {
-        return usage();
+    match do_as_told(&words) {
+        Some(()) => ExitCode::SUCCESS,
+        None => usage(),
     }
-    let all = || {
-        PARTS
-            .iter()
-            .map(|part| run(part, rounds))
-            .collect::<Vec<_>>()
-    };
-    match word {
-        "" => drop(all()),
-        "write" => document::write(&all(), rounds).expect("docs/SPEED.md can be written"),
-        name => match PARTS.iter().find(|part| part.name == name) {
-            Some(part) => drop(run(part, rounds)),
-            None => return usage(),
-        },
+}
+
+/// None where the words say nothing.
+fn do_as_told(words: &[&str]) -> Option<()> {
+    match *words {
+        ["sample", call, entries, variables] => {
+            let call = *Call::ALL.get(number(call)?)?;
+            parts::sample(call, number(entries)?, number(variables)?);
+        }
+        ["write"] => write(ROUNDS),
+        ["write", rounds] => write(number(rounds)?),
+        [] => drop(run_all(ROUNDS)),
+        [rounds] if number(rounds).is_some() => drop(run_all(number(rounds)?)),
+        [name] => drop(run(part(name)?, ROUNDS)),
+        [name, rounds] => drop(run(part(name)?, number(rounds)?)),
+        _ => return None,
     }
-    ExitCode::SUCCESS
+    Some(())
+}
+
+fn number(word: &str) -> Option<usize> {
+    word.parse().ok()
+}
+
+fn part(name: &str) -> Option<&'static Part> {
+    PARTS.iter().find(|part| part.name == name)
+}
+
+fn write(rounds: usize) {
+    document::write(&run_all(rounds), rounds).expect("docs/SPEED.md can be written");
+}
+
+fn run_all(rounds: usize) -> Vec<(&'static str, Report)> {
+    PARTS.iter().map(|part| run(part, rounds)).collect()
 }
 
 /// Runs a part and prints its tables.
@@ -65,7 +81,8 @@ fn run(part: &Part, rounds: usize) -> (&'static str, Report) {
 }
 
 fn usage() -> ExitCode {
-    let names = PARTS.map(|part| part.name).join(" | ");
-    eprintln!("bench [write | {names}] [ROUNDS]");
+    let names = PARTS.iter().map(|part| part.name).collect::<Vec<_>>();
+    eprintln!("bench [write | {}] [ROUNDS]", names.join(" | "));
+    eprintln!("bench sample CALL ENTRIES VARIABLES");
     ExitCode::FAILURE
 }

@@ -57,14 +57,11 @@ pub fn by_turns(
 }
 
 /// The median of each time that a round gives. A round is told its number.
-pub fn medians<const N: usize>(
-    rounds: Rounds,
-    mut round: impl FnMut(usize) -> [f64; N],
-) -> [f64; N] {
+pub fn medians<const N: usize>(rounds: Rounds, round: impl FnMut(usize) -> [f64; N]) -> [f64; N] {
     let start = Instant::now();
     let is_over = |at| at >= FEWEST && start.elapsed() > TIME;
     let numbers = (0..rounds.0).take_while(|at| !is_over(*at));
-    let times: Vec<_> = numbers.map(|at| round(at)).collect();
+    let times: Vec<_> = numbers.map(round).collect();
     array::from_fn(|work| median(times.iter().map(|times| times[work]).collect()))
 }
 

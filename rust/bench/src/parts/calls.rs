@@ -1,5 +1,7 @@
 //! Each call in a long list, question 3 not counted.
 
+use std::time::{Duration, Instant};
+
 use super::Report;
 use crate::{
     plot::{
@@ -7,11 +9,14 @@ use crate::{
         Series, COLOURS,
     },
     sides::{Call, Sample, Shape, ENTRIES, VARIABLES},
-    table::{against_goal, grouped, Table},
+    table::{against_goal, figure, grouped, Table},
     timing::{by_turns, Rounds, Times},
 };
 
 const QUERIES: usize = 1000;
+
+/// How long a profiler can sample.
+const SAMPLED: Duration = Duration::from_secs(5);
 
 /// One call at one shape.
 struct Measured {
@@ -129,4 +134,29 @@ fn measure_searches(call: Call, mut sample: Sample, rounds: Rounds) -> Measured 
         times: times.per(QUERIES),
         found: Some(found as f64 / QUERIES as f64 * 100.),
     }
+}
+
+/// Makes one call over and over again on the port, for a profiler, and prints what
+/// it takes. Question 3 is asked too, once for each list.
+pub fn sample(call: Call, entries: usize, variables: usize) {
+    let shape = Shape {
+        kind: call.kind(),
+        variables,
+        entries,
+    };
+    let mut sample = Sample::draw(shape);
+    let (held, calls) = match call.is_insert() {
+        true => (entries / 2, sample.entries[entries / 2..].to_vec()),
+        false => (entries, sample.queries(call, 20 * QUERIES)),
+    };
+    let (list, mut port) = (call.list(&calls), sample.port(held));
+    if !call.is_insert() {
+        port.run(&list);
+    }
+    let (start, mut times) = (Instant::now(), vec![]);
+    while start.elapsed() < SAMPLED {
+        times.push(port.clone().run(&list));
+    }
+    let time = times.iter().sum::<f64>() / times.len() as f64;
+    println!("{} ns a call", figure(time / calls.len() as f64));
 }

@@ -13,6 +13,7 @@ mod polynomials;
 mod question3;
 mod reduction;
 
+pub use self::calls::sample;
 use crate::timing::Rounds;
 
 /// One table or more on one subject.
@@ -38,7 +39,7 @@ impl Report {
     }
 }
 
-pub const PARTS: [Part; 8] = [
+pub static PARTS: [Part; 8] = [
     Part {
         name: "calls",
         run: calls::run,

@@ -143,13 +143,12 @@ impl Sides {
         let mut search = ByCache(self.port.reducers(polynomial.signature()));
         reduce(&self.basis, polynomial.terms.clone(), &mut search);
         let lists = search.0.lists();
-        let job = Job {
+        Job {
             polynomial,
             found,
             reduced,
             lists,
-        };
-        job
+        }
     }
 
     /// In each way the polynomial has to be reduced to the same.
