@@ -1,7 +1,14 @@
 //! Polynomials over a small field, with the original's monomials, and their
 //! regular reduction.
 
-use std::{borrow, cell::RefCell, cmp::Ordering, collections::BTreeMap, mem, rc::Rc};
+use std::{
+    borrow,
+    cell::RefCell,
+    cmp::Ordering,
+    collections::{btree_map::Entry, BTreeMap},
+    mem,
+    rc::Rc,
+};
 
 use divisor_index::{
     compat::{self, HasSignature},
@@ -112,13 +119,15 @@ fn subtract(terms: &mut Terms, element: &Element, term: Monomial, coefficient: u
 }
 
 fn add(terms: &mut Terms, monomial: Monomial, coefficient: u64) {
-    let sum = terms
-        .get(&monomial)
-        .map_or(coefficient, |had| (had + coefficient) % FIELD);
-    match sum {
-        0 => terms.remove(&monomial),
-        _ => terms.insert(monomial, sum),
-    };
+    match terms.entry(monomial) {
+        Entry::Vacant(entry) => {
+            entry.insert(coefficient);
+        }
+        Entry::Occupied(mut entry) => match (entry.get() + coefficient) % FIELD {
+            0 => drop(entry.remove()),
+            sum => *entry.get_mut() = sum,
+        },
+    }
 }
 
 /// The entries of a sample with tails.
