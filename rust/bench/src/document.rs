@@ -57,3 +57,22 @@ fn machine(rounds: usize) -> String {
         value("model"),
     )
 }
+
+#[cfg(test)]
+mod tests {
+    use super::put;
+
+    #[test]
+    fn a_text_replaces_what_stands_between_its_marks() {
+        let page = "a\n<!-- x -->\nold\n<!-- end of x -->\nb\n".to_string();
+        let written = put(page, "x", "new\n\n");
+        assert_eq!(written, "a\n<!-- x -->\n\nnew\n\n<!-- end of x -->\nb\n");
+        assert_eq!(put(written.clone(), "x", "new"), written);
+    }
+
+    #[test]
+    #[should_panic(expected = "no place for y")]
+    fn a_page_without_the_marks_is_no_place() {
+        put("<!-- end of y -->\n<!-- y -->\n".into(), "y", "text");
+    }
+}

@@ -29,6 +29,11 @@ impl Table {
         assert_eq!(line.len(), self.head.len(), "a cell a column");
         self.lines.push(line);
     }
+
+    /// A line of a name and cells behind it.
+    pub fn named_line(&mut self, name: &str, cells: impl IntoIterator<Item = String>) {
+        self.line([name.into()].into_iter().chain(cells));
+    }
 }
 
 impl Display for Table {
@@ -83,4 +88,33 @@ fn is_missed(ratio: &str, goal: f64) -> bool {
         .replace(',', "")
         .parse()
         .is_ok_and(|ratio: f64| ratio > goal)
+}
+
+#[cfg(test)]
+mod tests {
+    use super::*;
+
+    #[test]
+    fn figures_have_three_digits_that_count() {
+        let shown = [0.5, 9.994, 10.04, 99.94, 100.4, 1234.5, f64::NAN].map(figure);
+        assert_eq!(shown, ["0.50", "9.99", "10.0", "99.9", "100", "1,235", "–"]);
+    }
+
+    #[test]
+    fn digits_stand_in_groups_of_three() {
+        let shown = [0, 999, 1000, -999, -1_000_000].map(grouped);
+        assert_eq!(shown, ["0", "999", "1,000", "-999", "-1,000,000"]);
+    }
+
+    /// What is shown as the goal is no miss.
+    #[test]
+    fn a_ratio_above_its_goal_is_bold() {
+        let of = |port| Times {
+            original: 1000.,
+            port,
+        };
+        assert_eq!(against_goal(of(504.), 0.5), "1,000, 504: 0.50");
+        assert_eq!(against_goal(of(506.), 0.5), "1,000, 506: **0.51**");
+        assert_eq!(against_goal(of(2e6), 0.5), "1,000, 2,000,000: **2,000**");
+    }
 }

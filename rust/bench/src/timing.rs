@@ -69,3 +69,15 @@ fn median(mut times: Vec<f64>) -> f64 {
     times.sort_by(f64::total_cmp);
     times[times.len() / 2]
 }
+
+#[cfg(test)]
+mod tests {
+    use super::{medians, Rounds};
+
+    /// The median and not the mean, of each work by itself.
+    #[test]
+    fn each_work_has_its_median() {
+        let times = [[1., 5.], [100., 4.], [3., 6.]];
+        assert_eq!(medians(Rounds(3), |round| times[round]), [3., 5.]);
+    }
+}

@@ -91,9 +91,10 @@ fn line((call, entries, row): &Row) -> Vec<String> {
 
 fn measure(call: Call, shape: Shape, rounds: Rounds) -> Measured {
     let sample = Sample::draw(shape);
-    match call.is_insert() {
-        true => measure_inserts(call, &sample, rounds),
-        false => measure_searches(call, sample, rounds),
+    if call.is_insert() {
+        measure_inserts(call, &sample, rounds)
+    } else {
+        measure_searches(call, sample, rounds)
     }
 }
 
@@ -145,9 +146,10 @@ pub fn sample(call: Call, entries: usize, variables: usize) {
         entries,
     };
     let mut sample = Sample::draw(shape);
-    let (held, calls) = match call.is_insert() {
-        true => (entries / 2, sample.entries[entries / 2..].to_vec()),
-        false => (entries, sample.queries(call, 20 * QUERIES)),
+    let (held, calls) = if call.is_insert() {
+        (entries / 2, sample.entries[entries / 2..].to_vec())
+    } else {
+        (entries, sample.queries(call, 20 * QUERIES))
     };
     let (list, mut port) = (call.list(&calls), sample.port(held));
     if !call.is_insert() {

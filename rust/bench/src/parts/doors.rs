@@ -15,31 +15,36 @@ use crate::{
 pub fn run(rounds: Rounds) -> Report {
     let columns = VARIABLES.map(|variables| format!("{variables} variables"));
     let mut table = Table::new(["operation"]).with_columns(columns);
+    add_operations(&mut table, rounds);
+    add_labels(&mut table, rounds);
+    Report::new(table)
+}
+
+fn add_operations(table: &mut Table, rounds: Rounds) {
     for operation in &OPERATIONS {
-        let cells = VARIABLES.map(|variables| side_by_side(time(operation, variables, rounds)));
-        table.line([vec![operation.name.into()], cells.to_vec()].concat());
+        let cell = |variables| side_by_side(time(operation, variables, rounds));
+        table.named_line(operation.name, VARIABLES.map(cell));
     }
-    let cells = VARIABLES.map(|variables| figure(time_questions(variables, rounds)));
-    table.line([vec!["the questions alone (port)".into()], cells.to_vec()].concat());
+    let cell = |variables| figure(time_questions(variables, rounds));
+    table.named_line("the questions alone (port)", VARIABLES.map(cell));
+}
+
+fn add_labels(table: &mut Table, rounds: Rounds) {
     let samples = VARIABLES.map(labels::draw);
-    for (name, asked) in [("known", Asked::Known), ("new", Asked::New)] {
-        let cells = samples
-            .each_ref()
-            .map(|sample| side_by_side(time_labels(sample, asked, rounds)));
-        table.line([vec![format!("get_comparer, {name} value")], cells.to_vec()].concat());
+    let asked = [
+        ("get_comparer, known value", Asked::Known),
+        ("get_comparer, new value", Asked::New),
+    ];
+    for (name, asked) in asked {
+        let cell = |sample| side_by_side(time_labels(sample, asked, rounds));
+        table.named_line(name, samples.each_ref().map(cell));
     }
-    let cells = samples.each_ref().map(|sample| {
+    let cell = |sample: &LabelSample| {
         let [time] = medians(rounds, |_| [sample.questions()]);
         figure(time / ASKED as f64)
-    });
-    table.line(
-        [
-            vec!["the questions of get_comparer alone (port)".into()],
-            cells.to_vec(),
-        ]
-        .concat(),
-    );
-    Report::new(table)
+    };
+    let name = "the questions of get_comparer alone (port)";
+    table.named_line(name, samples.each_ref().map(cell));
 }
 
 fn time(operation: &Operation, variables: usize, rounds: Rounds) -> Times {

@@ -90,10 +90,7 @@ impl LabelSample {
     }
 
     pub fn original(&self, asked: Asked) -> f64 {
-        let mut labels = Labels::<Grevlex>::new();
-        for value in &self.stored {
-            labels.get_comparer(value.index, value.monomial.clone());
-        }
+        let mut labels = self.original_map();
         let values = self.asked(asked).to_vec();
         timed(|| {
             for value in values {
@@ -101,6 +98,14 @@ impl LabelSample {
                 black_box(label.expect("a label"));
             }
         })
+    }
+
+    fn original_map(&self) -> Labels<Grevlex> {
+        let mut labels = Labels::new();
+        for value in &self.stored {
+            labels.get_comparer(value.index, value.monomial.clone());
+        }
+        labels
     }
 
     pub fn port(&self, asked: Asked) -> f64 {

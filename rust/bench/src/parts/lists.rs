@@ -101,9 +101,10 @@ fn line((call, shape, measured): &Row) -> Vec<String> {
 
 fn measure(call: Call, shape: Shape, rounds: Rounds) -> Measured {
     let sample = Sample::draw(shape);
-    let [original, port @ ..] = match call.is_insert() {
-        true => measure_inserts(call, &sample, rounds),
-        false => measure_searches(call, sample, rounds),
+    let [original, port @ ..] = if call.is_insert() {
+        measure_inserts(call, &sample, rounds)
+    } else {
+        measure_searches(call, sample, rounds)
     };
     Measured { original, port }
 }

@@ -209,20 +209,18 @@ fn s_polynomial(a: &Element, b: &Element) -> Polynomial {
     let gcd = a.lm.0.clone().gcd(&b.lm.0);
     let cofactor = |lm: &Monomial| lm.clone().whole_division(&gcd).expect("a divisor");
     let (of_a, of_b) = (cofactor(&b.lm.0), cofactor(&a.lm.0));
+    let of_first = a.tail.iter().map(|(m, c)| (of_a.clone() * m.clone(), *c));
+    let of_second = b
+        .tail
+        .iter()
+        .map(|(m, c)| (of_b.clone() * m.clone(), FIELD - c));
     let mut terms = Terms::new();
-    for (monomial, coefficient) in &a.tail {
-        add(&mut terms, of_a.clone() * monomial.clone(), *coefficient);
-    }
-    for (monomial, coefficient) in &b.tail {
-        add(
-            &mut terms,
-            of_b.clone() * monomial.clone(),
-            FIELD - coefficient,
-        );
+    for (monomial, coefficient) in of_first.chain(of_second) {
+        add(&mut terms, monomial, coefficient);
     }
     Polynomial {
         index: a.index,
-        sign: Lent(of_a * a.sign.0.clone()),
+        sign: Lent(of_a.clone() * a.sign.0.clone()),
         terms,
     }
 }

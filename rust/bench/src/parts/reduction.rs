@@ -15,7 +15,11 @@ use super::{
     Report,
 };
 use crate::{
-    sides::{Monomial, Original, Sample, Shape},
+    plot::{
+        lines::{Panel, Plot},
+        Series, COLOURS,
+    },
+    sides::{Monomial, Original, Sample, Shape, ENTRIES, VARIABLES},
     table::{figure, grouped, Table},
     timing::{medians, timed, Rounds},
 };
@@ -24,7 +28,24 @@ use crate::{
 /// drawn.
 const SIZES: [(usize, usize); 2] = [(1, 8), (16, 2)];
 
+/// Polynomials of one size over one basis; all figures are means of one.
+struct Measured {
+    shape: Shape,
+    parts: usize,
+    terms: f64,
+    searches: f64,
+    reducers: f64,
+    lists: f64,
+    /// Microseconds of each way.
+    times: [f64; 4],
+}
+
 pub fn run(rounds: Rounds) -> Report {
+    let sizes = |shape| SIZES.map(|size| (shape, size));
+    let all = Shape::of_kind(Kind::Ratio).flat_map(sizes);
+    let all: Vec<_> = all
+        .map(|(shape, size)| measure(shape, size, rounds))
+        .collect();
     let head = [
         "entries",
         "variables",
@@ -40,36 +61,22 @@ pub fn run(rounds: Rounds) -> Report {
         "single calls / original",
     ];
     let mut table = Table::new(head);
-    let sizes = |shape| SIZES.map(|size| (shape, size));
-    for (shape, size) in Shape::of_kind(Kind::Ratio).flat_map(sizes) {
-        table.line(line(shape, size, rounds));
+    for measured in &all {
+        table.line(line(measured));
     }
-    Report::new(table)
+    Report {
+        text: table.to_string(),
+        plots: vec![("reduction.svg", plot(&all))],
+    }
 }
 
-/// Everything is shown for one polynomial, as the mean of those drawn.
-fn line(shape: Shape, (parts, count): (usize, usize), rounds: Rounds) -> Vec<String> {
-    let mut rng = Rng::new(shape.variables as u64);
-    let mut sides = Sides::new(&Sample::draw(shape), &mut rng);
-    let jobs: Vec<_> = (0..count)
-        .map(|_| sides.draw_job(parts, &mut rng))
-        .collect();
-    let mean = |of: &dyn Fn(&Job) -> usize| {
-        let sum: usize = jobs.iter().map(of).sum();
-        sum as f64 / count as f64
-    };
-    let times = medians(rounds, |_| {
-        Way::ALL.map(|way| match way.is_fit_for(parts) {
-            true => jobs.iter().map(|job| sides.time(way, job)).sum(),
-            false => f64::NAN,
-        })
-    });
-    let [arithmetic, original, cache, single] = times.map(|time: f64| time / 1e3 / count as f64);
+fn line(measured: &Measured) -> Vec<String> {
+    let [arithmetic, original, cache, single] = measured.times;
     let figures = [
-        mean(&|job| job.polynomial.terms.len()),
-        mean(&|job| job.found.len()),
-        mean(&|job| job.found.iter().flatten().count()),
-        mean(&|job| job.lists),
+        measured.terms,
+        measured.searches,
+        measured.reducers,
+        measured.lists,
         arithmetic,
         original,
         cache,
@@ -77,9 +84,76 @@ fn line(shape: Shape, (parts, count): (usize, usize), rounds: Rounds) -> Vec<Str
         single,
         single / original,
     ];
+    let shape = measured.shape;
     let mut line = vec![grouped(shape.entries as i64), shape.variables.to_string()];
     line.extend(figures.map(figure));
     line
+}
+
+/// A panel for each number of entries and size, a line for each number of variables.
+fn plot(all: &[Measured]) -> String {
+    let panel = |(entries, parts)| {
+        let here = all
+            .iter()
+            .filter(|one| one.shape.entries == entries && one.parts == parts);
+        let of = match parts {
+            1 => "an S-polynomial".into(),
+            _ => format!("a sum of {parts}"),
+        };
+        Panel {
+            title: format!("{} entries, {of}", grouped(entries as i64)),
+            lines: here
+                .map(|one| vec![one.times[3], one.times[2], one.times[1]])
+                .collect(),
+        }
+    };
+    let sizes = SIZES
+        .into_iter()
+        .flat_map(|(parts, _)| ENTRIES.map(|n| (n, parts)));
+    let panels: Vec<_> = sizes.map(panel).collect();
+    let series = VARIABLES.into_iter().zip(COLOURS);
+    let series = series.map(|(v, colour)| Series::new(format!("{v} variables"), colour));
+    let plot = Plot {
+        title: "A whole regular reduction",
+        axis: "µs a polynomial, logarithmic",
+        places: &["single calls", "cache", "original"],
+        under: "port",
+        series: &series.collect::<Vec<_>>(),
+    };
+    plot.draw(ENTRIES.len(), &panels)
+}
+
+fn measure(shape: Shape, (parts, count): (usize, usize), rounds: Rounds) -> Measured {
+    let mut rng = Rng::new(shape.variables as u64);
+    let mut sides = Sides::new(&Sample::draw(shape), &mut rng);
+    let jobs: Vec<_> = (0..count)
+        .map(|_| sides.draw_job(parts, &mut rng))
+        .collect();
+    let mean = |of: fn(&Job) -> usize| {
+        let sum: usize = jobs.iter().map(of).sum();
+        sum as f64 / count as f64
+    };
+    let times = medians(rounds, |_| {
+        Way::ALL.map(|way| {
+            let time = |job| {
+                if way.is_fit_for(parts) {
+                    sides.time(way, job)
+                } else {
+                    f64::NAN
+                }
+            };
+            jobs.iter().map(time).sum()
+        })
+    });
+    Measured {
+        shape,
+        parts,
+        terms: mean(|job| job.polynomial.terms.len()),
+        searches: mean(|job| job.found.len()),
+        reducers: mean(|job| job.found.iter().flatten().count()),
+        lists: mean(|job| job.lists),
+        times: times.map(|time: f64| time / 1e3 / count as f64),
+    }
 }
 
 /// How reducers are found.

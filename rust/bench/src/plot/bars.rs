@@ -25,48 +25,50 @@ pub struct Group {
 pub fn plot(title: &str, axis: &str, step: f64, groups: &[Group], series: &[Series]) -> String {
     let mut svg = Svg::new(title, SIZE.0, SIZE.1);
     svg.legend((LEFT, 58.), series);
+    svg.upward_text(18., TOP.midpoint(BOTTOM), axis);
     let values = groups.iter().flat_map(|group| &group.values);
     let highest = values.copied().fold(step, f64::max);
-    let steps = (highest / step).ceil();
     let scale = Scale {
-        highest: steps * step,
+        step,
+        steps: (highest / step).ceil(),
     };
-    svg.upward_text(18., TOP.midpoint(BOTTOM), axis);
-    for at in 0..=steps as u32 {
-        draw_step(&mut svg, scale, f64::from(at) * step);
-    }
+    scale.draw(&mut svg);
     let width = (RIGHT - LEFT) / groups.len() as f64;
     for (group, at) in groups.iter().zip(0..) {
-        draw_group(
-            &mut svg,
-            scale,
-            group,
-            LEFT + width * f64::from(at),
-            width,
-            series,
-        );
+        let x = LEFT + width * f64::from(at);
+        draw_group(&mut svg, scale, group, (x, width), series);
     }
     svg.finish()
 }
 
 #[derive(Clone, Copy)]
 struct Scale {
-    highest: f64,
+    step: f64,
+    steps: f64,
 }
 
 impl Scale {
     fn place(self, value: f64) -> f64 {
-        BOTTOM - (BOTTOM - TOP) * value / self.highest
+        BOTTOM - (BOTTOM - TOP) * value / (self.steps * self.step)
+    }
+
+    fn draw(self, svg: &mut Svg) {
+        for at in 0..=self.steps as u32 {
+            let value = f64::from(at) * self.step;
+            let y = self.place(value);
+            svg.grid_line((LEFT, y), (RIGHT, y));
+            svg.text(LEFT - 8., y + 5., Anchor::End, &value.to_string());
+        }
     }
 }
 
-fn draw_step(svg: &mut Svg, scale: Scale, value: f64) {
-    let y = scale.place(value);
-    svg.grid_line((LEFT, y), (RIGHT, y));
-    svg.text(LEFT - 8., y + 5., Anchor::End, &value.to_string());
-}
-
-fn draw_group(svg: &mut Svg, scale: Scale, group: &Group, x: f64, width: f64, series: &[Series]) {
+fn draw_group(
+    svg: &mut Svg,
+    scale: Scale,
+    group: &Group,
+    (x, width): (f64, f64),
+    series: &[Series],
+) {
     let bar = width * FILLED / series.len() as f64;
     let start = x + width * (1. - FILLED) / 2.;
     for ((value, series), at) in group.values.iter().zip(series).zip(0..) {

@@ -49,38 +49,37 @@ impl Plot<'_> {
 
     fn draw_panel(&self, svg: &mut Svg, scale: Scale, panel: &Panel, (x, y): (f64, f64)) {
         svg.text(x + PANEL.0 / 2., y - 8., Anchor::Middle, &panel.title);
-        for (place, at) in self.places.iter().zip(0..) {
-            let middle = x + self.place(at);
-            svg.text(middle, y + PANEL.1 + 18., Anchor::Middle, place);
-        }
-        let middle = self.place(0).midpoint(self.place(self.places.len() - 2));
-        svg.text(x + middle, y + PANEL.1 + 36., Anchor::Middle, self.under);
+        self.draw_places(svg, (x, y + PANEL.1));
         for (line, series) in panel.lines.iter().zip(self.series) {
-            self.draw_line(svg, scale, line, series, (x, y));
+            let values = line.iter().enumerate();
+            let points = values.map(|(at, value)| (x + self.place(at), y + scale.place(*value)));
+            draw_line(svg, series, &points.collect::<Vec<_>>());
         }
     }
 
-    fn draw_line(
-        &self,
-        svg: &mut Svg,
-        scale: Scale,
-        line: &[f64],
-        series: &Series,
-        (x, y): (f64, f64),
-    ) {
-        let values = line.iter().enumerate();
-        let points: Vec<_> = values
-            .map(|(at, value)| (x + self.place(at), y + scale.place(*value)))
-            .collect();
-        svg.path(series, &points[..points.len() - 1]);
-        for point in points {
-            svg.dot(series, point);
+    fn draw_places(&self, svg: &mut Svg, (x, y): (f64, f64)) {
+        for (place, at) in self.places.iter().zip(0..) {
+            svg.text(x + self.place(at), y + 18., Anchor::Middle, place);
         }
+        let middle = self.place(0).midpoint(self.place(self.places.len() - 2));
+        svg.text(x + middle, y + 36., Anchor::Middle, self.under);
     }
 
     /// How far right in the panel.
     fn place(&self, at: usize) -> f64 {
         PANEL.0 * (at as f64 + 0.5) / self.places.len() as f64
+    }
+}
+
+/// A dot at each point, and a line to all but the last. What was not measured is
+/// left out.
+fn draw_line(svg: &mut Svg, series: &Series, points: &[(f64, f64)]) {
+    let (apart, along) = points.split_last().expect("a value for each place");
+    let is_measured = |point: &&(f64, f64)| point.1.is_finite();
+    let along: Vec<_> = along.iter().filter(is_measured).copied().collect();
+    svg.path(series, &along);
+    for point in along.iter().chain([apart]) {
+        svg.dot(series, *point);
     }
 }
 
