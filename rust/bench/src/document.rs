@@ -40,7 +40,7 @@ fn put(page: String, name: &str, text: &str) -> String {
     format!("{before}{start}\n{}\n\n{end}{after}", text.trim_end())
 }
 
-/// The machine and the command.
+/// The machine, how busy it was, and the command.
 fn machine(rounds: usize) -> String {
     let info = fs::read_to_string("/proc/cpuinfo").unwrap_or_default();
     let value = |name| {
@@ -49,12 +49,14 @@ fn machine(rounds: usize) -> String {
         found.map_or("unknown", |(_, value)| value.trim())
     };
     let cores = std::thread::available_parallelism().map_or(1, |cores| cores.get());
+    let load = fs::read_to_string("/proc/loadavg").unwrap_or_default();
     format!(
-        "Machine: {} (family {}, model {}), {cores} cores, as `lscpu` names it. \
-         Command: `rust/target/speed/bench write {rounds}`.",
+        "Machine: {} (family {}, model {}), {cores} cores, as `lscpu` names it; load at the end of \
+         the run {}, of which the bench is 1. Command: `rust/target/speed/bench write {rounds}`.",
         value("model name"),
         value("cpu family"),
         value("model"),
+        load.split(' ').next().unwrap_or_default(),
     )
 }
 

@@ -40,6 +40,14 @@ struct Measured {
     times: [f64; 4],
 }
 
+impl Measured {
+    /// By single calls, through the cache and by the original.
+    fn milliseconds(&self) -> Vec<f64> {
+        let [_, original, cache, single] = self.times;
+        [single, cache, original].map(|time| time / 1e3).to_vec()
+    }
+}
+
 pub fn run(rounds: Rounds) -> Report {
     let sizes = |shape| SIZES.map(|size| (shape, size));
     let all = Shape::of_kind(Kind::Ratio).flat_map(sizes);
@@ -102,9 +110,7 @@ fn plot(all: &[Measured]) -> String {
         };
         Panel {
             title: format!("{} entries, {of}", grouped(entries as i64)),
-            lines: here
-                .map(|one| vec![one.times[3], one.times[2], one.times[1]])
-                .collect(),
+            lines: here.map(Measured::milliseconds).collect(),
         }
     };
     let sizes = SIZES
@@ -115,7 +121,7 @@ fn plot(all: &[Measured]) -> String {
     let series = series.map(|(v, colour)| Series::new(format!("{v} variables"), colour));
     let plot = Plot {
         title: "A whole regular reduction",
-        axis: "µs a polynomial, logarithmic",
+        axis: "ms a polynomial, logarithmic",
         places: &["single calls", "cache", "original"],
         under: "port",
         series: &series.collect::<Vec<_>>(),

@@ -5,7 +5,7 @@ use super::{
     Series,
 };
 
-const LEFT: f64 = 76.;
+const LEFT: f64 = 84.;
 const TOP: f64 = 100.;
 const PANEL: (f64, f64) = (280., 240.);
 const GAP: (f64, f64) = (20., 66.);
