@@ -47,11 +47,11 @@ fn do_as_told(words: &[&str]) -> Option<()> {
             parts::sample(call, number(entries)?, number(variables)?);
         }
         ["write"] => write(ROUNDS),
-        ["write", rounds] => write(number(rounds)?),
+        ["write", count] => write(rounds(count)?),
         [] => drop(run_all(ROUNDS)),
-        [rounds] if number(rounds).is_some() => drop(run_all(number(rounds)?)),
+        [count] if rounds(count).is_some() => drop(run_all(rounds(count)?)),
         [name] => drop(run(part(name)?, ROUNDS)),
-        [name, rounds] => drop(run(part(name)?, number(rounds)?)),
+        [name, count] => drop(run(part(name)?, rounds(count)?)),
         _ => return None,
     }
     Some(())
@@ -59,6 +59,10 @@ fn do_as_told(words: &[&str]) -> Option<()> {
 
 fn number(word: &str) -> Option<usize> {
     word.parse().ok()
+}
+
+fn rounds(word: &str) -> Option<usize> {
+    number(word).filter(|rounds| *rounds > 0)
 }
 
 fn part(name: &str) -> Option<&'static Part> {
