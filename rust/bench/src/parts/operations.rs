@@ -1,19 +1,17 @@
 //! Each operation on both sides, timed over the pairs of a sample.
 
-use std::{
-    hint::black_box,
-    time::{Duration, Instant},
-};
+use std::hint::black_box;
 
 use divisor_index::doors;
 
-use crate::inputs::{Inputs, Monomial, Pair, Sample};
+use super::pairs::{Inputs, Pair, Sample};
+use crate::{sides::Monomial, timing};
 
 pub struct Operation {
     pub name: &'static str,
     pub inputs: Inputs,
-    pub original: fn(&Sample) -> Duration,
-    pub port: fn(&Sample) -> Duration,
+    pub original: fn(&Sample) -> f64,
+    pub port: fn(&Sample) -> f64,
 }
 
 pub const OPERATIONS: [Operation; 8] = [
@@ -73,19 +71,24 @@ pub const OPERATIONS: [Operation; 8] = [
         name: "mask",
         inputs: Inputs::HalfDivide,
         original: |s| timed(s, |p| p, |p| s.map.map(&p.large.monomial)),
-        port: |s| through(s, |v, _, b, out| doors::divisor_index_divmask_mask(v, &s.maxima, b, out)),
+        port: |s| {
+            through(s, |v, _, b, out| {
+                doors::divisor_index_divmask_mask(v, &s.maxima, b, out)
+            })
+        },
     },
 ];
 
 /// The port's questions alone: both monomials are read to their ends, and the
 /// second is refused there for its wrong count.
-pub fn questions(sample: &Sample) -> Duration {
-    through(sample, |v, a, b, out| {
-        match doors::divisor_index_monomial_eq(v, a, b, out) {
+pub fn questions(sample: &Sample) -> f64 {
+    through(
+        sample,
+        |v, a, b, out| match doors::divisor_index_monomial_eq(v, a, b, out) {
             7 => 0,
             number => panic!("{number} for a wrong count"),
-        }
-    })
+        },
+    )
 }
 
 fn owned_large(pair: &Pair) -> (Monomial, &Pair) {
@@ -97,7 +100,7 @@ fn both_owned(pair: &Pair) -> (Monomial, Monomial) {
 }
 
 /// A door on the words of both monomials, which must serve them.
-fn through(sample: &Sample, door: impl Fn(u32, &[u8], &[u8], &mut [u8]) -> u32) -> Duration {
+fn through(sample: &Sample, door: impl Fn(u32, &[u8], &[u8], &mut [u8]) -> u32) -> f64 {
     let mut out = [0; 260];
     timed(
         sample,
@@ -111,11 +114,11 @@ fn timed<'a, T, R>(
     sample: &'a Sample,
     prepare: impl Fn(&'a Pair) -> T,
     mut work: impl FnMut(T) -> R,
-) -> Duration {
+) -> f64 {
     let prepared: Vec<T> = sample.pairs.iter().map(prepare).collect();
-    let start = Instant::now();
-    for input in prepared {
-        black_box(work(black_box(input)));
-    }
-    start.elapsed()
+    timing::timed(|| {
+        for input in prepared {
+            black_box(work(black_box(input)));
+        }
+    })
 }

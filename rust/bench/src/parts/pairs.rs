@@ -1,6 +1,6 @@
 //! Pairs of monomials, as the original's values and as words.
 
-use harness::{model::powers::Powers, rng::Rng, words::monomial_words};
+use harness::{images::samples::bytes, model::powers::Powers, rng::Rng, words::monomial_words};
 use original::{
     oracle,
     polynomial::{
@@ -9,12 +9,13 @@ use original::{
     },
 };
 
-pub type Monomial = oracle::Monomial<Grevlex>;
+use crate::sides::{
+    drawing::{draw_powers, HIGHEST_POWER},
+    monomial, Monomial,
+};
 
 /// Pairs of a round.
 pub const PAIRS: usize = 1024;
-
-const HIGHEST_POWER: i32 = 12;
 
 /// Which pairs are drawn.
 #[derive(Clone, Copy)]
@@ -48,25 +49,23 @@ pub struct Operand {
 
 /// The same pairs in each run: of so many variables, at least three of them
 /// present.
-pub fn draw(variables: u32, inputs: Inputs) -> Sample {
-    let mut rng = Rng::new(variables.into());
+pub fn draw(variables: usize, inputs: Inputs) -> Sample {
+    let mut rng = Rng::new(variables as u64);
     let pairs = (0..PAIRS).map(|at| draw_pair(variables, inputs, at, &mut rng));
-    let mut tracker = MaximumExponentsTracker::new(variables as usize);
+    let mut tracker = MaximumExponentsTracker::new(variables);
     let maximum = |id| oracle::monomial::<Grevlex, i32>(&[(id, HIGHEST_POWER)]);
     for id in 0..variables as u16 {
         tracker.update(&maximum(id));
     }
     Sample {
-        variables,
+        variables: variables as u32,
         pairs: pairs.collect(),
         map: DivMap::new(&tracker),
-        maxima: (HIGHEST_POWER as u32)
-            .to_le_bytes()
-            .repeat(variables as usize),
+        maxima: (HIGHEST_POWER as u32).to_le_bytes().repeat(variables),
     }
 }
 
-fn draw_pair(variables: u32, inputs: Inputs, at: usize, rng: &mut Rng) -> Pair {
+fn draw_pair(variables: usize, inputs: Inputs, at: usize, rng: &mut Rng) -> Pair {
     let small = draw_powers(variables, rng);
     let large = match inputs {
         Inputs::EqualTotals => shift_power(&small, rng),
@@ -84,19 +83,6 @@ fn draw_pair(variables: u32, inputs: Inputs, at: usize, rng: &mut Rng) -> Pair {
     }
 }
 
-pub fn draw_powers(variables: u32, rng: &mut Rng) -> Powers {
-    let mut powers = Powers::one(variables as usize);
-    let mut missing = rng.between(3, variables as i32);
-    while missing > 0 {
-        let power = &mut powers.0[rng.below(variables as usize)];
-        if *power == 0 {
-            *power = rng.between(1, HIGHEST_POWER);
-            missing -= 1;
-        }
-    }
-    powers
-}
-
 /// The same with one power of a variable moved to another.
 fn shift_power(powers: &Powers, rng: &mut Rng) -> Powers {
     let mut shifted = powers.clone();
@@ -108,11 +94,9 @@ fn shift_power(powers: &Powers, rng: &mut Rng) -> Powers {
 
 impl Operand {
     fn new(powers: &Powers) -> Self {
-        let vars: Vec<_> = powers.vars().collect();
-        let words = monomial_words(vars.iter().copied());
         Operand {
-            monomial: oracle::monomial(&vars),
-            words: words.iter().flat_map(|word| word.to_le_bytes()).collect(),
+            monomial: monomial(powers),
+            words: bytes(&monomial_words(powers.vars())),
         }
     }
 }
