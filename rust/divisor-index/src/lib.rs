@@ -44,7 +44,7 @@
 //! [`RatioMonomialIndex::find_reducers`]. The calls of a batch are served in
 //! order, each on what the earlier ones left. For a regular reduction, whose calls do
 //! wait for each other, [`Reducers`] asks ahead and keeps the answers.
-//! docs/DECISIONS.md has the measurements.
+//! docs/SPEED.md has the measurements.
 //!
 //! # Code written for the original
 //!
