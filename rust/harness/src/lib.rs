@@ -18,5 +18,7 @@ pub mod meaning;
 pub mod model;
 pub mod order;
 pub mod original_run;
+pub mod port;
 pub mod rng;
+pub mod tally;
 pub mod words;

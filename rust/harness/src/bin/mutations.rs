@@ -55,8 +55,8 @@ fn by(difference: &Difference) -> &'static str {
         Difference::Answer { .. } => "an answer of the original",
         Difference::Meaning { .. } => "the meanings",
         Difference::Pruning { .. } => "a look at every entry",
-        Difference::Maxima => "the original's maxima",
-        Difference::Rest => "the original's tree order, labels or keys",
-        Difference::Whole => "the list as a whole",
+        Difference::Tree { .. } => "the original's tree",
+        Difference::Original(what) => what,
+        Difference::Port(what) => what,
     }
 }

@@ -14,6 +14,7 @@ use crate::{
         state::State,
         Kind,
     },
+    port::bytes,
     rng::Rng,
     words::{MAX_CAPACITY, MAX_VARIABLES},
 };
@@ -28,10 +29,6 @@ const CHANGES: u64 = 24;
 
 /// Most random bytes.
 const BYTES: usize = 600;
-
-pub fn bytes(words: &[u32]) -> Vec<u8> {
-    words.iter().flat_map(|word| word.to_le_bytes()).collect()
-}
 
 /// Small images: as they are, with every change of a word, with every two rows
 /// exchanged, of every shorter length, and with bytes behind them.

@@ -181,13 +181,7 @@ pub fn relabel(state: &mut State, rng: &mut Rng) {
         false => (low + at * step) as u32,
     });
     state.rows = ratios.into_iter().zip(labels).collect();
-    shuffle(&mut state.rows, rng);
-}
-
-pub fn shuffle<T>(list: &mut [T], rng: &mut Rng) {
-    for at in 1..list.len() {
-        list.swap(at, rng.below(at + 1));
-    }
+    rng.shuffle(&mut state.rows);
 }
 
 /// Where a tree that is grown cuts.
@@ -204,7 +198,7 @@ pub fn regrow(state: &mut State, rng: &mut Rng) {
     let cut = *rng.choose(&[Cut::Low, Cut::High, Cut::Anywhere, Cut::Anywhere]);
     let chance = *rng.choose(&[0, 60, 90, 100]);
     let mut places: Vec<usize> = (0..state.entries.len()).collect();
-    shuffle(&mut places, rng);
+    rng.shuffle(&mut places);
     let ratios: Vec<Ratio> = state.entries.iter().map(Entry::ratio).collect();
     state.tree = grow(state, &ratios, places, cut, chance, rng);
 }

@@ -1,6 +1,6 @@
 //! The entries that a job inserts.
 
-use super::{Mode, Plan};
+use super::{Indexes, Mode, Plan};
 use crate::{model::powers::Powers, rng::Rng, words::MAX_POWER};
 
 /// What a ratio index is given with an insert. A monomial index takes the lm.
@@ -16,7 +16,7 @@ pub struct Entries {
     shape: Shape,
     variables: usize,
     tallest: i32,
-    indexes: u32,
+    indexes: Indexes,
 }
 
 enum Shape {
@@ -30,7 +30,12 @@ enum Shape {
     Clusters(Vec<Powers>),
     /// For each variable one of these two powers.
     Pairs(Vec<(i32, i32)>),
-    Sparse,
+    /// Few variables, from this one on.
+    Sparse(usize),
+    /// Multiples of this monomial, and when these are split others too.
+    Lowered(Powers),
+    /// All powers of signature monomial and lm small or large.
+    FarApart,
 }
 
 /// How ratios run from entry to entry.
@@ -71,8 +76,10 @@ fn places(mode: Mode, count: usize, rng: &mut Rng) -> Vec<i32> {
     let (mut low, mut high) = match mode {
         Mode::Rising => (0, 0),
         Mode::Falling => (LAST, LAST),
+        Mode::BothEnds => (LAST / 2, LAST / 2),
         _ => (0, LAST),
     };
+    let mut rises = false;
     let mut place = |at: usize| {
         if rng.chance(25) {
             return match mode {
@@ -89,6 +96,19 @@ fn places(mode: Mode, count: usize, rng: &mut Rng) -> Vec<i32> {
             Mode::Falling => {
                 low -= step;
                 low
+            }
+            // Larger first: there is one label more above than below.
+            Mode::BothEnds => {
+                rises = !rises;
+                let half = step / 2 + 1;
+                match rises {
+                    true => high += half,
+                    false => low -= half,
+                }
+                match rises {
+                    true => high,
+                    false => low,
+                }
             }
             _ if at.is_multiple_of(2) => {
                 low += step;
@@ -112,7 +132,7 @@ impl Entries {
             indexes: plan.indexes,
         };
         entries.shape = match mode {
-            Mode::Rising | Mode::Falling | Mode::Crowding => {
+            Mode::Rising | Mode::Falling | Mode::Crowding | Mode::BothEnds => {
                 Shape::Trend(Trend::draw(mode, plan, rng))
             }
             Mode::EqualRatios => {
@@ -136,7 +156,18 @@ impl Entries {
                 };
                 Shape::Pairs((0..plan.variables).map(pair).collect())
             }
-            Mode::ManyVariables => Shape::Sparse,
+            Mode::TallMasks => {
+                let count = *rng.choose(&[1, 1, 2, 3]);
+                let cluster = |_| entries.tall(rng);
+                Shape::Clusters((0..count).map(cluster).collect())
+            }
+            Mode::ManyVariables => Shape::Sparse(0),
+            Mode::Dimensions => Shape::Sparse(rng.below(plan.variables)),
+            Mode::Lowering => {
+                let power = |_| rng.between(5, 30);
+                Shape::Lowered(Powers((0..plan.variables).map(power).collect()))
+            }
+            Mode::FarTotals => Shape::FarApart,
             _ => Shape::Random,
         };
         entries
@@ -172,16 +203,42 @@ impl Entries {
                 let lm = Powers(pairs.iter().map(power).collect());
                 self.signed(lm, rng)
             }
-            Shape::Sparse => {
-                let lm = self.sparse(rng);
-                let sign = self.sparse(rng);
-                Inserted {
-                    index: self.index(rng),
-                    sign,
-                    lm,
-                }
+            Shape::Sparse(from) => Inserted {
+                lm: self.sparse(*from, rng),
+                sign: self.sparse(0, rng),
+                index: self.index(rng),
+            },
+            Shape::Lowered(gcd) => {
+                // A leaf of 65 is split, so a branch is lowered after that.
+                let lm = match at < 65 || rng.chance(80) {
+                    true => gcd.times(&self.monomial(rng, 8)),
+                    false => self.sparse(0, rng),
+                };
+                self.signed(lm, rng)
             }
+            Shape::FarApart => Inserted {
+                lm: self.all_near(rng),
+                sign: self.all_near(rng),
+                index: self.index(rng),
+            },
         }
+    }
+
+    /// A monomial whose powers are all small or all large.
+    fn all_near(&self, rng: &mut Rng) -> Powers {
+        let (low, high) = *rng.choose(&[(0, 3), (0, 3), (MAX_POWER - 40, MAX_POWER)]);
+        let powers = (0..self.variables).map(|_| rng.between(low, high));
+        Powers(powers.collect())
+    }
+
+    /// A monomial of which most powers are tall, but not so that a multiple has
+    /// too tall ones.
+    fn tall(&self, rng: &mut Rng) -> Powers {
+        let power = |_| match rng.below(4) {
+            0 => 0,
+            _ => rng.between(1 << 14, MAX_POWER - 8),
+        };
+        Powers((0..self.variables).map(power).collect())
     }
 
     fn random(&self, rng: &mut Rng) -> Inserted {
@@ -224,7 +281,7 @@ impl Entries {
     }
 
     fn index(&self, rng: &mut Rng) -> u32 {
-        rng.below(self.indexes as usize) as u32
+        self.indexes.draw(rng)
     }
 
     /// A monomial with powers up to a limit, some of them 0.
@@ -238,10 +295,12 @@ impl Entries {
         Powers((0..self.variables).map(power).collect())
     }
 
-    fn sparse(&self, rng: &mut Rng) -> Powers {
+    /// A monomial of few variables, from one on.
+    fn sparse(&self, from: usize, rng: &mut Rng) -> Powers {
         let mut powers = Powers::one(self.variables);
         for _ in 0..rng.between(0, 4) {
-            powers.0[rng.below(self.variables)] = rng.between(1, self.tallest);
+            let id = from + rng.below(self.variables - from);
+            powers.0[id] = rng.between(1, self.tallest);
         }
         powers
     }

@@ -2,7 +2,7 @@
 
 use super::{
     entries::{Entries, Inserted},
-    Job, Mode, Plan,
+    Indexes, Mode, Plan,
 };
 use crate::{
     model::{
@@ -14,16 +14,16 @@ use crate::{
     words::{kind, monomial_words, ratio_words, word, CALL, END, INDEX, MAX_POWER},
 };
 
-pub struct Maker {
+pub struct Maker<'a> {
     rng: Rng,
-    opening: Opening,
-    indexes: u32,
+    opening: &'a Opening,
+    indexes: Indexes,
     list: Vec<u32>,
     held: Vec<Inserted>,
 }
 
-impl Maker {
-    pub fn new(rng: Rng, opening: Opening, indexes: u32) -> Self {
+impl<'a> Maker<'a> {
+    pub fn new(rng: Rng, opening: &'a Opening, indexes: Indexes) -> Self {
         Self {
             rng,
             opening,
@@ -33,7 +33,7 @@ impl Maker {
         }
     }
 
-    pub fn make(mut self, mode: Mode, plan: &Plan, entries: Entries) -> Job {
+    pub fn make(mut self, mode: Mode, plan: &Plan, entries: Entries) -> Vec<u32> {
         for at in 0..plan.inserts {
             let entry = entries.next(at, &mut self.rng);
             self.call(mode, |maker| maker.insert(entry));
@@ -46,10 +46,7 @@ impl Maker {
         for _ in 0..self.rng.below(4) {
             self.call(mode, |maker| maker.search(mode));
         }
-        Job {
-            opening: self.opening,
-            list: self.list,
-        }
+        self.list
     }
 
     fn variables(&self) -> usize {
@@ -127,12 +124,40 @@ impl Maker {
                 self.write(5, Some(index), &[monomial_words(sign.vars())]);
             }
             _ => {
-                let (index, sign) = self.near_signature();
-                let lm = self.near_lm(mode);
+                let (index, sign, lm) = self.for_singular(mode);
                 let body = [monomial_words(sign.vars()), monomial_words(lm.vars())];
                 self.write(6, Some(index), &body);
             }
         }
+    }
+
+    /// Index, signature monomial and lm, often of a ratio that is held.
+    fn for_singular(&mut self, mode: Mode) -> (u32, Powers, Powers) {
+        let (index, mut sign) = self.near_signature();
+        let mut lm = self.near_lm(mode);
+        if self.rng.chance(60) {
+            return (index, sign, lm);
+        }
+        match self.some_entry() {
+            Some(entry) => {
+                // The same multiple of both, as far as powers go.
+                lm = entry.lm;
+                let id = self.rng.below(lm.0.len());
+                let room = MAX_POWER - entry.sign.0[id].max(lm.0[id]);
+                let by = self.rng.between(0, room.min(3));
+                sign = entry.sign;
+                sign.0[id] += by;
+                lm.0[id] += by;
+                (entry.index, sign, lm)
+            }
+            None => (index, sign, lm),
+        }
+    }
+
+    /// An index of the job, or the one above.
+    fn near_index(&mut self) -> u32 {
+        let index = self.indexes.draw(&mut self.rng) + self.rng.below(2) as u32;
+        index.min((1 << 28) - 1)
     }
 
     fn write_ratio(&mut self, number: u32, ratio: Ratio, lm: &Powers) {
@@ -158,7 +183,9 @@ impl Maker {
         let id = self.rng.below(self.variables());
         match mode {
             Mode::LowQueries => lm.0[id..].fill(0),
-            Mode::Masks if self.rng.chance(50) => lm.0[id] = self.rng.between(0, lm.0[id]),
+            Mode::Masks | Mode::TallMasks if self.rng.chance(50) => {
+                lm.0[id] = self.rng.between(0, lm.0[id]);
+            }
             _ => (),
         }
         lm
@@ -187,7 +214,7 @@ impl Maker {
         match self.rng.below(10) {
             0..=4 => (),
             5..=7 => ratio.monomial.0[id] += self.rng.between(-1, 1),
-            8 => ratio.index = self.rng.below(self.indexes as usize + 1) as u32,
+            8 => ratio.index = self.near_index(),
             _ => ratio.monomial.0[id] = *self.rng.choose(&[-MAX_POWER, MAX_POWER]),
         }
         limit(&mut ratio.monomial, -MAX_POWER);
@@ -211,11 +238,16 @@ impl Maker {
         }
     }
 
+    /// An entry that was inserted, often one of the last.
     fn some_entry(&mut self) -> Option<Inserted> {
         if self.held.is_empty() || self.rng.chance(3) {
             return None;
         }
-        Some(self.rng.choose(&self.held).clone())
+        let from = match self.rng.chance(20) {
+            true => self.held.len().saturating_sub(3),
+            false => 0,
+        };
+        Some(self.rng.choose(&self.held[from..]).clone())
     }
 
     /// Raises some powers and lowers one, each not in every case.

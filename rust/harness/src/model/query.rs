@@ -6,7 +6,7 @@ use std::cmp::Ordering;
 use super::{
     calls::Search,
     mutation::Mutation,
-    powers::{Powers, Ratio},
+    powers::{compare_indexes, Powers, Ratio},
     store::Store,
 };
 use crate::words::{found, SINGULAR};
@@ -24,6 +24,16 @@ pub enum Key {
         number: usize,
         label: i64,
     },
+}
+
+impl Key {
+    /// The power, or the number of the entry.
+    pub fn word(&self) -> u32 {
+        match self {
+            Key::Power { power, .. } => *power as u32,
+            Key::Ratio { number, .. } => *number as u32,
+        }
+    }
 }
 
 /// The sides of a branch that a search looks at.
@@ -89,6 +99,7 @@ impl Query {
     /// The sides to look at in a branch whose entries have this gcd.
     pub fn path(&self, store: &Store, key: &Key, gcd: &Powers) -> Path {
         if self.is_masked_out(store, gcd) && !store.rules.has(Mutation::MaskNeverAsked) {
+            store.reached.masked_out(gcd);
             return Path::None;
         }
         match key {
@@ -108,14 +119,18 @@ impl Query {
                 _ => Path::Both,
             },
             Search::High { ratio, .. } => above_less(ratio.compare(key, rules).is_lt()),
-            Search::Low { index, .. } => match key.index.cmp(index) {
+            Search::Low { index, .. } => match compare_indexes(key.index, *index, rules) {
                 Ordering::Less => Path::Other,
                 Ordering::Equal => Path::Both,
                 Ordering::Greater => Path::Less,
             },
-            Search::Singular { index, .. } => match key.index.cmp(index) {
+            Search::Singular { index, .. } => match compare_indexes(key.index, *index, rules) {
                 Ordering::Less => Path::Other,
-                Ordering::Equal => above_less(key.monomial.compare(&self.ratio, rules).is_gt()),
+                Ordering::Equal => {
+                    let order = key.monomial.compare(&self.ratio, rules);
+                    let both = Mutation::SingularBothAtEqualKey;
+                    above_less(order.is_gt() || order.is_eq() && rules.has(both))
+                }
                 Ordering::Greater => Path::Less,
             },
         }
@@ -156,6 +171,7 @@ impl Query {
                 found.number.is_none()
             }
             Search::Reducer { ratio, lm } => {
+                store.reached.compared(&entry.ratio, ratio);
                 let order = entry.ratio.compare(ratio, rules);
                 if order.is_gt() || !entry.lm.divides(lm) {
                     return true;
@@ -164,6 +180,7 @@ impl Query {
             }
             Search::High { ratio, lm } => {
                 if entry.lm.divides(lm) {
+                    store.reached.compared(&entry.ratio, ratio);
                     let above = entry.ratio.compare(ratio, rules).is_gt();
                     if !above {
                         found.panic.get_or_insert(Panic::NotAbove);
@@ -176,7 +193,8 @@ impl Query {
                 !(found.number.is_some() && rules.has(Mutation::HighFirstFound))
             }
             Search::Low { index, sign } => {
-                let same = entry.ratio.index == *index || rules.has(Mutation::LowAnyIndex);
+                let same = compare_indexes(entry.ratio.index, *index, rules).is_eq()
+                    || rules.has(Mutation::LowAnyIndex);
                 if same && entry.sign.divides(sign) {
                     let last = Mutation::LowLastOfEquals;
                     take_largest(store, number, found, rules.has(last));
@@ -187,7 +205,8 @@ impl Query {
                 let order = entry.ratio.monomial.compare(&self.ratio, rules);
                 let above =
                     order.is_gt() || order.is_eq() && rules.has(Mutation::SingularNotStrict);
-                if entry.ratio.index == *index && entry.sign.divides(sign) && above {
+                let same = compare_indexes(entry.ratio.index, *index, rules).is_eq();
+                if same && entry.sign.divides(sign) && above {
                     found.number = Some(number);
                 }
                 found.number.is_none()
