@@ -1,6 +1,7 @@
-//! The door's question 3 of an index image, asked of port and model.
+//! Question 3 of an index image, asked of port and model by the check, by run and
+//! by list.
 //!
-//! An image stands in a [`Memory`], of which the port may change no byte. The
+//! An image stands in a [`Memory`], of which the check may change no byte. The
 //! model says which rules the image breaks, so that a [`Tally`] shows for each
 //! rule how many images are refused for it alone: one of the two that did without
 //! the rule would be noticed there.
@@ -8,6 +9,7 @@
 pub mod cases;
 pub mod chains;
 pub mod edits;
+mod lent;
 pub mod samples;
 pub mod stack;
 pub mod states;
@@ -81,7 +83,7 @@ impl fmt::Display for Tally {
     }
 }
 
-/// Compares port and model on these bytes.
+/// Compares port and model on these bytes: the check, a list and a listing.
 pub fn compare(image: &[u8], tally: &mut Tally) -> Result<(), String> {
     let reading = read(image);
     let expected = match reading.is_sound() {
@@ -102,6 +104,10 @@ pub fn compare(image: &[u8], tally: &mut Tally) -> Result<(), String> {
                 show(image)
             ));
         }
+        lent::compare(image, *behind, &reading).map_err(|difference| {
+            let broken = reading.broken;
+            format!("{difference}, broken {broken:?}, {}", show(image))
+        })?;
     }
     tally.count(&reading);
     Ok(())

@@ -1,15 +1,11 @@
 //! The entries that a job inserts.
 
 use super::{Indexes, Mode, Plan};
-use crate::{model::powers::Powers, rng::Rng, words::MAX_POWER};
-
-/// What a ratio index is given with an insert. A monomial index takes the lm.
-#[derive(Debug, Clone)]
-pub struct Inserted {
-    pub index: u32,
-    pub sign: Powers,
-    pub lm: Powers,
-}
+use crate::{
+    model::{powers::Powers, state::Entry},
+    rng::Rng,
+    words::MAX_POWER,
+};
 
 /// Draws one entry after the other.
 pub struct Entries {
@@ -25,7 +21,7 @@ enum Shape {
     /// One of these ratios for each entry.
     Ratios(Vec<Powers>),
     /// One of these entries, if the chance in a hundred comes.
-    Repeated(Vec<Inserted>, usize),
+    Repeated(Vec<Entry>, usize),
     /// A multiple of one of these monomials.
     Clusters(Vec<Powers>),
     /// For each variable one of these two powers.
@@ -36,6 +32,8 @@ enum Shape {
     Lowered(Powers),
     /// All powers of signature monomial and lm small or large.
     FarApart,
+    /// All powers anywhere up to the tallest, so that ratios differ.
+    Anywhere,
 }
 
 /// How ratios run from entry to entry.
@@ -168,20 +166,21 @@ impl Entries {
                 Shape::Lowered(Powers((0..plan.variables).map(power).collect()))
             }
             Mode::FarTotals => Shape::FarApart,
+            Mode::Full => Shape::Anywhere,
             _ => Shape::Random,
         };
         entries
     }
 
     /// The entry to insert at this place of the job.
-    pub fn next(&self, at: usize, rng: &mut Rng) -> Inserted {
+    pub fn next(&self, at: usize, rng: &mut Rng) -> Entry {
         match &self.shape {
             Shape::Random => self.random(rng),
             Shape::Trend(trend) => self.trending(trend, at, rng),
             Shape::Ratios(ratios) => {
                 let ratio = rng.choose(ratios);
                 let lm = self.monomial(rng, self.tallest);
-                Inserted {
+                Entry {
                     index: self.index(rng),
                     sign: ratio.times(&lm),
                     lm,
@@ -203,7 +202,7 @@ impl Entries {
                 let lm = Powers(pairs.iter().map(power).collect());
                 self.signed(lm, rng)
             }
-            Shape::Sparse(from) => Inserted {
+            Shape::Sparse(from) => Entry {
                 lm: self.sparse(*from, rng),
                 sign: self.sparse(0, rng),
                 index: self.index(rng),
@@ -216,9 +215,14 @@ impl Entries {
                 };
                 self.signed(lm, rng)
             }
-            Shape::FarApart => Inserted {
+            Shape::FarApart => Entry {
                 lm: self.all_near(rng),
                 sign: self.all_near(rng),
+                index: self.index(rng),
+            },
+            Shape::Anywhere => Entry {
+                lm: self.all_between(0, self.tallest, rng),
+                sign: self.all_between(0, self.tallest, rng),
                 index: self.index(rng),
             },
         }
@@ -227,6 +231,10 @@ impl Entries {
     /// A monomial whose powers are all small or all large.
     fn all_near(&self, rng: &mut Rng) -> Powers {
         let (low, high) = *rng.choose(&[(0, 3), (0, 3), (MAX_POWER - 40, MAX_POWER)]);
+        self.all_between(low, high, rng)
+    }
+
+    fn all_between(&self, low: i32, high: i32, rng: &mut Rng) -> Powers {
         let powers = (0..self.variables).map(|_| rng.between(low, high));
         Powers(powers.collect())
     }
@@ -241,20 +249,20 @@ impl Entries {
         Powers((0..self.variables).map(power).collect())
     }
 
-    fn random(&self, rng: &mut Rng) -> Inserted {
+    fn random(&self, rng: &mut Rng) -> Entry {
         self.signed(self.monomial(rng, self.tallest), rng)
     }
 
     /// Gives an lm a signature.
-    fn signed(&self, lm: Powers, rng: &mut Rng) -> Inserted {
-        Inserted {
+    fn signed(&self, lm: Powers, rng: &mut Rng) -> Entry {
+        Entry {
             index: self.index(rng),
             sign: self.monomial(rng, self.tallest),
             lm,
         }
     }
 
-    fn trending(&self, trend: &Trend, at: usize, rng: &mut Rng) -> Inserted {
+    fn trending(&self, trend: &Trend, at: usize, rng: &mut Rng) -> Entry {
         let place = trend.places[at];
         let lm = self.monomial(rng, self.tallest);
         let power = |id| {
@@ -263,16 +271,16 @@ impl Entries {
             power
         };
         match trend.carrier {
-            Carrier::Index => Inserted {
+            Carrier::Index => Entry {
                 index: place as u32,
                 ..self.signed(lm, rng)
             },
-            Carrier::Ratio(id) => Inserted {
+            Carrier::Ratio(id) => Entry {
                 index: 0,
                 sign: power(id).times(&lm),
                 lm,
             },
-            Carrier::Sign(id) => Inserted {
+            Carrier::Sign(id) => Entry {
                 index: 0,
                 sign: power(id),
                 lm,

@@ -1,13 +1,13 @@
 //! Writes a job's calls: inserts, and searches near what is held.
 
 use super::{
-    entries::{Entries, Inserted},
-    Indexes, Mode, Plan,
+    entries::Entries, Indexes, Mode, Plan,
 };
 use crate::{
     model::{
         mutation::Rules,
         powers::{Powers, Ratio},
+        state::Entry,
         Kind, Opening,
     },
     rng::Rng,
@@ -19,7 +19,7 @@ pub struct Maker<'a> {
     opening: &'a Opening,
     indexes: Indexes,
     list: Vec<u32>,
-    held: Vec<Inserted>,
+    held: Vec<Entry>,
 }
 
 impl<'a> Maker<'a> {
@@ -45,6 +45,22 @@ impl<'a> Maker<'a> {
         }
         for _ in 0..self.rng.below(4) {
             self.call(mode, |maker| maker.search(mode));
+        }
+        self.list
+    }
+
+    /// So many calls near these entries, some of them damaged.
+    pub fn make_near(mut self, held: Vec<Entry>, count: usize) -> Vec<u32> {
+        self.held = held;
+        for _ in 0..count {
+            self.call(Mode::Malformed, |maker| match maker.rng.chance(40) {
+                true => {
+                    let (index, sign) = maker.near_signature();
+                    let lm = maker.near_lm(Mode::Malformed);
+                    maker.insert(Entry { index, sign, lm });
+                }
+                false => maker.search(Mode::Malformed),
+            });
         }
         self.list
     }
@@ -89,7 +105,7 @@ impl<'a> Maker<'a> {
         *self.rng.choose(&[0, 1, 0x7FFF, 0x8000, 0x8001, 0xFFFF])
     }
 
-    fn insert(&mut self, entry: Inserted) {
+    fn insert(&mut self, entry: Entry) {
         match self.opening.kind {
             Kind::Monomial => self.write(0, None, &[monomial_words(entry.lm.vars())]),
             Kind::Ratio => {
@@ -204,11 +220,8 @@ impl<'a> Maker<'a> {
     /// A ratio equal to a held one, beside one, or far from all.
     fn near_ratio(&mut self) -> Ratio {
         let mut ratio = match self.some_entry() {
-            Some(entry) => ratio_of(&entry),
-            None => Ratio {
-                index: 0,
-                monomial: Powers::one(self.variables()),
-            },
+            Some(entry) => entry.ratio(),
+            None => Ratio::one(self.variables()),
         };
         let id = self.rng.below(self.variables());
         match self.rng.below(10) {
@@ -225,7 +238,7 @@ impl<'a> Maker<'a> {
     fn ratio_for_high(&mut self, lm: &Powers) -> Ratio {
         let divisors = self.held.iter().filter(|entry| entry.lm.divides(lm));
         let least = divisors
-            .map(ratio_of)
+            .map(Entry::ratio)
             .min_by(|a, b| a.compare(b, Rules::document_01()));
         match least {
             Some(mut ratio) if self.rng.chance(85) => {
@@ -239,7 +252,7 @@ impl<'a> Maker<'a> {
     }
 
     /// An entry that was inserted, often one of the last.
-    fn some_entry(&mut self) -> Option<Inserted> {
+    fn some_entry(&mut self) -> Option<Entry> {
         if self.held.is_empty() || self.rng.chance(3) {
             return None;
         }
@@ -270,13 +283,6 @@ fn repeat_variable(call: &mut Vec<u32>, at: usize) {
     call.insert(at, call[at]);
     if let Some(end) = call[at..].iter_mut().find(|word| kind(**word) == END) {
         *end += 1;
-    }
-}
-
-fn ratio_of(entry: &Inserted) -> Ratio {
-    Ratio {
-        index: entry.index,
-        monomial: entry.sign.over(&entry.lm),
     }
 }
 

@@ -6,7 +6,7 @@ pub mod record;
 pub mod shrink;
 
 use crate::{
-    model::{Kind, Opening},
+    model::{state::State, Kind, Opening},
     rng::Rng,
     words::{calls, payload, MAX_CAPACITY, MAX_POWER},
 };
@@ -153,6 +153,20 @@ impl Job {
             }
         }
     }
+}
+
+/// So many calls near the entries of a state, some of them damaged.
+pub fn calls_near(state: &State, count: usize, rng: Rng) -> Vec<u32> {
+    let opening = Opening {
+        kind: state.kind,
+        capacity: state.capacity,
+        maxima: state.maxima.clone(),
+    };
+    let indexes = Indexes {
+        from: &[0],
+        count: 3,
+    };
+    Maker::new(rng, &opening, indexes).make_near(state.entries.clone(), count)
 }
 
 /// Whether a call's number is that of a search.
