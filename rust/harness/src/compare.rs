@@ -100,20 +100,17 @@ impl<'a> Run<'a> {
         let served = self.model.call(call);
         self.beside.call(call, served, &self.model, self.rules)?;
         self.tally.count(served);
-        let (call, model) = (|| call.to_vec(), served.word);
-        if let Some(search) = search {
-            if self.model.search_unpruned(search) != payload(model) {
-                let call = call();
-                return Err(Difference::Pruning { call, model });
-            }
+        let model = served.word;
+        let pruned = search.is_some_and(|s| self.model.search_unpruned(s) != payload(model));
+        if pruned {
+            let call = call.to_vec();
+            return Err(Difference::Pruning { call, model });
         }
-        match self.held.allows(&call(), model) {
-            true => Ok(model),
-            false => {
-                let call = call();
-                Err(Difference::Meaning { call, model })
-            }
+        if !self.held.allows(call, model) {
+            let call = call.to_vec();
+            return Err(Difference::Meaning { call, model });
         }
+        Ok(model)
     }
 
     /// Lends the list to the port, and compares what all three show after it.

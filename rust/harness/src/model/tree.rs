@@ -47,8 +47,12 @@ impl Node {
     pub fn insert(&mut self, store: &Store, number: usize) {
         match &mut self.below {
             Below::Leaf(entries) => {
+                let lm = &store.entries[number].lm;
+                self.gcd = match entries.is_empty() {
+                    true => lm.clone(),
+                    false => self.gcd.gcd(lm),
+                };
                 entries.push(number);
-                *self = Self::leaf(store, std::mem::take(entries));
             }
             Below::Branch(branch) => {
                 if !store.rules.has(Mutation::LoweringLeftOut) {
