@@ -21,4 +21,5 @@ pub mod original_run;
 pub mod port;
 pub mod rng;
 pub mod tally;
+pub mod typed;
 pub mod words;

@@ -22,6 +22,8 @@ pub struct Tally {
     /// Panics of the original, each where the model expects it.
     pub repeated_elements: usize,
     pub not_above: usize,
+    /// Calls that were also made as typed ones.
+    pub typed_calls: usize,
     pub reached: Reached,
     /// For each of them the jobs in which it came about.
     pub reaching_jobs: Vec<usize>,
@@ -85,6 +87,7 @@ impl AddAssign for Tally {
         self.rebuilds += other.rebuilds;
         self.repeated_elements += other.repeated_elements;
         self.not_above += other.not_above;
+        self.typed_calls += other.typed_calls;
         self.reached.add(&other.reached);
         self.reaching_jobs.resize(Reach::ALL.len(), 0);
         for (mine, others) in self.reaching_jobs.iter_mut().zip(other.reaching_jobs) {
@@ -98,7 +101,7 @@ impl fmt::Display for Tally {
         write!(
             f,
             "{} jobs, {} lists, {} calls, {} refusals, {} splits, {} rebuilds, \
-             panics of the original: {} repeated elements, {} not above",
+             panics of the original: {} repeated elements, {} not above, {} typed calls",
             self.jobs,
             self.lists,
             self.calls,
@@ -106,7 +109,8 @@ impl fmt::Display for Tally {
             self.splits,
             self.rebuilds,
             self.repeated_elements,
-            self.not_above
+            self.not_above,
+            self.typed_calls
         )
     }
 }

@@ -22,8 +22,12 @@ use harness::{
     jobs::{record::sample, shrink::shrunk, Job, Mode},
     model::{mutation::Rules, Index},
     tally::Tally,
+    typed,
     words::calls,
 };
+
+/// Of so many jobs one is also run by typed calls.
+const TYPED: u64 = 16;
 
 fn main() -> ExitCode {
     let args: Vec<String> = env::args().skip(1).collect();
@@ -117,8 +121,11 @@ impl Work {
                 if seed >= end {
                     return Ok(tally);
                 }
-                let compared = compare(&Job::new(mode, seed), Rules::document_01());
-                tally += compared.map_err(|_| seed)?;
+                let job = Job::new(mode, seed);
+                tally += compare(&job, Rules::document_01()).map_err(|_| seed)?;
+                if seed % TYPED == 0 {
+                    tally.typed_calls += typed::compare(&job).map_err(|_| seed)?;
+                }
             }
         };
         thread::scope(|scope| {
@@ -141,8 +148,13 @@ fn print(name: &str, tally: &Tally, start: Instant) {
 fn show_difference(mode: Mode, seed: u64) {
     let job = Job::new(mode, seed);
     let rules = Rules::document_01();
-    let difference = compare(&job, rules).expect_err("a difference, as before");
-    println!("{mode:?} seed {seed}: {difference:x?}");
+    match compare(&job, rules) {
+        Err(difference) => println!("{mode:?} seed {seed}: {difference:x?}"),
+        Ok(_) => {
+            let difference = typed::compare(&job);
+            return println!("{mode:?} seed {seed}, typed calls: {difference:?}");
+        }
+    }
     let short = shrunk(&job, |job| compare(job, rules).is_err());
     println!("shrunk to {} calls:", calls(&short.list).count());
     show(&short);

@@ -1,5 +1,5 @@
 //! The mutation check: puts each wrong rule into the model and prints which job
-//! noticed it.
+//! noticed it, and to how many calls that job shrinks.
 //!
 //! `mutations [ROUNDS] [SEED]` tries up to ROUNDS seeds of every mode from a
 //! seed on.
@@ -7,8 +7,10 @@
 use std::{env, process::ExitCode};
 
 use harness::{
-    compare::{notice, Difference},
-    model::mutation::Mutation,
+    compare::{compare, notice, Difference, Noticed},
+    jobs::{shrink::shrunk, Job},
+    model::mutation::{Mutation, Rules},
+    words::calls,
 };
 
 const ROUNDS: u64 = 300;
@@ -19,22 +21,28 @@ fn main() -> ExitCode {
         .map(|arg| arg.parse().expect("a number"));
     let rounds = args.next().unwrap_or(ROUNDS);
     let seed = args.next().unwrap_or(0);
-    println!("| wrong rule | in words | noticed by | mode | seed | jobs needed |");
-    println!("|---|---|---|---|---|---|");
+    println!(
+        "| wrong rule | in words | noticed by | mode | seed | jobs needed | shrunk to calls |"
+    );
+    println!("|---|---|---|---|---|---|---|");
 
     let mut unnoticed = 0;
     for mutation in Mutation::ALL.iter().copied() {
         match notice(mutation, seed..seed + rounds) {
             Some(noticed) => println!(
-                "| {mutation:?} | {} | {} | {:?} | {} | {} |",
+                "| {mutation:?} | {} | {} | {:?} | {} | {} | {} |",
                 mutation.describe(),
                 by(&noticed.difference),
                 noticed.mode,
                 noticed.seed,
-                noticed.jobs
+                noticed.jobs,
+                shortest(mutation, &noticed)
             ),
             None => {
-                println!("| {mutation:?} | {} | nobody | | | |", mutation.describe());
+                println!(
+                    "| {mutation:?} | {} | nobody | | | | |",
+                    mutation.describe()
+                );
                 unnoticed += 1;
             }
         }
@@ -48,6 +56,13 @@ fn main() -> ExitCode {
     } else {
         ExitCode::FAILURE
     }
+}
+
+/// The calls of the job that noticed, once it is shrunk.
+fn shortest(mutation: Mutation, noticed: &Noticed) -> usize {
+    let job = Job::new(noticed.mode, noticed.seed);
+    let notices = |job: &Job| compare(job, Rules::but(mutation)).is_err();
+    calls(&shrunk(&job, notices).list).count()
 }
 
 fn by(difference: &Difference) -> &'static str {

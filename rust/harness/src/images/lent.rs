@@ -41,8 +41,10 @@ pub fn compare(image: &[u8], behind: usize, reading: &Reading) -> Result<(), Str
         ..lent
     };
     let expected = listed(state, lent.room);
-    lent.compare(expected, |image, _, out| doors::divisor_index_list(image, out))
-        .map_err(|difference| format!("list: {difference}"))
+    lent.compare(expected, |image, _, out| {
+        doors::divisor_index_list(image, out)
+    })
+    .map_err(|difference| format!("list: {difference}"))
 }
 
 /// What a door that serves makes of image and buffer.

@@ -1,8 +1,6 @@
 //! Writes a job's calls: inserts, and searches near what is held.
 
-use super::{
-    entries::Entries, Indexes, Mode, Plan,
-};
+use super::{entries::Entries, Indexes, Mode, Plan};
 use crate::{
     model::{
         mutation::Rules,

@@ -200,7 +200,13 @@ impl Indexes {
 }
 
 /// Where indexes have one bit more, or no further one.
-const WIDE: [u32; 5] = [0, (1 << 16) - 1, (1 << 20) - 1, (1 << 27) - 1, (1 << 28) - 3];
+const WIDE: [u32; 5] = [
+    0,
+    (1 << 16) - 1,
+    (1 << 20) - 1,
+    (1 << 27) - 1,
+    (1 << 28) - 3,
+];
 
 impl Plan {
     fn draw(mode: Mode, rng: &mut Rng) -> Self {

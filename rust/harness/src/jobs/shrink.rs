@@ -9,10 +9,13 @@ use proptest::{
 use super::Job;
 use crate::words::{calls, kind, VARIABLE};
 
+/// Steps that are tried at most.
+const STEPS: u32 = 100_000;
+
 /// The job without calls, and with low powers, as far as it still shows.
 pub fn shrunk(job: &Job, shows: impl Fn(&Job) -> bool) -> Job {
     let config = Config {
-        max_shrink_iters: u32::MAX,
+        max_shrink_iters: STEPS,
         failure_persistence: None,
         ..Config::default()
     };
@@ -37,6 +40,9 @@ struct Calls {
     calls: Vec<Vec<u32>>,
     /// The calls before the last step.
     before: Vec<Vec<u32>>,
+    /// How many calls there were when single ones were last tried from the first
+    /// on.
+    tried: usize,
     step: Step,
 }
 
@@ -60,6 +66,7 @@ impl Calls {
         let calls: Vec<Vec<u32>> = calls(list).map(<[_]>::to_vec).collect();
         Calls {
             before: calls.clone(),
+            tried: usize::MAX,
             step: Step::Remove {
                 count: calls.len().div_ceil(2).max(1),
                 at: 0,
@@ -78,6 +85,10 @@ impl Calls {
                     let end = self.calls.len().min(at + count);
                     self.calls.drain(at..end);
                     return true;
+                }
+                Step::Remove { count: 1, .. } if self.calls.len() < self.tried => {
+                    self.tried = self.calls.len();
+                    self.step = Step::Remove { count: 1, at: 0 };
                 }
                 Step::Remove { count: 1, .. } => {
                     self.step = Step::Lower {

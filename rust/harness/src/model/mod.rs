@@ -205,8 +205,7 @@ impl Index {
             labels.get(ratio).expect("a label is free after a rebuild");
             if self.store.rules.has(Mutation::MapRemadeAtRebuild) {
                 self.map_maxima = self.maxima.clone();
-                self.store
-                    .remap(Map::new(&self.maxima, self.store.rules));
+                self.store.remap(Map::new(&self.maxima, self.store.rules));
             }
         }
         self.store.reached.labelled(&self.store.labels, ratio);
