@@ -6,7 +6,7 @@
 //! because most of what it calls is private to that module.
 
 // The supplied files hold far more than the index needs, and their style is theirs.
-#![allow(dead_code, unused_imports, private_interfaces, clippy::all)]
+#![allow(dead_code, unused_imports, private_interfaces, clippy::all, rustdoc::all)]
 
 include!(concat!(env!("OUT_DIR"), "/root.rs"));
 

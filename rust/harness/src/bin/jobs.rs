@@ -123,7 +123,7 @@ impl Work {
                 }
                 let job = Job::new(mode, seed);
                 tally += compare(&job, Rules::document_01()).map_err(|_| seed)?;
-                if seed % TYPED == 0 {
+                if seed.is_multiple_of(TYPED) {
                     tally.typed_calls += typed::compare(&job).map_err(|_| seed)?;
                 }
             }

@@ -14,10 +14,11 @@ use crate::{
         state::State,
         Kind,
     },
-    port::bytes,
     rng::Rng,
     words::{MAX_CAPACITY, MAX_VARIABLES},
 };
+
+pub use crate::port::bytes;
 
 /// Looks at an image, and says what is wrong.
 pub trait Visit: FnMut(&[u8]) -> Result<(), String> {}

@@ -54,7 +54,7 @@ fn record(mode: Mode, seed: u64, length: usize) -> Option<Vec<u32>> {
     let maxima: Vec<u32> = opening.maxima.iter().map(|&x| x as u32).collect();
     let lists = lists(&job.list, &answers, 1 + seed as usize % 4);
     let rest = [&head[..], &maxima, &lists].concat();
-    let fits = 1 + rest.len() <= length && image.len() <= IMAGE;
+    let fits = rest.len() < length && image.len() <= IMAGE;
     (fits && shows(mode, &tally)).then(|| [vec![1 + rest.len() as u32], rest].concat())
 }
 
