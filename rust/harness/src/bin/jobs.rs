@@ -147,17 +147,18 @@ fn print(name: &str, tally: &Tally, start: Instant) {
 
 fn show_difference(mode: Mode, seed: u64) {
     let job = Job::new(mode, seed);
-    let rules = Rules::document_01();
-    match compare(&job, rules) {
-        Err(difference) => println!("{mode:?} seed {seed}: {difference:x?}"),
-        Ok(_) => {
-            let difference = typed::compare(&job);
-            return println!("{mode:?} seed {seed}, typed calls: {difference:?}");
-        }
-    }
-    let short = shrunk(&job, |job| compare(job, rules).is_err());
+    let difference = difference(&job).expect("a difference, as before");
+    println!("{mode:?} seed {seed}: {difference}");
+    let short = shrunk(&job, |job| self::difference(job).is_some());
     println!("shrunk to {} calls:", calls(&short.list).count());
     show(&short);
+}
+
+fn difference(job: &Job) -> Option<String> {
+    match compare(job, Rules::document_01()) {
+        Err(difference) => Some(format!("{difference:x?}")),
+        Ok(_) => typed::compare(job).err(),
+    }
 }
 
 fn show(job: &Job) {

@@ -18,8 +18,9 @@ use crate::{
 /// Most calls of a list.
 const CALLS: usize = 6;
 
-/// Lends an image, with so many zeros behind it that are not lent.
-pub fn compare(image: &[u8], behind: usize, reading: &Reading) -> Result<(), String> {
+/// Lends an image, with so many zeros behind it that are not lent, and gives the
+/// numbers that run and list return.
+pub fn compare(image: &[u8], behind: usize, reading: &Reading) -> Result<[u32; 2], String> {
     let state = reading.state.as_ref().filter(|_| reading.is_sound());
     let mut rng = Rng::new(checksum(image));
     let list = draw_list(state, &mut rng);
@@ -30,7 +31,8 @@ pub fn compare(image: &[u8], behind: usize, reading: &Reading) -> Result<(), Str
         list,
     };
     let expected = run(state, &lent.list, lent.room);
-    lent.compare(expected, doors::divisor_index_run)
+    let run = lent
+        .compare(expected, doors::divisor_index_run)
         .map_err(|difference| format!("run: {difference}, list {:x?}", words_of(&lent.list)))?;
 
     let listing = state.map(|state| Index::of_state(state, Rules::document_01()).list(usize::MAX));
@@ -41,10 +43,11 @@ pub fn compare(image: &[u8], behind: usize, reading: &Reading) -> Result<(), Str
         ..lent
     };
     let expected = listed(state, lent.room);
-    lent.compare(expected, |image, _, out| {
-        doors::divisor_index_list(image, out)
-    })
-    .map_err(|difference| format!("list: {difference}"))
+    let list = |image: &mut [u8], _: &[u8], out: &mut [u8]| doors::divisor_index_list(image, out);
+    let list = lent
+        .compare(expected, list)
+        .map_err(|difference| format!("list: {difference}"))?;
+    Ok([run, list])
 }
 
 /// What a door that serves makes of image and buffer.
@@ -89,12 +92,13 @@ impl Lent<'_> {
         Memory::new(&image, &self.list, self.room)
     }
 
-    /// The door must return what is expected and leave all else as it was.
+    /// The door must return the number that is expected and leave all else as it
+    /// was.
     fn compare(
         &self,
         expected: Result<Effect, u32>,
         door: impl FnOnce(&mut [u8], &[u8], &mut [u8]) -> u32,
-    ) -> Result<(), String> {
+    ) -> Result<u32, String> {
         let mut memory = self.memory();
         let (image, list, out) = memory.split();
         let number = door(&mut image[..self.image.len()], list, out);
@@ -109,7 +113,7 @@ impl Lent<'_> {
         match number == expected {
             false => Err(format!("port {number}, model {expected}")),
             true if memory.bytes != after.bytes => Err("a byte differs".to_owned()),
-            true => Ok(()),
+            true => Ok(number),
         }
     }
 }

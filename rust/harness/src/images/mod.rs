@@ -14,7 +14,7 @@ pub mod samples;
 pub mod stack;
 pub mod states;
 
-use std::fmt;
+use std::{collections::BTreeMap, fmt};
 
 use divisor_index::doors;
 
@@ -31,6 +31,8 @@ const BEHIND: usize = 400;
 pub struct Tally {
     pub sound: u64,
     pub refused: u64,
+    /// How often run and list returned each number.
+    numbers: [BTreeMap<u32, u64>; 2],
     /// For each rule.
     counts: Vec<Count>,
 }
@@ -47,6 +49,7 @@ impl Default for Tally {
         Tally {
             sound: 0,
             refused: 0,
+            numbers: Default::default(),
             counts: vec![Count::default(); Rule::ALL.len()],
         }
     }
@@ -66,6 +69,12 @@ impl Tally {
         }
     }
 
+    fn count_numbers(&mut self, numbers: [u32; 2]) {
+        for (counts, number) in self.numbers.iter_mut().zip(numbers) {
+            *counts.entry(number).or_default() += 1;
+        }
+    }
+
     pub fn of(&self, rule: Rule) -> Count {
         self.counts[rule as usize]
     }
@@ -79,7 +88,12 @@ impl Tally {
 
 impl fmt::Display for Tally {
     fn fmt(&self, f: &mut fmt::Formatter<'_>) -> fmt::Result {
-        write!(f, "{} sound, {} refused", self.sound, self.refused)
+        let [run, list] = &self.numbers;
+        write!(
+            f,
+            "{} sound, {} refused, numbers of run {run:?}, of list {list:?}",
+            self.sound, self.refused
+        )
     }
 }
 
@@ -104,10 +118,11 @@ pub fn compare(image: &[u8], tally: &mut Tally) -> Result<(), String> {
                 show(image)
             ));
         }
-        lent::compare(image, *behind, &reading).map_err(|difference| {
+        let numbers = lent::compare(image, *behind, &reading).map_err(|difference| {
             let broken = reading.broken;
             format!("{difference}, broken {broken:?}, {}", show(image))
         })?;
+        tally.count_numbers(numbers);
     }
     tally.count(&reading);
     Ok(())

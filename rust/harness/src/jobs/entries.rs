@@ -1,6 +1,10 @@
 //! The entries that a job inserts.
 
-use super::{Indexes, Mode, Plan};
+use super::{
+    plan::{Indexes, Plan},
+    trend::Trend,
+    Mode,
+};
 use crate::{
     model::{powers::Powers, state::Entry},
     rng::Rng,
@@ -36,91 +40,6 @@ enum Shape {
     Anywhere,
 }
 
-/// How ratios run from entry to entry.
-struct Trend {
-    /// For each entry its place among the ratios.
-    places: Vec<i32>,
-    carrier: Carrier,
-}
-
-/// What of a ratio follows the trend.
-enum Carrier {
-    Index,
-    /// The ratio is a power of this variable.
-    Ratio(usize),
-    /// The signature is a power of this variable, the lm makes the ratio vary.
-    Sign(usize),
-}
-
-impl Trend {
-    fn draw(mode: Mode, plan: &Plan, rng: &mut Rng) -> Self {
-        let id = rng.below(plan.variables);
-        Self {
-            places: places(mode, plan.inserts, rng),
-            carrier: match rng.below(4) {
-                0 => Carrier::Index,
-                1 | 2 => Carrier::Ratio(id),
-                _ => Carrier::Sign(id),
-            },
-        }
-    }
-}
-
-/// Places of which most follow the mode, the others lie anywhere among those
-/// so far.
-fn places(mode: Mode, count: usize, rng: &mut Rng) -> Vec<i32> {
-    const LAST: i32 = 30_000;
-    let widest = LAST / count as i32;
-    let (mut low, mut high) = match mode {
-        Mode::Rising => (0, 0),
-        Mode::Falling => (LAST, LAST),
-        Mode::BothEnds => (LAST / 2, LAST / 2),
-        _ => (0, LAST),
-    };
-    let mut rises = false;
-    let mut place = |at: usize| {
-        if rng.chance(25) {
-            return match mode {
-                Mode::Crowding => rng.between(0, LAST),
-                _ => rng.between(low, high),
-            };
-        }
-        let step = rng.between(1, widest);
-        match mode {
-            Mode::Rising => {
-                high += step;
-                high
-            }
-            Mode::Falling => {
-                low -= step;
-                low
-            }
-            // Larger first: there is one label more above than below.
-            Mode::BothEnds => {
-                rises = !rises;
-                let half = step / 2 + 1;
-                match rises {
-                    true => high += half,
-                    false => low -= half,
-                }
-                match rises {
-                    true => high,
-                    false => low,
-                }
-            }
-            _ if at.is_multiple_of(2) => {
-                low += step;
-                low
-            }
-            _ => {
-                high -= step;
-                high
-            }
-        }
-    };
-    (0..count).map(&mut place).collect()
-}
-
 impl Entries {
     pub fn draw(mode: Mode, plan: &Plan, rng: &mut Rng) -> Self {
         let mut entries = Entries {
@@ -129,70 +48,61 @@ impl Entries {
             tallest: plan.tallest,
             indexes: plan.indexes,
         };
-        entries.shape = match mode {
+        entries.shape = entries.draw_shape(mode, plan, rng);
+        entries
+    }
+
+    fn draw_shape(&self, mode: Mode, plan: &Plan, rng: &mut Rng) -> Shape {
+        match mode {
             Mode::Rising | Mode::Falling | Mode::Crowding | Mode::BothEnds => {
                 Shape::Trend(Trend::draw(mode, plan, rng))
             }
             Mode::EqualRatios => {
                 let count = rng.between(1, 4);
-                Shape::Ratios((0..count).map(|_| entries.monomial(rng, 3)).collect())
+                Shape::Ratios((0..count).map(|_| self.monomial(rng, 3)).collect())
             }
             Mode::Repeats => {
                 let count = rng.between(1, 2);
-                let repeated = (0..count).map(|_| entries.random(rng)).collect();
+                let repeated = (0..count).map(|_| self.random(rng)).collect();
                 Shape::Repeated(repeated, *rng.choose(&[95, 100]))
             }
-            Mode::Masks => {
-                let count = *rng.choose(&[1, 1, 2, 3]);
-                let cluster = |_| entries.monomial(rng, 30);
-                Shape::Clusters((0..count).map(cluster).collect())
-            }
+            Mode::Masks => self.clusters(rng, |rng| self.monomial(rng, 30)),
+            Mode::TallMasks => self.clusters(rng, |rng| self.tall(rng)),
             Mode::OddAverages => {
-                let pair = |_| {
-                    let low = rng.between(0, 6);
-                    (low, low + rng.choose(&[1, 1, 3, 5]))
-                };
-                Shape::Pairs((0..plan.variables).map(pair).collect())
-            }
-            Mode::TallMasks => {
-                let count = *rng.choose(&[1, 1, 2, 3]);
-                let cluster = |_| entries.tall(rng);
-                Shape::Clusters((0..count).map(cluster).collect())
+                let pairs = (0..self.variables).map(|_| odd_pair(rng));
+                Shape::Pairs(pairs.collect())
             }
             Mode::ManyVariables => Shape::Sparse(0),
-            Mode::Dimensions => Shape::Sparse(rng.below(plan.variables)),
-            Mode::Lowering => {
-                let power = |_| rng.between(5, 30);
-                Shape::Lowered(Powers((0..plan.variables).map(power).collect()))
-            }
+            Mode::Dimensions => Shape::Sparse(rng.below(self.variables)),
+            Mode::Lowering => Shape::Lowered(self.all_between(5, 30, rng)),
             Mode::FarTotals => Shape::FarApart,
             Mode::Full => Shape::Anywhere,
             _ => Shape::Random,
-        };
-        entries
+        }
+    }
+
+    fn clusters(&self, rng: &mut Rng, draw: impl Fn(&mut Rng) -> Powers) -> Shape {
+        let count = *rng.choose(&[1, 1, 2, 3]);
+        Shape::Clusters((0..count).map(|_| draw(rng)).collect())
     }
 
     /// The entry to insert at this place of the job.
     pub fn next(&self, at: usize, rng: &mut Rng) -> Entry {
         match &self.shape {
             Shape::Random => self.random(rng),
-            Shape::Trend(trend) => self.trending(trend, at, rng),
+            Shape::Trend(trend) => trend.applied(at, self.random(rng)),
             Shape::Ratios(ratios) => {
                 let ratio = rng.choose(ratios);
-                let lm = self.monomial(rng, self.tallest);
+                let entry = self.random(rng);
                 Entry {
-                    index: self.index(rng),
-                    sign: ratio.times(&lm),
-                    lm,
+                    sign: ratio.times(&entry.lm),
+                    ..entry
                 }
             }
-            Shape::Repeated(entries, percentage) => {
-                if rng.chance(*percentage) {
-                    rng.choose(entries).clone()
-                } else {
-                    self.random(rng)
-                }
-            }
+            Shape::Repeated(entries, percentage) => match rng.chance(*percentage) {
+                true => rng.choose(entries).clone(),
+                false => self.random(rng),
+            },
             Shape::Clusters(clusters) => {
                 let noise = self.monomial(rng, 8);
                 self.signed(rng.choose(clusters).times(&noise), rng)
@@ -202,11 +112,7 @@ impl Entries {
                 let lm = Powers(pairs.iter().map(power).collect());
                 self.signed(lm, rng)
             }
-            Shape::Sparse(from) => Entry {
-                lm: self.sparse(*from, rng),
-                sign: self.sparse(0, rng),
-                index: self.index(rng),
-            },
+            Shape::Sparse(from) => self.entry(self.sparse(*from, rng), self.sparse(0, rng), rng),
             Shape::Lowered(gcd) => {
                 // A leaf of 65 is split, so a branch is lowered after that.
                 let lm = match at < 65 || rng.chance(80) {
@@ -215,17 +121,17 @@ impl Entries {
                 };
                 self.signed(lm, rng)
             }
-            Shape::FarApart => Entry {
-                lm: self.all_near(rng),
-                sign: self.all_near(rng),
-                index: self.index(rng),
-            },
-            Shape::Anywhere => Entry {
-                lm: self.all_between(0, self.tallest, rng),
-                sign: self.all_between(0, self.tallest, rng),
-                index: self.index(rng),
-            },
+            Shape::FarApart => self.entry(self.all_near(rng), self.all_near(rng), rng),
+            Shape::Anywhere => {
+                let [lm, sign] = [(); 2].map(|()| self.all_between(0, self.tallest, rng));
+                self.entry(lm, sign, rng)
+            }
         }
+    }
+
+    fn entry(&self, lm: Powers, sign: Powers, rng: &mut Rng) -> Entry {
+        let index = self.indexes.draw(rng);
+        Entry { index, sign, lm }
     }
 
     /// A monomial whose powers are all small or all large.
@@ -255,41 +161,8 @@ impl Entries {
 
     /// Gives an lm a signature.
     fn signed(&self, lm: Powers, rng: &mut Rng) -> Entry {
-        Entry {
-            index: self.index(rng),
-            sign: self.monomial(rng, self.tallest),
-            lm,
-        }
-    }
-
-    fn trending(&self, trend: &Trend, at: usize, rng: &mut Rng) -> Entry {
-        let place = trend.places[at];
-        let lm = self.monomial(rng, self.tallest);
-        let power = |id| {
-            let mut power = Powers::one(self.variables);
-            power.0[id] = place;
-            power
-        };
-        match trend.carrier {
-            Carrier::Index => Entry {
-                index: place as u32,
-                ..self.signed(lm, rng)
-            },
-            Carrier::Ratio(id) => Entry {
-                index: 0,
-                sign: power(id).times(&lm),
-                lm,
-            },
-            Carrier::Sign(id) => Entry {
-                index: 0,
-                sign: power(id),
-                lm,
-            },
-        }
-    }
-
-    fn index(&self, rng: &mut Rng) -> u32 {
-        self.indexes.draw(rng)
+        let sign = self.monomial(rng, self.tallest);
+        self.entry(lm, sign, rng)
     }
 
     /// A monomial with powers up to a limit, some of them 0.
@@ -312,4 +185,10 @@ impl Entries {
         }
         powers
     }
+}
+
+/// Two powers whose sum is odd.
+fn odd_pair(rng: &mut Rng) -> (i32, i32) {
+    let low = rng.between(0, 6);
+    (low, low + rng.choose(&[1, 1, 3, 5]))
 }

@@ -1,6 +1,10 @@
 //! Writes a job's calls: inserts, and searches near what is held.
 
-use super::{entries::Entries, Indexes, Mode, Plan};
+use super::{
+    entries::Entries,
+    plan::{Indexes, Plan},
+    Mode,
+};
 use crate::{
     model::{
         mutation::Rules,

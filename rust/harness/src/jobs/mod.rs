@@ -2,16 +2,21 @@
 
 mod entries;
 mod maker;
+mod plan;
 pub mod record;
 pub mod shrink;
+mod trend;
 
-use crate::{
-    model::{state::State, Kind, Opening},
-    rng::Rng,
-    words::{calls, payload, MAX_CAPACITY, MAX_POWER},
+use self::{
+    entries::Entries,
+    maker::Maker,
+    plan::{Indexes, Plan},
 };
-
-use self::{entries::Entries, maker::Maker};
+use crate::{
+    model::{state::State, Opening},
+    rng::Rng,
+    words::{calls, payload},
+};
 
 /// What a job is after.
 #[derive(Debug, Clone, Copy, PartialEq, Eq)]
@@ -172,125 +177,4 @@ pub fn calls_near(state: &State, count: usize, rng: Rng) -> Vec<u32> {
 /// Whether a call's number is that of a search.
 pub fn is_search(call: &[u32]) -> bool {
     matches!(payload(call[0]), 1 | 3..=6)
-}
-
-/// The sizes of a job.
-struct Plan {
-    kind: Kind,
-    variables: usize,
-    /// No power of an lm is above this.
-    tallest: i32,
-    inserts: usize,
-    /// Searches for a hundred inserts.
-    searches: usize,
-    indexes: Indexes,
-}
-
-/// The signature indexes of a job: so many from each of these on.
-#[derive(Clone, Copy)]
-struct Indexes {
-    from: &'static [u32],
-    count: u32,
-}
-
-impl Indexes {
-    fn draw(self, rng: &mut Rng) -> u32 {
-        rng.choose(self.from) + rng.below(self.count as usize) as u32
-    }
-}
-
-/// Where indexes have one bit more, or no further one.
-const WIDE: [u32; 5] = [
-    0,
-    (1 << 16) - 1,
-    (1 << 20) - 1,
-    (1 << 27) - 1,
-    (1 << 28) - 3,
-];
-
-impl Plan {
-    fn draw(mode: Mode, rng: &mut Rng) -> Self {
-        let kind = match mode {
-            Mode::Rising | Mode::Falling | Mode::Crowding | Mode::EqualRatios => Kind::Ratio,
-            Mode::WideIndexes | Mode::BothEnds | Mode::FarTotals => Kind::Ratio,
-            Mode::Full if rng.chance(70) => Kind::Ratio,
-            // What they prune shows in the order of the tree, which only a
-            // monomial index lists.
-            Mode::Masks | Mode::LowQueries if rng.chance(50) => Kind::Monomial,
-            _ => *rng.choose(&[Kind::Monomial, Kind::Ratio]),
-        };
-        let variables = match mode {
-            Mode::Small | Mode::Capacity => 1..=3,
-            Mode::Rising | Mode::Falling | Mode::Crowding | Mode::TallPowers => 1..=4,
-            Mode::BothEnds => 1..=4,
-            Mode::Lowering | Mode::Full => 2..=4,
-            Mode::LowQueries | Mode::Masks => 3..=8,
-            Mode::TallMasks if rng.chance(50) => 3..=8,
-            Mode::ManyVariables => 20..=64,
-            Mode::Dimensions | Mode::FarTotals if rng.chance(50) => 64..=64,
-            Mode::Dimensions | Mode::FarTotals | Mode::TallMasks => 33..=64,
-            _ => 1..=6,
-        };
-        let tallest = match mode {
-            Mode::Small | Mode::Capacity | Mode::Malformed => 1..=3,
-            Mode::Rising | Mode::Falling | Mode::Crowding | Mode::BothEnds => 1..=6,
-            Mode::TallPowers | Mode::TallMasks | Mode::Full => 20_000..=MAX_POWER,
-            Mode::FarTotals => MAX_POWER..=MAX_POWER,
-            _ => 2..=30,
-        };
-        let inserts = match mode {
-            Mode::Small | Mode::Capacity | Mode::Malformed => 1..=40,
-            Mode::Repeats => 60..=72,
-            Mode::ManyVariables => 66..=160,
-            Mode::Masks | Mode::LowQueries => 200..=600,
-            Mode::Full if rng.chance(5) => 4_097..=4_100,
-            Mode::Full => 300..=500,
-            Mode::FarTotals => 65..=130,
-            _ => 65..=260,
-        };
-        // Few searches let leaves grow far beyond 64 before they are split.
-        let searches = match mode {
-            Mode::Small | Mode::Capacity | Mode::Malformed => 200,
-            Mode::Repeats => 20,
-            Mode::Masks | Mode::LowQueries => *rng.choose(&[0, 0, 3, 20]),
-            Mode::Full => *rng.choose(&[1, 4]),
-            Mode::Lowering => *rng.choose(&[10, 70, 200]),
-            Mode::TallMasks | Mode::Dimensions => *rng.choose(&[10, 70]),
-            _ => *rng.choose(&[2, 10, 70]),
-        };
-        Plan {
-            kind,
-            variables: rng.between(*variables.start(), *variables.end()) as usize,
-            tallest: rng.between(*tallest.start(), *tallest.end()),
-            inserts: rng.between(*inserts.start(), *inserts.end()) as usize,
-            searches,
-            indexes: Indexes {
-                from: match mode {
-                    Mode::WideIndexes => &WIDE,
-                    _ => &[0],
-                },
-                count: rng.between(1, 3) as u32,
-            },
-        }
-    }
-
-    fn opening(&self, mode: Mode, rng: &mut Rng) -> Opening {
-        let capacity = match mode {
-            Mode::Capacity => (self.inserts + rng.below(3)).saturating_sub(1).max(1),
-            Mode::Small | Mode::Malformed => rng.between(1, 40) as usize,
-            Mode::Full => MAX_CAPACITY,
-            _ => *rng.choose(&[self.inserts + 4, 1000, MAX_CAPACITY]),
-        };
-        let tallest = match mode {
-            Mode::TallMasks => self.tallest,
-            _ => *rng.choose(&[1, self.tallest, 33]),
-        };
-        Opening {
-            kind: self.kind,
-            capacity,
-            maxima: (0..self.variables)
-                .map(|_| rng.between(1, tallest))
-                .collect(),
-        }
-    }
 }
