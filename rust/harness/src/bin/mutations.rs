@@ -65,13 +65,13 @@ fn shortest(mutation: Mutation, noticed: &Noticed) -> usize {
     calls(&shrunk(&job, notices).list).count()
 }
 
-fn by(difference: &Difference) -> &'static str {
+fn by(difference: &Difference) -> String {
     match difference {
-        Difference::Answer { .. } => "an answer of the original",
-        Difference::Meaning { .. } => "the meanings",
-        Difference::Pruning { .. } => "a look at every entry",
-        Difference::Tree { .. } => "the original's tree",
-        Difference::Original(what) => what,
-        Difference::Port(what) => what,
+        Difference::Answer { .. } => "an answer of the original".to_owned(),
+        Difference::Meaning { .. } => "the meanings".to_owned(),
+        Difference::Pruning { .. } => "a look at every entry".to_owned(),
+        Difference::Tree { .. } => "the original's tree".to_owned(),
+        Difference::Original(what) => format!("the original's {what}"),
+        Difference::Port(what) => format!("the port's {what}"),
     }
 }
