@@ -98,11 +98,11 @@ impl<'a> Run<'a> {
     fn call(&mut self, call: &'a [u32]) -> Result<u32, Difference> {
         let search = self.model.as_search(call);
         let served = self.model.call(call);
-        self.beside.call(call, served, &self.model, self.rules)?;
-        self.tally.count(served);
+        let panic = self.beside.call(call, served, &self.model, self.rules)?;
         let model = served.word;
-        let pruned = search.is_some_and(|s| self.model.search_unpruned(s) != payload(model));
-        if pruned {
+        self.tally.count(model, panic);
+        let missed = search.is_some_and(|s| self.model.search_unpruned(s) != payload(model));
+        if missed {
             let call = call.to_vec();
             return Err(Difference::Pruning { call, model });
         }
@@ -220,14 +220,15 @@ impl<'a> Beside<'a> {
         }
     }
 
-    /// Serves a call that the whole model answers like this.
+    /// Serves a call that the whole model answers like this, and gives the
+    /// original's panic in it.
     fn call(
         &mut self,
         call: &'a [u32],
         whole: Served,
         model: &Index,
         rules: Rules,
-    ) -> Result<(), Difference> {
+    ) -> Result<Option<Panic>, Difference> {
         let served = match &mut self.model {
             None => whole,
             Some(model) => model.call(call),
@@ -244,10 +245,10 @@ impl<'a> Beside<'a> {
         if served.panic.is_some() {
             self.replay(rules);
         }
-        match is_search(call) {
-            true => self.compare_trees(call, model),
-            false => Ok(()),
+        if is_search(call) {
+            self.compare_trees(call, model)?;
         }
+        Ok(served.panic)
     }
 
     /// Makes the model that has served what the original has served.

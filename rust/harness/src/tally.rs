@@ -6,7 +6,7 @@ use crate::{
     model::{
         query::Panic,
         reach::{Reach, Reached},
-        Index, Kind, Served,
+        Index, Kind,
     },
     words::{kind, REFUSAL},
 };
@@ -30,11 +30,12 @@ pub struct Tally {
 }
 
 impl Tally {
-    pub fn count(&mut self, served: Served) {
+    /// Counts a call by its answer and the original's panic in it.
+    pub fn count(&mut self, answer: u32, panic: Option<Panic>) {
         self.calls += 1;
-        self.refusals += usize::from(kind(served.word) == REFUSAL);
-        self.repeated_elements += usize::from(served.panic == Some(Panic::RepeatedElements));
-        self.not_above += usize::from(served.panic == Some(Panic::NotAbove));
+        self.refusals += usize::from(kind(answer) == REFUSAL);
+        self.repeated_elements += usize::from(panic == Some(Panic::RepeatedElements));
+        self.not_above += usize::from(panic == Some(Panic::NotAbove));
     }
 
     /// Counts what the job's model has come to.

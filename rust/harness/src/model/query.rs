@@ -159,6 +159,14 @@ impl Query {
         }
     }
 
+    /// Looks at an entry of a leaf, and counts what that reaches.
+    pub fn visit(&self, store: &Store, number: usize, found: &mut Found) -> bool {
+        if let Search::Reducer { ratio, .. } = &self.search {
+            store.reached.compared(&store.entries[number].ratio, ratio);
+        }
+        self.process(store, number, found)
+    }
+
     /// Looks at an entry and tells whether to go on.
     pub fn process(&self, store: &Store, number: usize, found: &mut Found) -> bool {
         let rules = store.rules;
@@ -171,7 +179,6 @@ impl Query {
                 found.number.is_none()
             }
             Search::Reducer { ratio, lm } => {
-                store.reached.compared(&entry.ratio, ratio);
                 let order = entry.ratio.compare(ratio, rules);
                 if order.is_gt() || !entry.lm.divides(lm) {
                     return true;
@@ -180,7 +187,6 @@ impl Query {
             }
             Search::High { ratio, lm } => {
                 if entry.lm.divides(lm) {
-                    store.reached.compared(&entry.ratio, ratio);
                     let above = entry.ratio.compare(ratio, rules).is_gt();
                     if !above {
                         found.panic.get_or_insert(Panic::NotAbove);

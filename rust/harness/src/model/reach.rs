@@ -112,7 +112,7 @@ impl Reached {
         self.count_if(Reach::FullRefused, number == 8 && entries == MAX_CAPACITY);
     }
 
-    /// A search compares two ratios.
+    /// A search for a reducer compares the ratio of an entry.
     pub fn compared(&self, a: &Ratio, b: &Ratio) {
         if a.monomial.0.len() >= MANY && a.index == b.index {
             let apart = a.monomial.total().abs_diff(b.monomial.total());

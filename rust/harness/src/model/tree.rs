@@ -94,7 +94,7 @@ impl Node {
         match &mut self.below {
             Below::Leaf(entries) => entries
                 .iter()
-                .all(|number| query.process(store, *number, found)),
+                .all(|number| query.visit(store, *number, found)),
             Below::Branch(branch) => branch.search(store, &self.gcd, query, found),
         }
     }
