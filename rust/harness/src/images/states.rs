@@ -88,6 +88,8 @@ pub fn draw_sizes(rng: &mut Rng) -> Sizes {
     let (variables, capacity) = match rng.below(20) {
         0 => (64, 3),
         1 => (33, 4),
+        // A leaf of more than 64 entries is split by the next search.
+        2 => (1 + rng.below(3), 66 + rng.below(80)),
         _ => (1 + rng.below(4), capacity),
     };
     Sizes {
@@ -96,6 +98,7 @@ pub fn draw_sizes(rng: &mut Rng) -> Sizes {
         capacity,
         entries: match rng.chance(40) {
             true => capacity,
+            false if capacity > 64 => 64 + rng.below(capacity - 63),
             false => rng.below(capacity + 1),
         },
     }

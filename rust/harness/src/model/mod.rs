@@ -1,5 +1,5 @@
-//! Document 01's index, written plainly: dense monomials, no stored masks or
-//! labels, everything compared by value.
+//! Document 01's index, written plainly: dense monomials, everything compared by
+//! value, and no stored mask or label that a search would ask.
 
 #[macro_use]
 mod named;
