@@ -28,34 +28,31 @@ fn main() -> ExitCode {
 
     let mut unnoticed = 0;
     for mutation in Mutation::ALL.iter().copied() {
-        match notice(mutation, seed..seed + rounds) {
-            Some(noticed) => println!(
-                "| {mutation:?} | {} | {} | {:?} | {} | {} | {} |",
-                mutation.describe(),
-                by(&noticed.difference),
-                noticed.mode,
-                noticed.seed,
-                noticed.jobs,
-                shortest(mutation, &noticed)
-            ),
-            None => {
-                println!(
-                    "| {mutation:?} | {} | nobody | | | | |",
-                    mutation.describe()
-                );
-                unnoticed += 1;
-            }
-        }
+        let noticed = notice(mutation, seed..seed + rounds);
+        unnoticed += usize::from(noticed.is_none());
+        println!("{}", row(mutation, noticed));
     }
     println!(
         "\n{} wrong rules, {unnoticed} unnoticed",
         Mutation::ALL.len()
     );
-    if unnoticed == 0 {
-        ExitCode::SUCCESS
-    } else {
-        ExitCode::FAILURE
+    match unnoticed {
+        0 => ExitCode::SUCCESS,
+        _ => ExitCode::FAILURE,
     }
+}
+
+fn row(mutation: Mutation, noticed: Option<Noticed>) -> String {
+    let words = mutation.describe();
+    let Some(noticed) = noticed else {
+        return format!("| {mutation:?} | {words} | nobody | | | | |");
+    };
+    let by = by(&noticed.difference);
+    let Noticed {
+        mode, seed, jobs, ..
+    } = noticed;
+    let calls = shortest(mutation, &noticed);
+    format!("| {mutation:?} | {words} | {by} | {mode:?} | {seed} | {jobs} | {calls} |")
 }
 
 /// The calls of the job that noticed, once it is shrunk.

@@ -113,14 +113,11 @@ impl Entries {
                 self.signed(lm, rng)
             }
             Shape::Sparse(from) => self.entry(self.sparse(*from, rng), self.sparse(0, rng), rng),
-            Shape::Lowered(gcd) => {
-                // A leaf of 65 is split, so a branch is lowered after that.
-                let lm = match at < 65 || rng.chance(80) {
-                    true => gcd.times(&self.monomial(rng, 8)),
-                    false => self.sparse(0, rng),
-                };
-                self.signed(lm, rng)
+            // A leaf of 65 is split, so a branch is lowered after that.
+            Shape::Lowered(_) if at >= 65 && rng.chance(20) => {
+                self.signed(self.sparse(0, rng), rng)
             }
+            Shape::Lowered(gcd) => self.signed(gcd.times(&self.monomial(rng, 8)), rng),
             Shape::FarApart => self.entry(self.all_near(rng), self.all_near(rng), rng),
             Shape::Anywhere => {
                 let [lm, sign] = [(); 2].map(|()| self.all_between(0, self.tallest, rng));

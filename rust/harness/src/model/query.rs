@@ -169,7 +169,6 @@ impl Query {
 
     /// Looks at an entry and tells whether to go on.
     pub fn process(&self, store: &Store, number: usize, found: &mut Found) -> bool {
-        let rules = store.rules;
         let entry = &store.entries[number];
         match &self.search {
             Search::Contained(monomial) => {
@@ -179,7 +178,7 @@ impl Query {
                 found.number.is_none()
             }
             Search::Reducer { ratio, lm } => {
-                let order = entry.ratio.compare(ratio, rules);
+                let order = entry.ratio.compare(ratio, store.rules);
                 if order.is_gt() || !entry.lm.divides(lm) {
                     return true;
                 }
@@ -187,32 +186,24 @@ impl Query {
             }
             Search::High { ratio, lm } => {
                 if entry.lm.divides(lm) {
-                    let above = entry.ratio.compare(ratio, rules).is_gt();
-                    if !above {
-                        found.panic.get_or_insert(Panic::NotAbove);
-                    }
-                    if above || rules.has(Mutation::HighCountsNotAbove) {
-                        let last = Mutation::HighLastOfEquals;
-                        take_largest(store, number, found, rules.has(last));
-                    }
+                    let order = entry.ratio.compare(ratio, store.rules);
+                    take_high(store, number, order, found);
                 }
-                !(found.number.is_some() && rules.has(Mutation::HighFirstFound))
+                !(found.number.is_some() && store.rules.has(Mutation::HighFirstFound))
             }
             Search::Low { index, sign } => {
-                let same = compare_indexes(entry.ratio.index, *index, rules).is_eq()
-                    || rules.has(Mutation::LowAnyIndex);
-                if same && entry.sign.divides(sign) {
+                let any = store.rules.has(Mutation::LowAnyIndex);
+                if (any || has_index(store, number, *index)) && entry.sign.divides(sign) {
                     let last = Mutation::LowLastOfEquals;
-                    take_largest(store, number, found, rules.has(last));
+                    take_largest(store, number, found, store.rules.has(last));
                 }
                 true
             }
             Search::Singular { index, sign, .. } => {
-                let order = entry.ratio.monomial.compare(&self.ratio, rules);
-                let above =
-                    order.is_gt() || order.is_eq() && rules.has(Mutation::SingularNotStrict);
-                let same = compare_indexes(entry.ratio.index, *index, rules).is_eq();
-                if same && entry.sign.divides(sign) && above {
+                let order = entry.ratio.monomial.compare(&self.ratio, store.rules);
+                let equal = store.rules.has(Mutation::SingularNotStrict);
+                let above = order.is_gt() || order.is_eq() && equal;
+                if has_index(store, number, *index) && entry.sign.divides(sign) && above {
                     found.number = Some(number);
                 }
                 found.number.is_none()
@@ -245,6 +236,21 @@ impl Query {
             Search::Reducer { .. } if of.singular => found(number) + SINGULAR,
             _ => found(number),
         }
+    }
+}
+
+fn has_index(store: &Store, number: usize, index: u32) -> bool {
+    compare_indexes(store.entries[number].ratio.index, index, store.rules).is_eq()
+}
+
+/// A divisor whose ratio compares like this with the query's.
+fn take_high(store: &Store, number: usize, order: Ordering, found: &mut Found) {
+    if !order.is_gt() {
+        found.panic.get_or_insert(Panic::NotAbove);
+    }
+    if order.is_gt() || store.rules.has(Mutation::HighCountsNotAbove) {
+        let last = Mutation::HighLastOfEquals;
+        take_largest(store, number, found, store.rules.has(last));
     }
 }
 
