@@ -31,6 +31,9 @@ impl Indexes {
     }
 }
 
+/// So many entries are never split.
+const FEW: usize = 40;
+
 /// Where indexes have one bit more, or no further one.
 const WIDE: [u32; 5] = [
     0,
@@ -61,7 +64,8 @@ impl Plan {
     pub fn opening(&self, mode: Mode, rng: &mut Rng) -> Opening {
         let capacity = match mode {
             Mode::Capacity => (self.inserts + rng.below(3)).saturating_sub(1).max(1),
-            Mode::Small | Mode::Malformed => rng.between(1, 40) as usize,
+            Mode::Malformed if self.inserts > FEW => self.inserts - rng.below(10),
+            Mode::Small | Mode::Malformed => 1 + rng.below(FEW),
             Mode::Full => MAX_CAPACITY,
             _ => *rng.choose(&[self.inserts + 4, 1000, MAX_CAPACITY]),
         };
@@ -114,7 +118,8 @@ fn tallest(mode: Mode, rng: &mut Rng) -> i32 {
 
 fn inserts(mode: Mode, rng: &mut Rng) -> i32 {
     match mode {
-        Mode::Small | Mode::Capacity | Mode::Malformed => rng.between(1, 40),
+        Mode::Capacity | Mode::Malformed if rng.chance(25) => rng.between(65, 130),
+        Mode::Small | Mode::Capacity | Mode::Malformed => rng.between(1, FEW as i32),
         Mode::Repeats => rng.between(60, 72),
         Mode::ManyVariables => rng.between(66, 160),
         Mode::Masks | Mode::LowQueries => rng.between(200, 600),

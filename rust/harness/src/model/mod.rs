@@ -122,7 +122,8 @@ impl Index {
             Ok(call) => self.serve(call),
             Err(number) => {
                 let entries = self.store.entries.len();
-                self.store.reached.refused(number, entries);
+                let branches = self.tree.is_branch();
+                self.store.reached.refused(number, entries, branches);
                 Served {
                     word: word(REFUSAL, number),
                     panic: None,

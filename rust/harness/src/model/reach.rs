@@ -26,6 +26,7 @@ named! {
     Labels300: "an insert into a label map of 300 values and more",
     Labels4096: "an insert that gives the label map its 4,096th value",
     FullRefused: "an insert refused by an index of 4,096 entries",
+    SplitRefused: "a call refused by an index with a branch",
     FurtherList: "a list after the first on one image",
     FurtherListing: "a listing after the first of one image",
     FarTotals: "ratios compared whose totals differ by a million and more",
@@ -107,9 +108,11 @@ impl Reached {
         self.count_if(Reach::Labels4096, rows.len() == MAX_CAPACITY);
     }
 
-    /// A call is refused by an index of so many entries.
-    pub fn refused(&self, number: u32, entries: usize) {
+    /// A call is refused by an index of so many entries, which has a branch or
+    /// not.
+    pub fn refused(&self, number: u32, entries: usize, branches: bool) {
         self.count_if(Reach::FullRefused, number == 8 && entries == MAX_CAPACITY);
+        self.count_if(Reach::SplitRefused, branches);
     }
 
     /// A search for a reducer compares the ratio of an entry.

@@ -44,6 +44,10 @@ impl Node {
         }
     }
 
+    pub fn is_branch(&self) -> bool {
+        matches!(self.below, Below::Branch(_))
+    }
+
     pub fn insert(&mut self, store: &Store, number: usize) {
         match &mut self.below {
             Below::Leaf(entries) => {
