@@ -9,6 +9,9 @@ use proptest::{
 use super::Job;
 use crate::words::{calls, kind, VARIABLE};
 
+/// Powers up to this are lowered one by one too.
+const SMALL: u32 = 64;
+
 /// Steps that are tried at most.
 const STEPS: u32 = 100_000;
 
@@ -156,6 +159,7 @@ fn lower(call: &mut [u32], at: usize, by: By) -> bool {
     let lower = match by {
         By::ToOne => 1,
         By::Half => power / 2,
+        By::One if power > SMALL => return false,
         By::One => power.saturating_sub(1),
     };
     if lower == 0 || lower >= power {

@@ -20,7 +20,7 @@ named! {
     IndexNear2To20: "the same for 2^20",
     IndexNear2To27: "the same for 2^27",
     IndexNear2To28: "the same for 2^28 - 1",
-    TallMaskedOut: "a mask leaves out a branch whose gcd has a power above 16,383",
+    TallMaskedOut: "a mask leaves out a branch whose gcd has a power above 16,384",
     ManyMaskedOut: "a mask leaves out a branch of 33 and more variables",
     LabelEnds: "an insert after which 0 and 2^32 - 1 are labels",
     Labels300: "an insert into a label map of 300 values and more",
