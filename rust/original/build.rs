@@ -26,6 +26,24 @@ const UNCHANGED: [&str; 9] = [
     "polynomial/signature_basis/indices/ratio_monomial_index.rs",
 ];
 
+/// The line of ours that follows the text of some of them. It names a module of
+/// ours, which can show what is private to the file.
+const SHOWN: [(&str, &str); 4] = [
+    (
+        "kd_tree.rs",
+        "#[path = \"kd_tree/shown.rs\"]\npub mod shown;\n",
+    ),
+    ("polynomial/divmask.rs", "mod shown;\n"),
+    (
+        "polynomial/signature_basis/indices/monomial_index.rs",
+        "mod shown;\n",
+    ),
+    (
+        "polynomial/signature_basis/indices/ratio_monomial_index.rs",
+        "mod shown;\n",
+    ),
+];
+
 /// Supplied files of which only these lines are compiled, each as it is, and
 /// the line of ours that follows them.
 const EXCERPTS: [(&str, &[RangeInclusive<usize>], &str); 2] = [
@@ -41,13 +59,17 @@ const EXCERPTS: [(&str, &[RangeInclusive<usize>], &str); 2] = [
 ];
 
 /// Ours: modules that were not supplied, and the access to the index.
-const STAND_INS: [&str; 6] = [
+const STAND_INS: [&str; 10] = [
     "field/fixed_size.rs",
+    "kd_tree/shown.rs",
+    "polynomial/divmask/shown.rs",
+    "polynomial/signature_basis/indices/monomial_index/shown.rs",
+    "polynomial/signature_basis/indices/ratio_monomial_index/shown.rs",
     "polynomial/cocoa_print.rs",
     "polynomial/division.rs",
     "polynomial/grobner_basis.rs",
     "polynomial/signature_basis/oracle.rs",
-    "polynomial/signature_basis/oracle/noted.rs",
+    "polynomial/signature_basis/oracle/shown.rs",
 ];
 
 const ROOT_MODULES: [(&str, &str); 5] = [
@@ -71,9 +93,13 @@ fn main() {
 
     for name in UNCHANGED {
         let bytes = read(&supplied.join(name));
-        write(&laid_out.join(name), &bytes);
+        let ours = shown(name);
+        write(&laid_out.join(name), &[&bytes, ours.as_bytes()].concat());
         let compiled = fs::read(laid_out.join(name)).unwrap();
-        assert!(compiled == bytes, "{name} is not as supplied");
+        assert!(
+            compiled.strip_suffix(ours.as_bytes()) == Some(&bytes[..]),
+            "{name} is not as supplied"
+        );
     }
     for (name, lines, ours) in EXCERPTS {
         let text = String::from_utf8(read(&supplied.join(name))).unwrap();
@@ -104,6 +130,12 @@ fn check_sums(supplied: &Path, sums: &Path) {
         "{} is not as supplied",
         supplied.display()
     );
+}
+
+/// What of ours follows a file's text.
+fn shown(name: &str) -> &'static str {
+    let ours = SHOWN.iter().find(|(file, _)| *file == name);
+    ours.map_or("", |(_, line)| line)
 }
 
 fn excerpt(text: &str, lines: &[RangeInclusive<usize>]) -> String {

@@ -1,63 +1,25 @@
 //! Holds the opinions on a job against each other.
 
-use std::{
-    fmt,
-    ops::{AddAssign, Range},
-};
+use std::ops::Range;
+
+use divisor_index::doors;
 
 use crate::{
-    jobs::{Job, Mode},
+    jobs::{is_search, Job, Mode},
     meaning::Held,
     model::{
+        divmask::has_grown_beyond_percentage,
+        image::encode,
         mutation::{Mutation, Rules},
         query::Panic,
-        Index, Kind, Served,
+        reach::Reach,
+        Index, Kind, Opening, Served,
     },
-    original_run::{Original, Rest},
-    words::{calls, kind, payload, REFUSAL},
+    original_run::Original,
+    port::{bytes, Fault, Port},
+    tally::Tally,
+    words::{payload, word, ANSWER},
 };
-
-/// What was run and compared.
-#[derive(Debug, Default, Clone, Copy)]
-pub struct Tally {
-    pub jobs: usize,
-    pub calls: usize,
-    pub refusals: usize,
-    pub splits: usize,
-    pub rebuilds: usize,
-    /// Panics of the original, each where the model expects it.
-    pub repeated_elements: usize,
-    pub not_above: usize,
-}
-
-impl AddAssign for Tally {
-    fn add_assign(&mut self, other: Self) {
-        self.jobs += other.jobs;
-        self.calls += other.calls;
-        self.refusals += other.refusals;
-        self.splits += other.splits;
-        self.rebuilds += other.rebuilds;
-        self.repeated_elements += other.repeated_elements;
-        self.not_above += other.not_above;
-    }
-}
-
-impl fmt::Display for Tally {
-    fn fmt(&self, f: &mut fmt::Formatter<'_>) -> fmt::Result {
-        write!(
-            f,
-            "{} jobs, {} calls, {} refusals, {} splits, {} rebuilds, \
-             panics of the original: {} repeated elements, {} not above",
-            self.jobs,
-            self.calls,
-            self.refusals,
-            self.splits,
-            self.rebuilds,
-            self.repeated_elements,
-            self.not_above
-        )
-    }
-}
 
 /// Where two opinions part.
 #[derive(Debug, Clone, PartialEq, Eq)]
@@ -68,38 +30,211 @@ pub enum Difference {
         model: Result<u32, Panic>,
         original: Result<u32, Panic>,
     },
+    /// Their trees after a search, as the words of `original::oracle::shown`.
+    Tree {
+        call: Vec<u32>,
+        model: Vec<u32>,
+        original: Vec<u32>,
+    },
     /// The meanings don't allow the model's answer.
     Meaning { call: Vec<u32>, model: u32 },
     /// Looking at every entry in the tree's order finds something else.
     Pruning { call: Vec<u32>, model: u32 },
-    /// The maxima after the list.
-    Maxima,
-    /// The order of the tree after the list, or labels and keys.
-    Rest,
-    /// The list run as a whole answers otherwise than call by call.
-    Whole,
+    /// Labels, maxima, growth, rebuilds or the listing of model and original.
+    Original(Fault),
+    /// What port and model make of a list, or of the image after it.
+    Port(Fault),
 }
 
-/// Runs a job on the model, with these rules, and on the original, and compares
-/// every answer and what remains at the end.
+/// Runs a job on port, original and model, with these rules for the model, and
+/// compares every answer, the trees of original and model after every search,
+/// and at the end of every list the port's image and answers, labels, maxima
+/// and rebuilds, and after some lists the listing.
 ///
 /// A call in which the original panics must be one in which the model expects
-/// that. Then the call is left out on both sides, since the original can't say
-/// what the tree looks like after it. The model serves the list a second time
-/// with nothing left out, judged by the meanings alone.
+/// that. Then the call is left out beside the original, which can't say what
+/// the tree looks like after it, and goes to the port alone.
 pub fn compare(job: &Job, rules: Rules) -> Result<Tally, Difference> {
-    let mut model = Index::open(&job.opening, rules);
-    let mut original = Original::open(&job.opening);
-    let mut tally = Tally {
-        jobs: 1,
-        ..Tally::default()
-    };
+    let mut run = Run::open(&job.opening, rules)?;
+    for calls in job.lists() {
+        let mut answers = vec![];
+        for call in &calls {
+            answers.push(run.call(call)?);
+        }
+        run.end_list(&calls.concat(), &answers)?;
+    }
+    run.end()
+}
 
-    for call in calls(&job.list) {
-        let tree = model.tree().clone();
-        let served = model.call(call);
+struct Run<'a> {
+    kind: Kind,
+    rules: Rules,
+    /// Serves every call, as the port does.
+    model: Index,
+    held: Held,
+    port: Port,
+    beside: Beside<'a>,
+    tally: Tally,
+    lists: usize,
+    listings: usize,
+}
+
+impl<'a> Run<'a> {
+    fn open(opening: &'a Opening, rules: Rules) -> Result<Self, Difference> {
+        Ok(Run {
+            kind: opening.kind,
+            rules,
+            model: Index::open(opening, rules),
+            held: Held::new(opening.kind, opening.maxima.len()),
+            port: Port::open(opening).map_err(Difference::Port)?,
+            beside: Beside::open(opening),
+            tally: Tally::default(),
+            lists: 0,
+            listings: 0,
+        })
+    }
+
+    /// The answer to a call, after original, model and meanings agree.
+    fn call(&mut self, call: &'a [u32]) -> Result<u32, Difference> {
+        let search = self.model.as_search(call);
+        let served = self.model.call(call);
+        let panic = self.beside.call(call, served, &self.model, self.rules)?;
+        let model = served.word;
+        self.tally.count(model, panic);
+        let missed = search.is_some_and(|s| self.model.search_unpruned(s) != payload(model));
+        if missed {
+            let call = call.to_vec();
+            return Err(Difference::Pruning { call, model });
+        }
+        if !self.held.allows(call, model) {
+            let call = call.to_vec();
+            return Err(Difference::Meaning { call, model });
+        }
+        Ok(model)
+    }
+
+    /// Lends the list to the port, and compares what all three show after it.
+    fn end_list(&mut self, list: &[u32], answers: &[u32]) -> Result<(), Difference> {
+        self.lists += 1;
+        let further = self.lists > 1;
+        self.model.reached().count_if(Reach::FurtherList, further);
+        self.beside.compare_rest(&self.model)?;
+        self.compare_port(list, answers).map_err(Difference::Port)
+    }
+
+    fn compare_port(&mut self, list: &[u32], answers: &[u32]) -> Result<(), Fault> {
+        if self.port.run(list, answers.len())? != answers {
+            return Err("answers");
+        }
+        if !self.port.has_image(&encode(&self.model.state()))? {
+            return Err("image");
+        }
+        match self.lists % 3 {
+            1 => self.compare_listing(),
+            _ => Ok(()),
+        }
+    }
+
+    fn compare_listing(&mut self) -> Result<(), Fault> {
+        if self.kind == Kind::Ratio {
+            return match self.port.refused_listing(self.lists)? {
+                6 => Ok(()),
+                _ => Err("a listing of a ratio index"),
+            };
+        }
+        self.listings += 1;
+        let further = self.listings > 1;
+        self.model
+            .reached()
+            .count_if(Reach::FurtherListing, further);
+        let listing = self.model.list(usize::MAX).expect("a monomial index");
+        if self.port.list(listing.len())? != listing {
+            return Err("listing");
+        }
+        let short = (4 * listing.len()).checked_sub(1);
+        match short.map(|bytes| self.port.refused_listing(bytes)) {
+            None => Ok(()),
+            Some(Ok(5)) => Ok(()),
+            Some(Ok(_)) => Err("a listing with too little room"),
+            Some(Err(fault)) => Err(fault),
+        }
+    }
+
+    fn end(mut self) -> Result<Tally, Difference> {
+        self.compare_listing().map_err(Difference::Port)?;
+        self.compare_growth()?;
+        self.model.reached().grown(self.model.maxima());
+        self.tally.end_job(&self.model, self.lists);
+        let Beside {
+            original, model, ..
+        } = self.beside;
+        let model = model.unwrap_or(self.model);
+        match original.into_listing() == model.list(usize::MAX).ok() {
+            true => Ok(self.tally),
+            false => Err(Difference::Original("listing")),
+        }
+    }
+
+    /// Whether the maxima have grown beyond each percentage around their growth.
+    fn compare_growth(&self) -> Result<(), Difference> {
+        let model = self.beside.model.as_ref().unwrap_or(&self.model);
+        let maxima = model.maxima();
+        let original = self.beside.original.maxima();
+        let words: Vec<u32> = maxima.iter().map(|maximum| *maximum as u32).collect();
+        let variables = maxima.len() as u32;
+        for percentage in [0, 50, 97, 98, 99, 100] {
+            let grown = has_grown_beyond_percentage(maxima, percentage);
+            if original.has_grown_beyond_percentage(percentage) != grown {
+                return Err(Difference::Original("growth"));
+            }
+            let mut out = [0; 4];
+            let maxima = bytes(&words);
+            let number =
+                doors::divisor_index_divmask_growth(variables, &maxima, percentage, &mut out);
+            let answer = word(ANSWER, grown.into()).to_le_bytes();
+            if (number, out) != (0, answer) {
+                return Err(Difference::Port("growth"));
+            }
+        }
+        Ok(())
+    }
+}
+
+/// The original, and beside it the model without the calls in which the
+/// original panics, once there is one.
+struct Beside<'a> {
+    opening: &'a Opening,
+    original: Original<'a>,
+    model: Option<Index>,
+    /// The trees, kept for their memory.
+    trees: [Vec<u32>; 2],
+}
+
+impl<'a> Beside<'a> {
+    fn open(opening: &'a Opening) -> Self {
+        Beside {
+            opening,
+            original: Original::open(opening),
+            model: None,
+            trees: [vec![], vec![]],
+        }
+    }
+
+    /// Serves a call that the whole model answers like this, and gives the
+    /// original's panic in it.
+    fn call(
+        &mut self,
+        call: &'a [u32],
+        whole: Served,
+        model: &Index,
+        rules: Rules,
+    ) -> Result<Option<Panic>, Difference> {
+        let served = match &mut self.model {
+            None => whole,
+            Some(model) => model.call(call),
+        };
         let expected = served.panic.map_or(Ok(served.word), Err);
-        let answered = original.call(call);
+        let answered = self.original.call(call);
         if expected != answered {
             return Err(Difference::Answer {
                 call: call.to_vec(),
@@ -107,73 +242,58 @@ pub fn compare(job: &Job, rules: Rules) -> Result<Tally, Difference> {
                 original: answered,
             });
         }
-        tally.count(served);
         if served.panic.is_some() {
-            model.restore(tree);
+            self.replay(rules);
         }
+        if is_search(call) {
+            self.compare_trees(call, model)?;
+        }
+        Ok(served.panic)
     }
 
-    tally.splits = model.branches().len();
-    tally.rebuilds = model.rebuilds();
-    if model.maxima() != original.maxima() {
-        return Err(Difference::Maxima);
+    /// Makes the model that has served what the original has served.
+    fn replay(&mut self, rules: Rules) {
+        let mut model = Index::open(self.opening, rules);
+        for call in self.original.served() {
+            model.call(call);
+        }
+        self.model = Some(model);
     }
-    if rest(&model, job.opening.kind) != original.into_rest() {
-        return Err(Difference::Rest);
-    }
-    judge(job, rules)?;
-    Ok(tally)
-}
 
-impl Tally {
-    fn count(&mut self, served: Served) {
-        self.calls += 1;
-        self.refusals += usize::from(kind(served.word) == REFUSAL);
-        self.repeated_elements += usize::from(served.panic == Some(Panic::RepeatedElements));
-        self.not_above += usize::from(served.panic == Some(Panic::NotAbove));
-    }
-}
-
-fn rest(model: &Index, kind: Kind) -> Rest {
-    match kind {
-        Kind::Monomial => Rest::Listing(model.list(usize::MAX).unwrap()),
-        Kind::Ratio => Rest::Ratios {
-            labels: model.labels(),
-            keys: model.keys(),
-            rebuilds: model.rebuilds(),
-        },
-    }
-}
-
-/// Judges the model's answers to the whole list, calls in which the original
-/// panics among them, by the meanings and by a look at every entry.
-fn judge(job: &Job, rules: Rules) -> Result<(), Difference> {
-    let mut model = Index::open(&job.opening, rules);
-    let mut held = Held::new(job.opening.kind, job.opening.maxima.len());
-    let mut answers = vec![];
-    for call in calls(&job.list) {
-        let search = model.as_search(call);
-        let word = model.call(call).word;
-        answers.push(word);
-        if !held.allows(call, word) {
-            return Err(Difference::Meaning {
+    fn compare_trees(&mut self, call: &[u32], whole: &Index) -> Result<(), Difference> {
+        let [model, original] = &mut self.trees;
+        model.clear();
+        original.clear();
+        self.model.as_ref().unwrap_or(whole).show(model);
+        self.original.show(original);
+        match model == original {
+            true => Ok(()),
+            false => Err(Difference::Tree {
                 call: call.to_vec(),
-                model: word,
-            });
-        }
-        if search.is_some_and(|search| model.search_unpruned(search) != payload(word)) {
-            return Err(Difference::Pruning {
-                call: call.to_vec(),
-                model: word,
-            });
+                model: model.clone(),
+                original: original.clone(),
+            }),
         }
     }
 
-    let mut whole = Index::open(&job.opening, rules);
-    if whole.run(&job.list, answers.len()) != Ok(answers) {
-        return Err(Difference::Whole);
+    /// What the original shows beside its tree and its answers.
+    fn compare_rest(&self, whole: &Index) -> Result<(), Difference> {
+        let model = self.model.as_ref().unwrap_or(whole);
+        let labels = match self.opening.kind {
+            Kind::Monomial => vec![],
+            Kind::Ratio => model.labels(),
+        };
+        if labels != self.original.labels() {
+            return Err(Difference::Original("labels"));
+        }
+        if model.maxima() != self.original.maxima().get() {
+            return Err(Difference::Original("maxima"));
+        }
+        match model.rebuilds() == self.original.rebuilds() {
+            true => Ok(()),
+            false => Err(Difference::Original("rebuilds")),
+        }
     }
-    Ok(())
 }
 
 /// The first job that noticed a wrong rule.

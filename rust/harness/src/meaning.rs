@@ -15,21 +15,14 @@ use crate::{
 };
 
 struct Entry {
-    index: u32,
+    ratio: Ratio,
     sign: Powers,
     lm: Powers,
 }
 
 impl Entry {
-    fn ratio(&self) -> Ratio {
-        Ratio {
-            index: self.index,
-            monomial: self.sign.over(&self.lm),
-        }
-    }
-
     fn compare(&self, ratio: &Ratio) -> Ordering {
-        self.ratio().compare(ratio, Rules::document_01())
+        self.ratio.compare(ratio, Rules::document_01())
     }
 }
 
@@ -65,7 +58,9 @@ impl Held {
 
     /// The answer to an insert.
     fn hold(&mut self, index: u32, sign: Powers, lm: Powers) -> u32 {
-        self.entries.push(Entry { index, sign, lm });
+        let monomial = sign.over(&lm);
+        let ratio = Ratio { index, monomial };
+        self.entries.push(Entry { ratio, sign, lm });
         word(ANSWER, self.entries.len() as u32 - 1)
     }
 
@@ -79,7 +74,7 @@ impl Held {
                 self.allows_largest(payload, |e| e.lm.divides(lm) && e.compare(ratio).is_gt())
             }
             Search::Low { index, sign } => {
-                self.allows_largest(payload, |e| e.index == *index && e.sign.divides(sign))
+                self.allows_largest(payload, |e| e.ratio.index == *index && e.sign.divides(sign))
             }
             Search::Singular { index, sign, lm } => {
                 let ratio = Ratio {
@@ -87,7 +82,7 @@ impl Held {
                     monomial: sign.over(lm),
                 };
                 let singular = |e: &Entry| {
-                    e.index == *index && e.sign.divides(sign) && e.compare(&ratio).is_gt()
+                    e.ratio.index == *index && e.sign.divides(sign) && e.compare(&ratio).is_gt()
                 };
                 payload == u32::from(self.entries.iter().any(singular))
             }
@@ -117,7 +112,7 @@ impl Held {
             return payload == 0;
         }
         self.entry(payload).is_some_and(|found| {
-            qualifies(found) && qualified.all(|e| e.compare(&found.ratio()).is_le())
+            qualifies(found) && qualified.all(|e| e.compare(&found.ratio).is_le())
         })
     }
 

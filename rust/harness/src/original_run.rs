@@ -13,7 +13,7 @@ use std::{
     sync::Once,
 };
 
-use original::oracle::{monomial, Basis, Monomial, Syzygies, Var};
+use original::oracle::{monomial, Basis, Maxima, Monomial, Syzygies, Var};
 
 use crate::{
     model::{query::Panic, Kind, Opening},
@@ -140,42 +140,50 @@ impl<'a> Original<'a> {
         self.entries as u32 - 1
     }
 
-    pub fn maxima(&self) -> Vec<i32> {
+    /// The calls served so far.
+    pub fn served(&self) -> &[&'a [u32]] {
+        &self.served
+    }
+
+    pub fn maxima(&self) -> &Maxima {
         match &self.index {
             Index::Monomial(index) => index.maxima(),
             Index::Ratio(index) => index.maxima(),
         }
     }
 
-    /// What remains at the end of a list.
-    pub fn into_rest(self) -> Rest {
-        match self.index {
-            Index::Monomial(index) => Rest::Listing(
-                index
-                    .to_vec()
-                    .into_iter()
-                    .flat_map(monomial_words)
-                    .collect(),
-            ),
-            Index::Ratio(index) => Rest::Ratios {
-                labels: index.labels(),
-                keys: index.keys(),
-                rebuilds: index.rebuilds(),
-            },
+    /// Writes the tree as the words of `original::oracle::shown`.
+    pub fn show(&mut self, words: &mut Vec<u32>) {
+        match &mut self.index {
+            Index::Monomial(index) => index.show(words),
+            Index::Ratio(index) => index.show(words),
         }
     }
-}
 
-/// What the original shows of an index beside its answers: of a monomial index
-/// the order of the tree, of a ratio index labels and which entries are keys.
-#[derive(Debug, PartialEq, Eq)]
-pub enum Rest {
-    Listing(Vec<u32>),
-    Ratios {
-        labels: Vec<u32>,
-        keys: Vec<usize>,
-        rebuilds: usize,
-    },
+    /// The label of each entry; a monomial index has none.
+    pub fn labels(&self) -> Vec<u32> {
+        match &self.index {
+            Index::Monomial(_) => vec![],
+            Index::Ratio(index) => index.labels(),
+        }
+    }
+
+    /// How often labels were dealt afresh.
+    pub fn rebuilds(&self) -> usize {
+        match &self.index {
+            Index::Monomial(_) => 0,
+            Index::Ratio(index) => index.rebuilds(),
+        }
+    }
+
+    /// The listing of a monomial index, which ends it.
+    pub fn into_listing(self) -> Option<Vec<u32>> {
+        let Index::Monomial(index) = self.index else {
+            return None;
+        };
+        let entries = index.to_vec().into_iter();
+        Some(entries.flat_map(monomial_words).collect())
+    }
 }
 
 /// Runs a whole list. A call in which the original panics has no answer.

@@ -1,27 +1,23 @@
-//! A small seeded generator (SplitMix64), the same on every machine.
+//! Seeded draws: the same on every machine with the same packages.
 
-pub struct Rng(u64);
+use rand::{seq::SliceRandom, Rng as _, SeedableRng};
+use rand_pcg::Pcg64Mcg;
+
+pub struct Rng(Pcg64Mcg);
 
 impl Rng {
     pub fn new(seed: u64) -> Self {
-        Rng(seed)
-    }
-
-    fn draw(&mut self) -> u64 {
-        self.0 = self.0.wrapping_add(0x9E37_79B9_7F4A_7C15);
-        let z = (self.0 ^ self.0 >> 30).wrapping_mul(0xBF58_476D_1CE4_E5B9);
-        let z = (z ^ z >> 27).wrapping_mul(0x94D0_49BB_1331_11EB);
-        z ^ z >> 31
+        Rng(Pcg64Mcg::seed_from_u64(seed))
     }
 
     /// From 0 to below `bound`.
     pub fn below(&mut self, bound: usize) -> usize {
-        (self.draw() % bound as u64) as usize
+        self.0.gen_range(0..bound)
     }
 
     /// From `low` to `high`, both included.
     pub fn between(&mut self, low: i32, high: i32) -> i32 {
-        low + self.below((high - low + 1) as usize) as i32
+        self.0.gen_range(low..=high)
     }
 
     /// True `percentage` times in a hundred.
@@ -30,6 +26,10 @@ impl Rng {
     }
 
     pub fn choose<'a, T>(&mut self, from: &'a [T]) -> &'a T {
-        &from[self.below(from.len())]
+        from.choose(&mut self.0).expect("something to choose from")
+    }
+
+    pub fn shuffle<T>(&mut self, list: &mut [T]) {
+        list.shuffle(&mut self.0);
     }
 }

@@ -7,7 +7,7 @@ use harness::{
         Leaf, Operands, Work,
     },
     model::{mutation::Rules, Index, Kind, Opening},
-    original_run::{original_run, Original, Rest},
+    original_run::{original_run, Original},
     words::{calls, monomial_words, ratio_words, word, ANSWER, CALL, INDEX},
 };
 
@@ -132,7 +132,7 @@ fn after(opening: &Opening, list: &[u32]) -> (usize, Vec<u32>) {
         assert_eq!(Ok(model.call(call).word), original.call(call));
     }
     let listing = model.list(usize::MAX).unwrap();
-    assert_eq!(original.into_rest(), Rest::Listing(listing.clone()));
+    assert_eq!(original.into_listing().as_ref(), Some(&listing));
     (model.branches().len(), listing)
 }
 

@@ -1,5 +1,5 @@
 //! The mutation check: puts each wrong rule into the model and prints which job
-//! noticed it.
+//! noticed it, and to how many calls that job shrinks.
 //!
 //! `mutations [ROUNDS] [SEED]` tries up to ROUNDS seeds of every mode from a
 //! seed on.
@@ -7,8 +7,10 @@
 use std::{env, process::ExitCode};
 
 use harness::{
-    compare::{notice, Difference},
-    model::mutation::Mutation,
+    compare::{compare, notice, Difference, Noticed},
+    jobs::{shrink::shrunk, Job},
+    model::mutation::{Mutation, Rules},
+    words::calls,
 };
 
 const ROUNDS: u64 = 300;
@@ -19,44 +21,54 @@ fn main() -> ExitCode {
         .map(|arg| arg.parse().expect("a number"));
     let rounds = args.next().unwrap_or(ROUNDS);
     let seed = args.next().unwrap_or(0);
-    println!("| wrong rule | in words | noticed by | mode | seed | jobs needed |");
-    println!("|---|---|---|---|---|---|");
+    println!(
+        "| wrong rule | in words | noticed by | mode | seed | jobs needed | shrunk to calls |"
+    );
+    println!("|---|---|---|---|---|---|---|");
 
     let mut unnoticed = 0;
     for mutation in Mutation::ALL.iter().copied() {
-        match notice(mutation, seed..seed + rounds) {
-            Some(noticed) => println!(
-                "| {mutation:?} | {} | {} | {:?} | {} | {} |",
-                mutation.describe(),
-                by(&noticed.difference),
-                noticed.mode,
-                noticed.seed,
-                noticed.jobs
-            ),
-            None => {
-                println!("| {mutation:?} | {} | nobody | | | |", mutation.describe());
-                unnoticed += 1;
-            }
-        }
+        let noticed = notice(mutation, seed..seed + rounds);
+        unnoticed += usize::from(noticed.is_none());
+        println!("{}", row(mutation, noticed));
     }
     println!(
         "\n{} wrong rules, {unnoticed} unnoticed",
         Mutation::ALL.len()
     );
-    if unnoticed == 0 {
-        ExitCode::SUCCESS
-    } else {
-        ExitCode::FAILURE
+    match unnoticed {
+        0 => ExitCode::SUCCESS,
+        _ => ExitCode::FAILURE,
     }
 }
 
-fn by(difference: &Difference) -> &'static str {
+fn row(mutation: Mutation, noticed: Option<Noticed>) -> String {
+    let words = mutation.describe();
+    let Some(noticed) = noticed else {
+        return format!("| {mutation:?} | {words} | nobody | | | | |");
+    };
+    let by = by(&noticed.difference);
+    let Noticed {
+        mode, seed, jobs, ..
+    } = noticed;
+    let calls = shortest(mutation, &noticed);
+    format!("| {mutation:?} | {words} | {by} | {mode:?} | {seed} | {jobs} | {calls} |")
+}
+
+/// The calls of the job that noticed, once it is shrunk.
+fn shortest(mutation: Mutation, noticed: &Noticed) -> usize {
+    let job = Job::new(noticed.mode, noticed.seed);
+    let notices = |job: &Job| compare(job, Rules::but(mutation)).is_err();
+    calls(&shrunk(&job, notices).list).count()
+}
+
+fn by(difference: &Difference) -> String {
     match difference {
-        Difference::Answer { .. } => "an answer of the original",
-        Difference::Meaning { .. } => "the meanings",
-        Difference::Pruning { .. } => "a look at every entry",
-        Difference::Maxima => "the original's maxima",
-        Difference::Rest => "the original's tree order, labels or keys",
-        Difference::Whole => "the list as a whole",
+        Difference::Answer { .. } => "an answer of the original".to_owned(),
+        Difference::Meaning { .. } => "the meanings".to_owned(),
+        Difference::Pruning { .. } => "a look at every entry".to_owned(),
+        Difference::Tree { .. } => "the original's tree".to_owned(),
+        Difference::Original(what) => format!("the original's {what}"),
+        Difference::Port(what) => format!("the port's {what}"),
     }
 }

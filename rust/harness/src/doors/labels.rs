@@ -299,7 +299,9 @@ fn by_port(image: &[u8], call: Call) -> (u64, Memory) {
         Call::Open(variables, capacity) => {
             doors::divisor_index_fast_compare_open(variables, capacity, image).into()
         }
-        Call::Ask(value) => doors::divisor_index_fast_compare_get_comparer(image, value.index, ratio),
+        Call::Ask(value) => {
+            doors::divisor_index_fast_compare_get_comparer(image, value.index, ratio)
+        }
         Call::Rebuild => doors::divisor_index_fast_compare_rebuild(image).into(),
     };
     (number, memory)

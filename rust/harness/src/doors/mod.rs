@@ -75,7 +75,9 @@ fn by_port(lent: &Lent) -> Outcome {
         Leaf::Gcd => doors::divisor_index_monomial_gcd(v, first, second, out),
         Leaf::WholeDivision => doors::divisor_index_monomial_whole_division(v, first, second, out),
         Leaf::Divides => doors::divisor_index_monomial_divides(v, first, second, out),
-        Leaf::FractionDivision => doors::divisor_index_monomial_fraction_division(v, first, second, out),
+        Leaf::FractionDivision => {
+            doors::divisor_index_monomial_fraction_division(v, first, second, out)
+        }
         Leaf::Mul => doors::divisor_index_monomial_mul(v, first, second, out),
         Leaf::Eq => doors::divisor_index_monomial_eq(v, first, second, out),
         Leaf::Ord => doors::divisor_index_monomial_cmp(v, first, second, out),

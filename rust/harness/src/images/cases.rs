@@ -1,10 +1,11 @@
 //! The small images, and what the program `crates/image_cases` has to write for
 //! them. The model alone decides.
 
-use super::{samples::bytes, states::small};
+use super::states::small;
 use crate::{
     doors::change::Change,
     model::{image::encode, soundness::is_sound},
+    port::bytes,
 };
 
 /// A record for each image: the number of its words, and its words.

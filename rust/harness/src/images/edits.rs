@@ -1,6 +1,6 @@
 //! Changes that reach as far as they must for most rules to go on holding.
 
-use super::states::{draw_entry, regrow, relabel, shuffle, split};
+use super::states::{draw_entry, regrow, relabel, split};
 use crate::{
     doors::change::Change,
     model::{
@@ -139,7 +139,7 @@ fn edit_rows(state: &mut State, rng: &mut Rng) {
     let (at, other) = (rng.below(count), rng.below(count));
     match rng.below(8) {
         0 => relabel(state, rng),
-        1 => shuffle(&mut state.rows, rng),
+        1 => rng.shuffle(&mut state.rows),
         2 => {
             let label = state.rows[at].1;
             state.rows[at].1 = state.rows[other].1;
@@ -178,7 +178,7 @@ fn edit_leaves(state: &mut State, rng: &mut Rng) {
     let (at, other) = (rng.below(leaf.len()), rng.below(leaf.len()));
     match rng.below(5) {
         0 => leaf.swap(at, other),
-        1 => shuffle(leaf, rng),
+        1 => rng.shuffle(leaf),
         2 => leaf[at] = rng.below(count + 1),
         3 => {
             let place = leaf.remove(at);

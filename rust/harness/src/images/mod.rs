@@ -1,6 +1,7 @@
-//! The door's question 3 of an index image, asked of port and model.
+//! Question 3 of an index image, asked of port and model by the check, by run and
+//! by list.
 //!
-//! An image stands in a [`Memory`], of which the port may change no byte. The
+//! An image stands in a [`Memory`], of which the check may change no byte. The
 //! model says which rules the image breaks, so that a [`Tally`] shows for each
 //! rule how many images are refused for it alone: one of the two that did without
 //! the rule would be noticed there.
@@ -8,11 +9,12 @@
 pub mod cases;
 pub mod chains;
 pub mod edits;
+mod lent;
 pub mod samples;
 pub mod stack;
 pub mod states;
 
-use std::fmt;
+use std::{collections::BTreeMap, fmt};
 
 use divisor_index::doors;
 
@@ -29,6 +31,8 @@ const BEHIND: usize = 400;
 pub struct Tally {
     pub sound: u64,
     pub refused: u64,
+    /// How often run and list returned each number.
+    numbers: [BTreeMap<u32, u64>; 2],
     /// For each rule.
     counts: Vec<Count>,
 }
@@ -45,6 +49,7 @@ impl Default for Tally {
         Tally {
             sound: 0,
             refused: 0,
+            numbers: Default::default(),
             counts: vec![Count::default(); Rule::ALL.len()],
         }
     }
@@ -64,6 +69,12 @@ impl Tally {
         }
     }
 
+    fn count_numbers(&mut self, numbers: [u32; 2]) {
+        for (counts, number) in self.numbers.iter_mut().zip(numbers) {
+            *counts.entry(number).or_default() += 1;
+        }
+    }
+
     pub fn of(&self, rule: Rule) -> Count {
         self.counts[rule as usize]
     }
@@ -77,11 +88,16 @@ impl Tally {
 
 impl fmt::Display for Tally {
     fn fmt(&self, f: &mut fmt::Formatter<'_>) -> fmt::Result {
-        write!(f, "{} sound, {} refused", self.sound, self.refused)
+        let [run, list] = &self.numbers;
+        write!(
+            f,
+            "{} sound, {} refused, numbers of run {run:?}, of list {list:?}",
+            self.sound, self.refused
+        )
     }
 }
 
-/// Compares port and model on these bytes.
+/// Compares port and model on these bytes: the check, a list and a listing.
 pub fn compare(image: &[u8], tally: &mut Tally) -> Result<(), String> {
     let reading = read(image);
     let expected = match reading.is_sound() {
@@ -102,6 +118,11 @@ pub fn compare(image: &[u8], tally: &mut Tally) -> Result<(), String> {
                 show(image)
             ));
         }
+        let numbers = lent::compare(image, *behind, &reading).map_err(|difference| {
+            let broken = reading.broken;
+            format!("{difference}, broken {broken:?}, {}", show(image))
+        })?;
+        tally.count_numbers(numbers);
     }
     tally.count(&reading);
     Ok(())

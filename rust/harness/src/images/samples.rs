@@ -18,6 +18,8 @@ use crate::{
     words::{MAX_CAPACITY, MAX_VARIABLES},
 };
 
+pub use crate::port::bytes;
+
 /// Looks at an image, and says what is wrong.
 pub trait Visit: FnMut(&[u8]) -> Result<(), String> {}
 
@@ -28,10 +30,6 @@ const CHANGES: u64 = 24;
 
 /// Most random bytes.
 const BYTES: usize = 600;
-
-pub fn bytes(words: &[u32]) -> Vec<u8> {
-    words.iter().flat_map(|word| word.to_le_bytes()).collect()
-}
 
 /// Small images: as they are, with every change of a word, with every two rows
 /// exchanged, of every shorter length, and with bytes behind them.

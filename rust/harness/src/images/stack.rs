@@ -9,12 +9,10 @@ use std::{
 
 use divisor_index::doors;
 
-use super::{
-    chains::{full, Form},
-    samples::bytes,
-};
+use super::chains::{full, Form};
 use crate::{
     model::{image::encode, Kind},
+    port::bytes,
     words::{monomial_words, ratio_words, word, CALL, INDEX, MAX_CAPACITY, MAX_POWER},
 };
 

@@ -88,6 +88,8 @@ pub fn draw_sizes(rng: &mut Rng) -> Sizes {
     let (variables, capacity) = match rng.below(20) {
         0 => (64, 3),
         1 => (33, 4),
+        // A leaf of more than 64 entries is split by the next search.
+        2 => (1 + rng.below(3), 66 + rng.below(80)),
         _ => (1 + rng.below(4), capacity),
     };
     Sizes {
@@ -96,6 +98,7 @@ pub fn draw_sizes(rng: &mut Rng) -> Sizes {
         capacity,
         entries: match rng.chance(40) {
             true => capacity,
+            false if capacity > 64 => 64 + rng.below(capacity - 63),
             false => rng.below(capacity + 1),
         },
     }
@@ -181,13 +184,7 @@ pub fn relabel(state: &mut State, rng: &mut Rng) {
         false => (low + at * step) as u32,
     });
     state.rows = ratios.into_iter().zip(labels).collect();
-    shuffle(&mut state.rows, rng);
-}
-
-pub fn shuffle<T>(list: &mut [T], rng: &mut Rng) {
-    for at in 1..list.len() {
-        list.swap(at, rng.below(at + 1));
-    }
+    rng.shuffle(&mut state.rows);
 }
 
 /// Where a tree that is grown cuts.
@@ -204,7 +201,7 @@ pub fn regrow(state: &mut State, rng: &mut Rng) {
     let cut = *rng.choose(&[Cut::Low, Cut::High, Cut::Anywhere, Cut::Anywhere]);
     let chance = *rng.choose(&[0, 60, 90, 100]);
     let mut places: Vec<usize> = (0..state.entries.len()).collect();
-    shuffle(&mut places, rng);
+    rng.shuffle(&mut places);
     let ratios: Vec<Ratio> = state.entries.iter().map(Entry::ratio).collect();
     state.tree = grow(state, &ratios, places, cut, chance, rng);
 }

@@ -1,29 +1,31 @@
 //! Writes a job's calls: inserts, and searches near what is held.
 
 use super::{
-    entries::{Entries, Inserted},
-    Job, Mode, Plan,
+    entries::Entries,
+    plan::{Indexes, Plan},
+    Mode,
 };
 use crate::{
     model::{
         mutation::Rules,
         powers::{Powers, Ratio},
+        state::Entry,
         Kind, Opening,
     },
     rng::Rng,
     words::{kind, monomial_words, ratio_words, word, CALL, END, INDEX, MAX_POWER},
 };
 
-pub struct Maker {
+pub struct Maker<'a> {
     rng: Rng,
-    opening: Opening,
-    indexes: u32,
+    opening: &'a Opening,
+    indexes: Indexes,
     list: Vec<u32>,
-    held: Vec<Inserted>,
+    held: Vec<Entry>,
 }
 
-impl Maker {
-    pub fn new(rng: Rng, opening: Opening, indexes: u32) -> Self {
+impl<'a> Maker<'a> {
+    pub fn new(rng: Rng, opening: &'a Opening, indexes: Indexes) -> Self {
         Self {
             rng,
             opening,
@@ -33,7 +35,7 @@ impl Maker {
         }
     }
 
-    pub fn make(mut self, mode: Mode, plan: &Plan, entries: Entries) -> Job {
+    pub fn make(mut self, mode: Mode, plan: &Plan, entries: Entries) -> Vec<u32> {
         for at in 0..plan.inserts {
             let entry = entries.next(at, &mut self.rng);
             self.call(mode, |maker| maker.insert(entry));
@@ -46,10 +48,23 @@ impl Maker {
         for _ in 0..self.rng.below(4) {
             self.call(mode, |maker| maker.search(mode));
         }
-        Job {
-            opening: self.opening,
-            list: self.list,
+        self.list
+    }
+
+    /// So many calls near these entries, some of them damaged.
+    pub fn make_near(mut self, held: Vec<Entry>, count: usize) -> Vec<u32> {
+        self.held = held;
+        for _ in 0..count {
+            self.call(Mode::Malformed, |maker| match maker.rng.chance(40) {
+                true => {
+                    let (index, sign) = maker.near_signature();
+                    let lm = maker.near_lm(Mode::Malformed);
+                    maker.insert(Entry { index, sign, lm });
+                }
+                false => maker.search(Mode::Malformed),
+            });
         }
+        self.list
     }
 
     fn variables(&self) -> usize {
@@ -92,7 +107,7 @@ impl Maker {
         *self.rng.choose(&[0, 1, 0x7FFF, 0x8000, 0x8001, 0xFFFF])
     }
 
-    fn insert(&mut self, entry: Inserted) {
+    fn insert(&mut self, entry: Entry) {
         match self.opening.kind {
             Kind::Monomial => self.write(0, None, &[monomial_words(entry.lm.vars())]),
             Kind::Ratio => {
@@ -127,12 +142,40 @@ impl Maker {
                 self.write(5, Some(index), &[monomial_words(sign.vars())]);
             }
             _ => {
-                let (index, sign) = self.near_signature();
-                let lm = self.near_lm(mode);
+                let (index, sign, lm) = self.for_singular(mode);
                 let body = [monomial_words(sign.vars()), monomial_words(lm.vars())];
                 self.write(6, Some(index), &body);
             }
         }
+    }
+
+    /// Index, signature monomial and lm, often of a ratio that is held.
+    fn for_singular(&mut self, mode: Mode) -> (u32, Powers, Powers) {
+        let (index, mut sign) = self.near_signature();
+        let mut lm = self.near_lm(mode);
+        if self.rng.chance(60) {
+            return (index, sign, lm);
+        }
+        match self.some_entry() {
+            Some(entry) => {
+                // The same multiple of both, as far as powers go.
+                lm = entry.lm;
+                let id = self.rng.below(lm.0.len());
+                let room = MAX_POWER - entry.sign.0[id].max(lm.0[id]);
+                let by = self.rng.between(0, room.min(3));
+                sign = entry.sign;
+                sign.0[id] += by;
+                lm.0[id] += by;
+                (entry.index, sign, lm)
+            }
+            None => (index, sign, lm),
+        }
+    }
+
+    /// An index of the job, or the one above.
+    fn near_index(&mut self) -> u32 {
+        let index = self.indexes.draw(&mut self.rng) + self.rng.below(2) as u32;
+        index.min((1 << 28) - 1)
     }
 
     fn write_ratio(&mut self, number: u32, ratio: Ratio, lm: &Powers) {
@@ -158,7 +201,9 @@ impl Maker {
         let id = self.rng.below(self.variables());
         match mode {
             Mode::LowQueries => lm.0[id..].fill(0),
-            Mode::Masks if self.rng.chance(50) => lm.0[id] = self.rng.between(0, lm.0[id]),
+            Mode::Masks | Mode::TallMasks if self.rng.chance(50) => {
+                lm.0[id] = self.rng.between(0, lm.0[id]);
+            }
             _ => (),
         }
         lm
@@ -177,17 +222,14 @@ impl Maker {
     /// A ratio equal to a held one, beside one, or far from all.
     fn near_ratio(&mut self) -> Ratio {
         let mut ratio = match self.some_entry() {
-            Some(entry) => ratio_of(&entry),
-            None => Ratio {
-                index: 0,
-                monomial: Powers::one(self.variables()),
-            },
+            Some(entry) => entry.ratio(),
+            None => Ratio::one(self.variables()),
         };
         let id = self.rng.below(self.variables());
         match self.rng.below(10) {
             0..=4 => (),
             5..=7 => ratio.monomial.0[id] += self.rng.between(-1, 1),
-            8 => ratio.index = self.rng.below(self.indexes as usize + 1) as u32,
+            8 => ratio.index = self.near_index(),
             _ => ratio.monomial.0[id] = *self.rng.choose(&[-MAX_POWER, MAX_POWER]),
         }
         limit(&mut ratio.monomial, -MAX_POWER);
@@ -198,7 +240,7 @@ impl Maker {
     fn ratio_for_high(&mut self, lm: &Powers) -> Ratio {
         let divisors = self.held.iter().filter(|entry| entry.lm.divides(lm));
         let least = divisors
-            .map(ratio_of)
+            .map(Entry::ratio)
             .min_by(|a, b| a.compare(b, Rules::document_01()));
         match least {
             Some(mut ratio) if self.rng.chance(85) => {
@@ -211,11 +253,16 @@ impl Maker {
         }
     }
 
-    fn some_entry(&mut self) -> Option<Inserted> {
+    /// An entry that was inserted, often one of the last.
+    fn some_entry(&mut self) -> Option<Entry> {
         if self.held.is_empty() || self.rng.chance(3) {
             return None;
         }
-        Some(self.rng.choose(&self.held).clone())
+        let from = match self.rng.chance(20) {
+            true => self.held.len().saturating_sub(3),
+            false => 0,
+        };
+        Some(self.rng.choose(&self.held[from..]).clone())
     }
 
     /// Raises some powers and lowers one, each not in every case.
@@ -238,13 +285,6 @@ fn repeat_variable(call: &mut Vec<u32>, at: usize) {
     call.insert(at, call[at]);
     if let Some(end) = call[at..].iter_mut().find(|word| kind(**word) == END) {
         *end += 1;
-    }
-}
-
-fn ratio_of(entry: &Inserted) -> Ratio {
-    Ratio {
-        index: entry.index,
-        monomial: entry.sign.over(&entry.lm),
     }
 }
 

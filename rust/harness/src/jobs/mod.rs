@@ -2,15 +2,21 @@
 
 mod entries;
 mod maker;
+mod plan;
 pub mod record;
+pub mod shrink;
+mod trend;
 
-use crate::{
-    model::{Kind, Opening},
-    rng::Rng,
-    words::{MAX_CAPACITY, MAX_POWER},
+use self::{
+    entries::Entries,
+    maker::Maker,
+    plan::{Indexes, Plan},
 };
-
-use self::{entries::Entries, maker::Maker};
+use crate::{
+    model::{state::State, Opening},
+    rng::Rng,
+    words::{calls, payload},
+};
 
 /// What a job is after.
 #[derive(Debug, Clone, Copy, PartialEq, Eq)]
@@ -44,10 +50,24 @@ pub enum Mode {
     Malformed,
     /// Capacity one below the inserts, at them and past them.
     Capacity,
+    /// Inserts that lower the gcds of branches, and searches for them.
+    Lowering,
+    /// Signature indexes around 2^16, 2^20, 2^27 and 2^28 - 1.
+    WideIndexes,
+    /// Clusters whose gcds have tall powers, or many variables, in their masks.
+    TallMasks,
+    /// Ratios rise and fall by turns, up to both ends of the labels.
+    BothEnds,
+    /// Hundreds of ratios, and now and then more inserts than any capacity.
+    Full,
+    /// Ratios whose totals lie millions apart.
+    FarTotals,
+    /// Splits in dimensions far from the first, of 33 and more variables.
+    Dimensions,
 }
 
 impl Mode {
-    pub const ALL: [Mode; 14] = [
+    pub const ALL: [Mode; 21] = [
         Mode::Small,
         Mode::Splits,
         Mode::Rising,
@@ -62,7 +82,17 @@ impl Mode {
         Mode::TallPowers,
         Mode::Malformed,
         Mode::Capacity,
+        Mode::Lowering,
+        Mode::WideIndexes,
+        Mode::TallMasks,
+        Mode::BothEnds,
+        Mode::Full,
+        Mode::FarTotals,
+        Mode::Dimensions,
     ];
+
+    /// Those that the program crates/call_replay knows.
+    pub const REPLAYED: &'static [Mode] = Self::ALL.split_at(14).0;
 
     pub fn from_name(name: &str) -> Option<Self> {
         let mut modes = Self::ALL.into_iter();
@@ -70,11 +100,36 @@ impl Mode {
     }
 }
 
-/// An opening and a call list for it.
+/// An opening and calls for it.
 #[derive(Debug, Clone)]
 pub struct Job {
     pub opening: Opening,
     pub list: Vec<u32>,
+    pub cut: Cut,
+}
+
+/// From so many inserts on an index is large.
+const LARGE: usize = 1000;
+
+/// How the calls are cut into lists.
+#[derive(Debug, Clone, Copy)]
+pub enum Cut {
+    /// After so many calls.
+    Calls(usize),
+    /// After each search.
+    Searches,
+}
+
+impl Cut {
+    /// One seed in eight ends a list with every search. A large index has few
+    /// lists, since each costs a look at the whole image.
+    fn of(seed: u64, inserts: usize) -> Self {
+        match seed % 8 {
+            _ if inserts >= LARGE => Cut::Calls(inserts / (1 + seed as usize % 4)),
+            0 => Cut::Searches,
+            _ => Cut::Calls(1 + (seed / 8) as usize % 97),
+        }
+    }
 }
 
 impl Job {
@@ -84,82 +139,42 @@ impl Job {
         let plan = Plan::draw(mode, &mut rng);
         let opening = plan.opening(mode, &mut rng);
         let entries = Entries::draw(mode, &plan, &mut rng);
-        Maker::new(rng, opening, plan.indexes).make(mode, &plan, entries)
-    }
-}
-
-/// The sizes of a job.
-struct Plan {
-    kind: Kind,
-    variables: usize,
-    /// No power of an lm is above this.
-    tallest: i32,
-    inserts: usize,
-    /// Searches for a hundred inserts.
-    searches: usize,
-    /// Signature indexes are below this.
-    indexes: u32,
-}
-
-impl Plan {
-    fn draw(mode: Mode, rng: &mut Rng) -> Self {
-        let kind = match mode {
-            Mode::Rising | Mode::Falling | Mode::Crowding | Mode::EqualRatios => Kind::Ratio,
-            // What they prune shows in the order of the tree, which only a
-            // monomial index lists.
-            Mode::Masks | Mode::LowQueries if rng.chance(50) => Kind::Monomial,
-            _ => *rng.choose(&[Kind::Monomial, Kind::Ratio]),
-        };
-        let variables = match mode {
-            Mode::Small | Mode::Capacity => 1..=3,
-            Mode::Rising | Mode::Falling | Mode::Crowding | Mode::TallPowers => 1..=4,
-            Mode::LowQueries | Mode::Masks => 3..=8,
-            Mode::ManyVariables => 20..=64,
-            _ => 1..=6,
-        };
-        let tallest = match mode {
-            Mode::Small | Mode::Capacity | Mode::Malformed => 1..=3,
-            Mode::Rising | Mode::Falling | Mode::Crowding => 1..=6,
-            Mode::TallPowers => 20_000..=MAX_POWER,
-            _ => 2..=30,
-        };
-        let inserts = match mode {
-            Mode::Small | Mode::Capacity | Mode::Malformed => 1..=40,
-            Mode::Repeats => 60..=72,
-            Mode::ManyVariables => 66..=160,
-            Mode::Masks | Mode::LowQueries => 200..=600,
-            _ => 65..=260,
-        };
-        // Few searches let leaves grow far beyond 64 before they are split.
-        let searches = match mode {
-            Mode::Small | Mode::Capacity | Mode::Malformed => 200,
-            Mode::Repeats => 20,
-            Mode::Masks | Mode::LowQueries => *rng.choose(&[0, 0, 3, 20]),
-            _ => *rng.choose(&[2, 10, 70]),
-        };
-        Plan {
-            kind,
-            variables: rng.between(*variables.start(), *variables.end()) as usize,
-            tallest: rng.between(*tallest.start(), *tallest.end()),
-            inserts: rng.between(*inserts.start(), *inserts.end()) as usize,
-            searches,
-            indexes: rng.between(1, 3) as u32,
+        let list = Maker::new(rng, &opening, plan.indexes).make(mode, &plan, entries);
+        Job {
+            opening,
+            list,
+            cut: Cut::of(seed, plan.inserts),
         }
     }
 
-    fn opening(&self, mode: Mode, rng: &mut Rng) -> Opening {
-        let capacity = match mode {
-            Mode::Capacity => (self.inserts + rng.below(3)).saturating_sub(1).max(1),
-            Mode::Small | Mode::Malformed => rng.between(1, 40) as usize,
-            _ => *rng.choose(&[self.inserts + 4, 1000, MAX_CAPACITY]),
-        };
-        let tallest = *rng.choose(&[1, self.tallest, 33]);
-        Opening {
-            kind: self.kind,
-            capacity,
-            maxima: (0..self.variables)
-                .map(|_| rng.between(1, tallest))
-                .collect(),
+    /// The lists, each with its calls.
+    pub fn lists(&self) -> Vec<Vec<&[u32]>> {
+        let all: Vec<&[u32]> = calls(&self.list).collect();
+        match self.cut {
+            Cut::Calls(count) => all.chunks(count).map(<[_]>::to_vec).collect(),
+            Cut::Searches => {
+                let lists = all.split_inclusive(|call| is_search(call));
+                lists.map(<[_]>::to_vec).collect()
+            }
         }
     }
+}
+
+/// So many calls near the entries of a state, some of them damaged.
+pub fn calls_near(state: &State, count: usize, rng: Rng) -> Vec<u32> {
+    let opening = Opening {
+        kind: state.kind,
+        capacity: state.capacity,
+        maxima: state.maxima.clone(),
+    };
+    let indexes = Indexes {
+        from: &[0],
+        count: 3,
+    };
+    Maker::new(rng, &opening, indexes).make_near(state.entries.clone(), count)
+}
+
+/// Whether a call's number is that of a search.
+pub fn is_search(call: &[u32]) -> bool {
+    matches!(payload(call[0]), 1 | 3..=6)
 }

@@ -3,9 +3,10 @@
 
 use super::{Job, Mode};
 use crate::{
-    compare::{compare, Tally},
+    compare::compare,
     model::{image::encode, mutation::Rules, Index, Kind},
     original_run::Original,
+    tally::Tally,
     words::calls,
 };
 
@@ -20,7 +21,7 @@ pub fn sample() -> Vec<u32> {
         let records = (0..).filter_map(move |seed| record(mode, seed, length));
         records.take(count).flatten()
     };
-    Mode::ALL.into_iter().flat_map(of_mode).collect()
+    Mode::REPLAYED.iter().copied().flat_map(of_mode).collect()
 }
 
 /// How many jobs of a mode, and the most words of one.
@@ -53,7 +54,7 @@ fn record(mode: Mode, seed: u64, length: usize) -> Option<Vec<u32>> {
     let maxima: Vec<u32> = opening.maxima.iter().map(|&x| x as u32).collect();
     let lists = lists(&job.list, &answers, 1 + seed as usize % 4);
     let rest = [&head[..], &maxima, &lists].concat();
-    let fits = 1 + rest.len() <= length && image.len() <= IMAGE;
+    let fits = rest.len() < length && image.len() <= IMAGE;
     (fits && shows(mode, &tally)).then(|| [vec![1 + rest.len() as u32], rest].concat())
 }
 
@@ -64,8 +65,7 @@ fn served(job: Job) -> (Job, Vec<u32>) {
     let asked = calls(&job.list).filter_map(|call| Some((call, original.call(call).ok()?)));
     let (kept, answers): (Vec<&[u32]>, Vec<u32>) = asked.unzip();
     let list = kept.concat();
-    let opening = job.opening;
-    (Job { opening, list }, answers)
+    (Job { list, ..job }, answers)
 }
 
 /// The calls and answers in so many lists.

@@ -79,7 +79,7 @@ fn masked(leaf: Leaf, maxima: &[i32], vars: &[Var]) -> Vec<u32> {
         Leaf::Update => {
             let mut maxima = Maxima::new::<Order>(maxima);
             maxima.update::<Order>(vars);
-            maxima.get().into_iter().map(|m| m as u32).collect()
+            maxima.get().iter().map(|m| *m as u32).collect()
         }
         _ => unreachable!("{leaf:?} takes other operands"),
     }

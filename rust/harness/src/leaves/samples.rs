@@ -187,6 +187,7 @@ pub fn exhaustive(leaf: Leaf) -> Vec<Work> {
     }
     let mut works = match leaf {
         Leaf::Mask | Leaf::Update => limits(leaf),
+        Leaf::Growth => growth_limits(),
         _ => vec![],
     };
     for variables in 1..=3 {
@@ -245,6 +246,25 @@ fn limits(leaf: Leaf) -> Vec<Work> {
                     });
                 }
             }
+        }
+    }
+    works
+}
+
+/// Maxima of many variables whose growth turns 99 %, and the greatest.
+fn growth_limits() -> Vec<Work> {
+    let mut works = vec![];
+    for variables in [33, 63, 64] {
+        let turn = 100 * variables;
+        for total in [turn - 1, turn, turn + 1, MAX_POWER * variables] {
+            let mut maxima = vec![total / variables; variables as usize];
+            maxima[0] += total % variables;
+            works.extend([0, 97, 98, 99, 100, u8::MAX].map(|percentage| Work {
+                leaf: Leaf::Growth,
+                variables: variables as u32,
+                room: ROOMY,
+                operands: grown(&Powers(maxima.clone()), percentage),
+            }));
         }
     }
     works

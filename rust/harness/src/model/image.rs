@@ -1,7 +1,7 @@
 //! The image of an index: one state, one list of words
 //! (crates/index_image/specs/Layout.antt).
 
-use std::{cmp::Reverse, collections::HashMap, iter::repeat_n};
+use std::{cmp::Reverse, collections::HashMap};
 
 use super::{
     divmask::{vector, Map},
@@ -123,7 +123,8 @@ pub fn encode(state: &State) -> Vec<u32> {
 #[derive(Debug, Default)]
 pub struct Written {
     pub words: Vec<u32>,
-    pub rules: Vec<Rule>,
+    /// Each rule with the place behind its words.
+    rules: Vec<(usize, Rule)>,
 }
 
 impl Written {
@@ -131,6 +132,7 @@ impl Written {
         let shape = Shape::of(state);
         let map = map(&state.map_maxima);
         let mut image = Written::default();
+        image.words.reserve_exact(shape.size());
         image.header(state);
         image.put(Rule::Maxima, bare(&state.maxima));
         image.put(Rule::MapMaxima, bare(&state.map_maxima));
@@ -147,14 +149,21 @@ impl Written {
         image
     }
 
+    /// The rule that gives the word at a place.
+    pub fn rule(&self, at: usize) -> Rule {
+        let behind = self.rules.partition_point(|(end, _)| *end <= at);
+        self.rules[behind].1
+    }
+
     fn put(&mut self, rule: Rule, words: impl IntoIterator<Item = u32>) {
         self.words.extend(words);
-        self.rules.resize(self.words.len(), rule);
+        self.rules.push((self.words.len(), rule));
     }
 
     /// Zeros up to a place.
     fn fill(&mut self, rule: Rule, end: usize) {
-        self.put(rule, repeat_n(0, end.saturating_sub(self.words.len())));
+        self.words.resize(end.max(self.words.len()), 0);
+        self.rules.push((self.words.len(), rule));
     }
 
     fn slot(&mut self, rule: Rule, words: Vec<u32>, variables: usize) {

@@ -8,7 +8,6 @@ use crate::words::{kind, payload, ratio_words, word, INDEX, MAX_CAPACITY, MAX_VA
 pub struct LabelMap {
     variables: usize,
     capacity: usize,
-    arrived: Vec<Ratio>,
     labels: Labels,
 }
 
@@ -42,7 +41,6 @@ impl LabelMap {
         Ok(LabelMap {
             variables: variables as usize,
             capacity: capacity as usize,
-            arrived: vec![],
             labels: Labels::new(Rules::document_01()),
         })
     }
@@ -67,13 +65,10 @@ impl LabelMap {
 
     /// The map with these values and labels, in order of arrival.
     pub fn of_rows(variables: usize, capacity: usize, rows: Vec<(Ratio, u32)>) -> Self {
-        let mut rising = rows.clone();
-        rising.sort_by(|a, b| a.0.compare(&b.0, Rules::document_01()));
         LabelMap {
             variables,
             capacity,
-            arrived: rows.into_iter().map(|(value, _)| value).collect(),
-            labels: Labels::of_rows(rising, Rules::document_01()),
+            labels: Labels::of_rows(rows, Rules::document_01()),
         }
     }
 
@@ -88,12 +83,12 @@ impl LabelMap {
         let row_size = row_size(self.variables);
         let order = HEADER + self.capacity * row_size;
         let mut words = vec![0; order + self.capacity];
-        let header = [self.variables, self.capacity, self.arrived.len()];
+        let header = [self.variables, self.capacity, self.labels.count()];
         words[0] = LAYOUT;
         for (at, number) in (1..).zip(header) {
             words[at] = number as u32;
         }
-        for (number, value) in self.arrived.iter().enumerate() {
+        for (number, value) in self.labels.arrived().iter().enumerate() {
             let row = &mut words[HEADER + number * row_size..][..row_size];
             let ratio = ratio_words(value.monomial.vars());
             row[0] = word(INDEX, value.index);
@@ -108,7 +103,7 @@ impl LabelMap {
     /// The label of each value, in order of arrival.
     pub fn labels(&self) -> Vec<u32> {
         let known = |value| self.labels.known(value).expect("arrived");
-        self.arrived.iter().map(known).collect()
+        self.labels.arrived().iter().map(known).collect()
     }
 
     /// Questions 7, 8 and 10.
@@ -121,12 +116,10 @@ impl LabelMap {
         if let Some(label) = self.labels.known(&value) {
             return Ok(label);
         }
-        if self.arrived.len() == self.capacity {
+        if self.labels.count() == self.capacity {
             return Err(8);
         }
-        let label = self.labels.get(&value).ok_or(10u32)?;
-        self.arrived.push(value);
-        Ok(label)
+        self.labels.get(&value).ok_or(10)
     }
 
     pub fn rebuild(&mut self) {

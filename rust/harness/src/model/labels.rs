@@ -5,29 +5,38 @@ use super::{
     powers::Ratio,
 };
 
-/// Values with their labels, in rising order.
+/// Values with their labels, in rising order, and the values as they arrived.
 #[derive(Debug, Clone)]
 pub struct Labels {
     rows: Vec<(Ratio, u32)>,
+    arrived: Vec<Ratio>,
     rules: Rules,
 }
 
 impl Labels {
     pub fn new(rules: Rules) -> Self {
-        Self {
-            rows: vec![],
-            rules,
-        }
+        Self::of_rows(vec![], rules)
     }
 
-    /// With these values, which rise, and labels.
-    pub fn of_rows(rows: Vec<(Ratio, u32)>, rules: Rules) -> Self {
-        Self { rows, rules }
+    /// With these values, in order of arrival, and labels.
+    pub fn of_rows(mut rows: Vec<(Ratio, u32)>, rules: Rules) -> Self {
+        let arrived = rows.iter().map(|(value, _)| value.clone()).collect();
+        rows.sort_by(|a, b| a.0.compare(&b.0, rules));
+        Self {
+            rows,
+            arrived,
+            rules,
+        }
     }
 
     /// Values and labels in rising order of value.
     pub fn rows(&self) -> &[(Ratio, u32)] {
         &self.rows
+    }
+
+    /// The values in order of arrival.
+    pub fn arrived(&self) -> &[Ratio] {
+        &self.arrived
     }
 
     /// How many values are known.
@@ -68,6 +77,7 @@ impl Labels {
         let round = i64::from(self.rules.has(Mutation::HalfSumRoundedUp));
         let label = ((low + high + round) / 2) as u32;
         self.rows.insert(at, (value.clone(), label));
+        self.arrived.push(value.clone());
         Some(label)
     }
 
@@ -77,6 +87,9 @@ impl Labels {
         let parts = self.rows.len() as u64 + 1;
         for (k, (_, label)) in (1..).zip(&mut self.rows) {
             *label = (k * spread / parts) as u32;
+        }
+        if self.rules.has(Mutation::RowsSortedAtRebuild) {
+            self.arrived = self.rows.iter().map(|(value, _)| value.clone()).collect();
         }
     }
 

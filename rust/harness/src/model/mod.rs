@@ -1,5 +1,5 @@
-//! Document 01's index, written plainly: dense monomials, no stored masks or
-//! labels, everything compared by value.
+//! Document 01's index, written plainly: dense monomials, everything compared by
+//! value, and no stored mask or label that a search would ask.
 
 #[macro_use]
 mod named;
@@ -12,6 +12,7 @@ pub mod labels;
 pub mod mutation;
 pub mod powers;
 pub mod query;
+pub mod reach;
 pub mod soundness;
 pub mod state;
 pub mod store;
@@ -24,7 +25,8 @@ use self::{
     mutation::{Mutation, Rules},
     powers::{Powers, Ratio},
     query::{Found, Key, Panic, Query},
-    store::{Entry, Store},
+    reach::Reached,
+    store::Store,
     tree::Node,
 };
 use crate::words::{
@@ -90,6 +92,7 @@ impl Index {
             map: Map::new(&opening.maxima, rules),
             entries: vec![],
             labels: Labels::new(rules),
+            reached: Reached::default(),
         };
         Self {
             tree: Node::leaf(&store, vec![]),
@@ -117,10 +120,15 @@ impl Index {
     pub fn call(&mut self, call: &[u32]) -> Served {
         match self.question(call) {
             Ok(call) => self.serve(call),
-            Err(number) => Served {
-                word: word(REFUSAL, number),
-                panic: None,
-            },
+            Err(number) => {
+                let entries = self.store.entries.len();
+                let branches = self.tree.is_branch();
+                self.store.reached.refused(number, entries, branches);
+                Served {
+                    word: word(REFUSAL, number),
+                    panic: None,
+                }
+            }
         }
     }
 
@@ -160,24 +168,19 @@ impl Index {
     /// number.
     fn insert(&mut self, index: u32, sign: Option<Powers>, lm: Powers) -> u32 {
         self.update_maxima(sign.as_ref(), &lm);
-        let entry = match sign {
-            None => Entry {
-                ratio: Ratio {
-                    index,
-                    monomial: Powers::one(self.store.variables),
-                },
-                sign: Powers::one(self.store.variables),
-                lm,
-            },
+        let number = match sign {
+            None => {
+                let ratio = Ratio::one(self.store.variables);
+                let sign = ratio.monomial.clone();
+                self.store.push(ratio, sign, lm)
+            }
             Some(sign) => {
                 let monomial = sign.over(&lm);
                 let ratio = Ratio { index, monomial };
                 self.label(&ratio);
-                Entry { ratio, sign, lm }
+                self.store.push(ratio, sign, lm)
             }
         };
-        let number = self.store.entries.len();
-        self.store.entries.push(entry);
         self.tree.insert(&self.store, number);
         number as u32
     }
@@ -201,7 +204,12 @@ impl Index {
             self.rebuilds += 1;
             labels.rebuild();
             labels.get(ratio).expect("a label is free after a rebuild");
+            if self.store.rules.has(Mutation::MapRemadeAtRebuild) {
+                self.map_maxima = self.maxima.clone();
+                self.store.remap(Map::new(&self.maxima, self.store.rules));
+            }
         }
+        self.store.reached.labelled(&self.store.labels, ratio);
     }
 
     fn search(&mut self, search: Search) -> (u32, Option<Panic>) {
@@ -235,13 +243,17 @@ impl Index {
         }
     }
 
-    /// The tree, which is all that a search may change.
-    pub fn tree(&self) -> &Node {
-        &self.tree
+    /// Writes the tree as the original's is shown; without entries it shows
+    /// nothing.
+    pub fn show(&self, words: &mut Vec<u32>) {
+        if !self.store.entries.is_empty() {
+            self.tree.show(&self.store, words);
+        }
     }
 
-    pub fn restore(&mut self, tree: Node) {
-        self.tree = tree;
+    /// What came about so far.
+    pub fn reached(&self) -> &Reached {
+        &self.store.reached
     }
 
     /// The numbers of the entries in the order of the tree.
@@ -271,17 +283,6 @@ impl Index {
     pub fn labels(&self) -> Vec<u32> {
         let numbers = 0..self.store.entries.len();
         numbers.map(|n| self.store.label(n) as u32).collect()
-    }
-
-    /// For each entry the number of splits that have it as their key.
-    pub fn keys(&self) -> Vec<usize> {
-        let mut counts = vec![0; self.store.entries.len()];
-        for key in self.branches() {
-            if let Key::Ratio { number, .. } = key {
-                counts[*number] += 1;
-            }
-        }
-        counts
     }
 
     /// The keys of the branches.

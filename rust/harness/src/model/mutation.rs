@@ -22,6 +22,7 @@ named! {
     RatioKeyIsFirst: "the ratio key is the first entry of the other side",
     RatioKeyIsLastOfSmallest: "the ratio key is the last of the smallest ratios",
     RatioAveragedByRank: "ratios are averaged by rank",
+    LoweringLeftOut: "an insert leaves the gcds and masks of branches as they are",
     // The walk.
     OtherSideFirst: "the other side is searched before the less side",
     OtherSideAfterStop: "after a stop in the less side the other side is still visited",
@@ -31,6 +32,7 @@ named! {
     OnePrunesNothing: "variable 0 prunes nothing when the query is one",
     EqualPowerPrunes: "the other side is pruned when the power equals the key",
     ReducerEqualRatioPrunes: "the other side is pruned when the reducer's ratio equals the key",
+    SingularBothAtEqualKey: "the singular search goes both ways at an equal key",
     // What is found.
     FirstSingularReducer: "of singular reducers the first is answered",
     EqualRatioIsRegular: "a reducer of equal ratio is regular",
@@ -44,6 +46,7 @@ named! {
     TotalIgnored: "the order takes no notice of totals",
     TieAtLargestId: "the largest id where powers differ decides",
     TieLargerPowerIsLarger: "the larger power is the larger monomial",
+    IndexesIn27Bits: "indexes are compared in 27 bits",
     // Masks.
     CutoffRoundedUp: "cutoffs are rounded up",
     BitAtCutoff: "a bit is set when the power is at its cutoff",
@@ -57,6 +60,8 @@ named! {
     HighEndLower: "2^32 - 1 stands above the largest label",
     RebuildByTwoTo32: "the k-th of n values is given k * 2^32 / (n + 1)",
     RebuildEveryInsert: "every insert deals all labels afresh",
+    MapRemadeAtRebuild: "a rebuild makes the map of masks anew, from the present maxima",
+    RowsSortedAtRebuild: "a rebuild puts the rows of the label map in rising order",
     // Questions.
     CapacityBeforeBody: "8 is asked before 7",
     BodyBeforeNumber: "7 is asked before 6",

@@ -57,7 +57,7 @@ impl Powers {
         }
     }
 
-    fn total(&self) -> i32 {
+    pub fn total(&self) -> i32 {
         self.0.iter().sum()
     }
 
@@ -71,7 +71,7 @@ impl Powers {
     }
 
     /// Id and power of the variables in falling id.
-    pub fn vars(&self) -> impl Iterator<Item = (u16, i32)> + '_ {
+    pub fn vars(&self) -> impl Iterator<Item = (u16, i32)> + Clone + '_ {
         let vars = self.0.iter().enumerate().rev();
         vars.filter(|(_, power)| **power != 0)
             .map(|(id, power)| (id as u16, *power))
@@ -94,9 +94,26 @@ pub struct Ratio {
 }
 
 impl Ratio {
+    /// Index 0 and monomial one.
+    pub fn one(variables: usize) -> Self {
+        Ratio {
+            index: 0,
+            monomial: Powers::one(variables),
+        }
+    }
+
     /// By index, then monomial.
     pub fn compare(&self, other: &Self, rules: Rules) -> Ordering {
-        let by_index = self.index.cmp(&other.index);
+        let by_index = compare_indexes(self.index, other.index, rules);
         by_index.then_with(|| self.monomial.compare(&other.monomial, rules))
     }
+}
+
+pub fn compare_indexes(a: u32, b: u32, rules: Rules) -> Ordering {
+    let bits = match rules.has(Mutation::IndexesIn27Bits) {
+        true => 27,
+        false => 28,
+    };
+    let low = |index: u32| index & ((1 << bits) - 1);
+    low(a).cmp(&low(b))
 }

@@ -6,7 +6,7 @@ use std::cmp::Ordering;
 use super::{
     calls::Search,
     mutation::Mutation,
-    powers::{Powers, Ratio},
+    powers::{compare_indexes, Powers, Ratio},
     store::Store,
 };
 use crate::words::{found, SINGULAR};
@@ -24,6 +24,16 @@ pub enum Key {
         number: usize,
         label: i64,
     },
+}
+
+impl Key {
+    /// The power, or the number of the entry.
+    pub fn word(&self) -> u32 {
+        match self {
+            Key::Power { power, .. } => *power as u32,
+            Key::Ratio { number, .. } => *number as u32,
+        }
+    }
 }
 
 /// The sides of a branch that a search looks at.
@@ -89,6 +99,7 @@ impl Query {
     /// The sides to look at in a branch whose entries have this gcd.
     pub fn path(&self, store: &Store, key: &Key, gcd: &Powers) -> Path {
         if self.is_masked_out(store, gcd) && !store.rules.has(Mutation::MaskNeverAsked) {
+            store.reached.masked_out(gcd);
             return Path::None;
         }
         match key {
@@ -108,14 +119,18 @@ impl Query {
                 _ => Path::Both,
             },
             Search::High { ratio, .. } => above_less(ratio.compare(key, rules).is_lt()),
-            Search::Low { index, .. } => match key.index.cmp(index) {
+            Search::Low { index, .. } => match compare_indexes(key.index, *index, rules) {
                 Ordering::Less => Path::Other,
                 Ordering::Equal => Path::Both,
                 Ordering::Greater => Path::Less,
             },
-            Search::Singular { index, .. } => match key.index.cmp(index) {
+            Search::Singular { index, .. } => match compare_indexes(key.index, *index, rules) {
                 Ordering::Less => Path::Other,
-                Ordering::Equal => above_less(key.monomial.compare(&self.ratio, rules).is_gt()),
+                Ordering::Equal => {
+                    let order = key.monomial.compare(&self.ratio, rules);
+                    let both = Mutation::SingularBothAtEqualKey;
+                    above_less(order.is_gt() || order.is_eq() && rules.has(both))
+                }
                 Ordering::Greater => Path::Less,
             },
         }
@@ -144,9 +159,16 @@ impl Query {
         }
     }
 
+    /// Looks at an entry of a leaf, and counts what that reaches.
+    pub fn visit(&self, store: &Store, number: usize, found: &mut Found) -> bool {
+        if let Search::Reducer { ratio, .. } = &self.search {
+            store.reached.compared(&store.entries[number].ratio, ratio);
+        }
+        self.process(store, number, found)
+    }
+
     /// Looks at an entry and tells whether to go on.
     pub fn process(&self, store: &Store, number: usize, found: &mut Found) -> bool {
-        let rules = store.rules;
         let entry = &store.entries[number];
         match &self.search {
             Search::Contained(monomial) => {
@@ -156,7 +178,7 @@ impl Query {
                 found.number.is_none()
             }
             Search::Reducer { ratio, lm } => {
-                let order = entry.ratio.compare(ratio, rules);
+                let order = entry.ratio.compare(ratio, store.rules);
                 if order.is_gt() || !entry.lm.divides(lm) {
                     return true;
                 }
@@ -164,30 +186,24 @@ impl Query {
             }
             Search::High { ratio, lm } => {
                 if entry.lm.divides(lm) {
-                    let above = entry.ratio.compare(ratio, rules).is_gt();
-                    if !above {
-                        found.panic.get_or_insert(Panic::NotAbove);
-                    }
-                    if above || rules.has(Mutation::HighCountsNotAbove) {
-                        let last = Mutation::HighLastOfEquals;
-                        take_largest(store, number, found, rules.has(last));
-                    }
+                    let order = entry.ratio.compare(ratio, store.rules);
+                    take_high(store, number, order, found);
                 }
-                !(found.number.is_some() && rules.has(Mutation::HighFirstFound))
+                !(found.number.is_some() && store.rules.has(Mutation::HighFirstFound))
             }
             Search::Low { index, sign } => {
-                let same = entry.ratio.index == *index || rules.has(Mutation::LowAnyIndex);
-                if same && entry.sign.divides(sign) {
+                let any = store.rules.has(Mutation::LowAnyIndex);
+                if (any || has_index(store, number, *index)) && entry.sign.divides(sign) {
                     let last = Mutation::LowLastOfEquals;
-                    take_largest(store, number, found, rules.has(last));
+                    take_largest(store, number, found, store.rules.has(last));
                 }
                 true
             }
             Search::Singular { index, sign, .. } => {
-                let order = entry.ratio.monomial.compare(&self.ratio, rules);
-                let above =
-                    order.is_gt() || order.is_eq() && rules.has(Mutation::SingularNotStrict);
-                if entry.ratio.index == *index && entry.sign.divides(sign) && above {
+                let order = entry.ratio.monomial.compare(&self.ratio, store.rules);
+                let equal = store.rules.has(Mutation::SingularNotStrict);
+                let above = order.is_gt() || order.is_eq() && equal;
+                if has_index(store, number, *index) && entry.sign.divides(sign) && above {
                     found.number = Some(number);
                 }
                 found.number.is_none()
@@ -220,6 +236,21 @@ impl Query {
             Search::Reducer { .. } if of.singular => found(number) + SINGULAR,
             _ => found(number),
         }
+    }
+}
+
+fn has_index(store: &Store, number: usize, index: u32) -> bool {
+    compare_indexes(store.entries[number].ratio.index, index, store.rules).is_eq()
+}
+
+/// A divisor whose ratio compares like this with the query's.
+fn take_high(store: &Store, number: usize, order: Ordering, found: &mut Found) {
+    if !order.is_gt() {
+        found.panic.get_or_insert(Panic::NotAbove);
+    }
+    if order.is_gt() || store.rules.has(Mutation::HighCountsNotAbove) {
+        let last = Mutation::HighLastOfEquals;
+        take_largest(store, number, found, store.rules.has(last));
     }
 }
 

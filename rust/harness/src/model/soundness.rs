@@ -156,8 +156,11 @@ pub fn read(bytes: &[u8]) -> Reading {
         let state = read_state(shape, &words);
         judge(&state, &mut broken);
         let written = Written::image(&state);
-        for (at, word) in words.iter().enumerate() {
-            broken.break_unless(written.rules[at], *word == written.words[at]);
+        if words != written.words {
+            let pairs = words.iter().zip(&written.words).enumerate();
+            for (at, _) in pairs.filter(|(_, (word, own))| word != own) {
+                broken.insert(written.rule(at));
+            }
         }
         state
     });

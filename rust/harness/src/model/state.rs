@@ -1,10 +1,14 @@
 //! What the image of an index holds, by value
 //! (crates/index_theory/specs/State.antt).
 
-use std::collections::HashSet;
-
 use super::{
+    divmask::Map,
+    labels::Labels,
+    mutation::Rules,
     powers::{Powers, Ratio},
+    reach::Reached,
+    store::Store,
+    tree::Node,
     Index, Kind,
 };
 
@@ -134,9 +138,9 @@ impl Index {
             sign: entry.sign.clone(),
             lm: entry.lm.clone(),
         });
-        let mut seen = HashSet::new();
-        let ratios = self.store.entries.iter().map(|entry| &entry.ratio);
-        let arrived = ratios.filter(|ratio| seen.insert(*ratio));
+        let labels = &self.store.labels;
+        let rows = labels.arrived().iter();
+        let rows = rows.map(|ratio| (ratio.clone(), labels.known(ratio).unwrap()));
         State {
             kind: self.store.kind,
             capacity: self.capacity,
@@ -144,12 +148,36 @@ impl Index {
             map_maxima: self.map_maxima.clone(),
             entries: entries.collect(),
             tree: self.tree.shape(&self.store),
-            rows: match self.store.kind {
-                Kind::Monomial => vec![],
-                Kind::Ratio => arrived
-                    .map(|ratio| (ratio.clone(), self.store.labels.known(ratio).unwrap()))
-                    .collect(),
-            },
+            rows: rows.collect(),
+        }
+    }
+
+    /// The index of a valid state.
+    pub fn of_state(state: &State, rules: Rules) -> Self {
+        let rows = state.rows.clone();
+        let mut store = Store {
+            rules,
+            kind: state.kind,
+            variables: state.variables(),
+            map: Map::new(&state.map_maxima, rules),
+            entries: vec![],
+            labels: Labels::of_rows(rows, rules),
+            reached: Reached::default(),
+        };
+        for entry in &state.entries {
+            let ratio = match state.kind {
+                Kind::Monomial => Ratio::one(state.variables()),
+                Kind::Ratio => entry.ratio(),
+            };
+            store.push(ratio, entry.sign.clone(), entry.lm.clone());
+        }
+        Index {
+            tree: Node::of_shape(&store, &state.tree),
+            store,
+            capacity: state.capacity,
+            maxima: state.maxima.clone(),
+            map_maxima: state.map_maxima.clone(),
+            rebuilds: 0,
         }
     }
 }

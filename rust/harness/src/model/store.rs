@@ -6,6 +6,8 @@ use super::{
     mutation::{Mutation, Rules},
     powers::{Powers, Ratio},
     query::Key,
+    reach::Reached,
+    tree::show_masked,
     Kind,
 };
 
@@ -16,6 +18,8 @@ pub struct Entry {
     pub ratio: Ratio,
     pub sign: Powers,
     pub lm: Powers,
+    /// The masks of lm and signature monomial, to be shown. No search asks them.
+    pub masks: [u32; 2],
 }
 
 /// What the tree is built over.
@@ -27,6 +31,7 @@ pub struct Store {
     pub map: Map,
     pub entries: Vec<Entry>,
     pub labels: Labels,
+    pub reached: Reached,
 }
 
 impl Store {
@@ -60,6 +65,26 @@ impl Store {
         }
     }
 
+    /// Takes an entry, whose number is then its place.
+    pub fn push(&mut self, ratio: Ratio, sign: Powers, lm: Powers) -> usize {
+        let masks = [self.map.mask(&lm), self.map.mask(&sign)];
+        self.entries.push(Entry {
+            ratio,
+            sign,
+            lm,
+            masks,
+        });
+        self.entries.len() - 1
+    }
+
+    /// Makes the map of masks anew.
+    pub fn remap(&mut self, map: Map) {
+        self.map = map;
+        for entry in &mut self.entries {
+            entry.masks = [self.map.mask(&entry.lm), self.map.mask(&entry.sign)];
+        }
+    }
+
     pub fn label(&self, number: usize) -> i64 {
         let label = self.labels.known(&self.entries[number].ratio);
         label.unwrap().into()
@@ -90,6 +115,30 @@ impl Store {
         Key::Ratio {
             number,
             label: self.label(number),
+        }
+    }
+
+    /// The key of a dimension with this word.
+    pub fn key_of(&self, dim: usize, word: u32) -> Key {
+        match dim.checked_sub(self.ratio_dimensions()) {
+            Some(id) => Key::Power {
+                id,
+                power: word as i32,
+            },
+            None => Key::Ratio {
+                number: word as usize,
+                label: self.label(word as usize),
+            },
+        }
+    }
+
+    /// Writes an entry as the original's are shown.
+    pub fn show(&self, number: usize, words: &mut Vec<u32>) {
+        let entry = &self.entries[number];
+        let [lm, sign] = entry.masks;
+        match self.kind {
+            Kind::Monomial => show_masked(lm, &entry.lm, words),
+            Kind::Ratio => words.extend([number as u32, lm, sign]),
         }
     }
 

@@ -44,14 +44,26 @@ impl Node {
         }
     }
 
+    pub fn is_branch(&self) -> bool {
+        matches!(self.below, Below::Branch(_))
+    }
+
     pub fn insert(&mut self, store: &Store, number: usize) {
         match &mut self.below {
             Below::Leaf(entries) => {
+                let lm = &store.entries[number].lm;
+                self.gcd = match entries.is_empty() {
+                    true => lm.clone(),
+                    false => self.gcd.gcd(lm),
+                };
                 entries.push(number);
-                *self = Self::leaf(store, std::mem::take(entries));
             }
             Below::Branch(branch) => {
-                self.gcd = self.gcd.gcd(&store.entries[number].lm);
+                if !store.rules.has(Mutation::LoweringLeftOut) {
+                    let gcd = self.gcd.gcd(&store.entries[number].lm);
+                    store.reached.lowered(&store.map, &self.gcd, &gcd);
+                    self.gcd = gcd;
+                }
                 let side = if store.is_below(number, &branch.key) {
                     &mut branch.less
                 } else {
@@ -86,7 +98,7 @@ impl Node {
         match &mut self.below {
             Below::Leaf(entries) => entries
                 .iter()
-                .all(|number| query.process(store, *number, found)),
+                .all(|number| query.visit(store, *number, found)),
             Below::Branch(branch) => branch.search(store, &self.gcd, query, found),
         }
     }
@@ -118,19 +130,51 @@ impl Node {
         }
     }
 
+    /// Writes the tree as the original's is shown (`original::oracle::shown`).
+    pub fn show(&self, store: &Store, words: &mut Vec<u32>) {
+        show_masked(store.map.mask(&self.gcd), &self.gcd, words);
+        match &self.below {
+            Below::Leaf(entries) => {
+                words.extend([0, entries.len() as u32]);
+                for number in entries {
+                    store.show(*number, words);
+                }
+            }
+            Below::Branch(branch) => {
+                words.extend([1, store.dimension(&branch.key) as u32, branch.key.word()]);
+                branch.less.show(store, words);
+                branch.other.show(store, words);
+            }
+        }
+    }
+
     /// The tree as an image holds it.
     pub fn shape(&self, store: &Store) -> Tree {
         match &self.below {
             Below::Leaf(entries) => Tree::Leaf(entries.clone()),
             Below::Branch(branch) => Tree::branch(
                 store.dimension(&branch.key),
-                match branch.key {
-                    Key::Power { power, .. } => power as u32,
-                    Key::Ratio { number, .. } => number as u32,
-                },
+                branch.key.word(),
                 branch.less.shape(store),
                 branch.other.shape(store),
             ),
+        }
+    }
+
+    /// The tree that an image holds.
+    pub fn of_shape(store: &Store, tree: &Tree) -> Self {
+        let places = tree.places();
+        let leaf = Self::leaf(store, places);
+        match tree {
+            Tree::Leaf(_) => leaf,
+            Tree::Branch(branch) => Node {
+                gcd: leaf.gcd,
+                below: Below::Branch(Box::new(Branch {
+                    key: store.key_of(branch.dim, branch.key),
+                    less: Self::of_shape(store, &branch.less),
+                    other: Self::of_shape(store, &branch.other),
+                })),
+            },
         }
     }
 
@@ -168,6 +212,13 @@ impl Branch {
         }
         false
     }
+}
+
+/// A monomial with its mask, as the original's are shown.
+pub fn show_masked(mask: u32, monomial: &Powers, words: &mut Vec<u32>) {
+    let variables = monomial.vars();
+    words.extend([mask, variables.clone().count() as u32]);
+    words.extend(variables.map(|(id, power)| u32::from(id) << 16 | power as u32));
 }
 
 fn max_leaf_size(rules: Rules) -> usize {
@@ -220,6 +271,7 @@ fn bifurcate_at(store: &Store, entries: &[usize], dim: usize) -> Option<Branch> 
         other.reverse();
     }
 
+    store.reached.split(store.kind, store.variables, dim);
     Some(Branch {
         key: store.key(&other, dim, average),
         less: Node::leaf(store, less),

@@ -4,13 +4,13 @@
 //! solver is said where it stands. Ids and powers are fixed types, the order is
 //! the caller's.
 
-mod noted;
+pub mod shown;
 
 use std::{cell::RefCell, rc::Rc};
 
 use num_traits::{ops::inv::Inv, One};
 
-use self::noted::Noted;
+use self::shown::Words;
 use super::{
     indices::{
         monomial_index::MonomialIndex, ratio_monomial_index::RatioMonomialIndex, MaskedMonomial,
@@ -23,8 +23,8 @@ use crate::{
     polynomial::{
         self,
         divmask::{DivMaskTestResult, MaximumExponentsTracker},
-        monomial_ordering::Ordering, Exponent, Polynomial,
-        Term, VariablePower,
+        monomial_ordering::Ordering,
+        Exponent, Polynomial, Term, VariablePower,
     },
 };
 
@@ -63,37 +63,36 @@ fn vars<O>(monomial: &Monomial<O>) -> Vec<Var> {
 }
 
 /// A `MaximumExponentsTracker` brought to given maxima.
-fn tracker<O: Ordering, P: Exponent + From<Power>>(maxima: &[Power]) -> MaximumExponentsTracker<P> {
+fn tracker<O: Ordering>(maxima: &[Power]) -> MaximumExponentsTracker<Power> {
     let mut tracker = MaximumExponentsTracker::new(maxima.len());
     for (id, &maximum) in maxima.iter().enumerate() {
-        tracker.update(&monomial::<O, P>(&[(id as Id, maximum)]));
+        tracker.update(&monomial::<O, Power>(&[(id as Id, maximum)]));
     }
     tracker
 }
 
-/// The maxima as the solver tracks them. The powers are [`Noted`] because a
-/// tracker doesn't show its maxima.
+/// The maxima as the solver tracks them.
 pub struct Maxima {
-    tracker: MaximumExponentsTracker<Noted>,
+    tracker: MaximumExponentsTracker<Power>,
 }
 
 impl Maxima {
     pub fn new<O: Ordering>(maxima: &[Power]) -> Self {
         Self {
-            tracker: tracker::<O, Noted>(maxima),
+            tracker: tracker::<O>(maxima),
         }
     }
 
     pub fn update<O: Ordering>(&mut self, vars: &[Var]) {
-        self.tracker.update(&monomial::<O, Noted>(vars));
+        self.tracker.update(&monomial::<O, Power>(vars));
     }
 
     pub fn has_grown_beyond_percentage(&self, percentage: u8) -> bool {
         self.tracker.has_grown_beyond_percentage(percentage)
     }
 
-    pub fn get(&self) -> Vec<Power> {
-        noted::maxima(&self.tracker)
+    pub fn get(&self) -> &[Power] {
+        self.tracker.max_exponents()
     }
 }
 
@@ -105,18 +104,12 @@ pub struct Map {
 impl Map {
     pub fn new<O: Ordering>(maxima: &[Power]) -> Self {
         Self {
-            div_map: Rc::new(DivMap::new(&tracker::<O, Power>(maxima))),
+            div_map: Rc::new(DivMap::new(&tracker::<O>(maxima))),
         }
     }
 
-    /// The mask as a number, which `DivMask` shows in its debug form alone.
     pub fn mask<O: Ordering>(&self, monomial: &Monomial<O>) -> u32 {
-        let shown = format!("{:?}", self.div_map.map(monomial));
-        shown
-            .trim_start_matches("DivMask(")
-            .trim_end_matches(')')
-            .parse()
-            .unwrap()
+        *self.div_map.map(monomial).bits()
     }
 
     /// Whether the mask test leaves open that a divides b.
@@ -167,15 +160,11 @@ impl<O: Ordering> Syzygies<O> {
 
     /// Follows `BasisCalculator::add_syzygy`.
     pub fn insert(&mut self, monomial: Monomial<O>) {
-        self.max_exp.update::<O>(&vars(&monomial));
-        self.index.insert(MaskedMonomial {
-            divmask: self.div_map.map(&monomial),
-            monomial,
-        });
+        self.max_exp.tracker.update(&monomial);
+        self.insert_untracked(monomial);
     }
 
-    /// The same without the maxima, for benchmarks: they are tracked here in a
-    /// way of the oracle's own.
+    /// The same without the maxima, for benchmarks.
     pub fn insert_untracked(&mut self, monomial: Monomial<O>) {
         self.index.insert(MaskedMonomial {
             divmask: self.div_map.map(&monomial),
@@ -189,8 +178,13 @@ impl<O: Ordering> Syzygies<O> {
             .contains_divisor(MaskedMonomialRef(&divmask, monomial))
     }
 
-    pub fn maxima(&self) -> Vec<Power> {
-        self.max_exp.get()
+    pub fn maxima(&self) -> &Maxima {
+        &self.max_exp
+    }
+
+    /// Writes the tree as the words of [`shown`].
+    pub fn show(&mut self, words: &mut Vec<u32>) {
+        self.index.shown(&mut Words(words));
     }
 
     /// The entries in the order of the tree.
@@ -228,10 +222,10 @@ impl<O: Ordering> Basis<O> {
         let mut sign_poly = self.sign_poly(idx, sign, lm);
         self.label(&mut sign_poly);
 
-        self.max_exp
-            .update::<O>(&vars(&sign_poly.signature().monomial));
+        let max_exp = &mut self.max_exp.tracker;
+        max_exp.update(&sign_poly.signature().monomial);
         for term in sign_poly.polynomial.terms.iter() {
-            self.max_exp.update::<O>(&vars(&term.monomial));
+            max_exp.update(&term.monomial);
         }
 
         let sign_poly = Rc::new(RefCell::new(sign_poly));
@@ -239,8 +233,7 @@ impl<O: Ordering> Basis<O> {
         self.polys.push(sign_poly);
     }
 
-    /// The same without the maxima, for benchmarks: they are tracked here in a
-    /// way of the oracle's own.
+    /// The same without the maxima, for benchmarks.
     pub fn insert_untracked(&mut self, idx: u32, sign: Monomial<O>, lm: Monomial<O>) {
         let mut sign_poly = self.sign_poly(idx, sign, lm);
         self.label(&mut sign_poly);
@@ -336,20 +329,19 @@ impl<O: Ordering> Basis<O> {
             .test_singular_criterion(&self.masked_signature(idx, sign), lm)
     }
 
+    /// Writes the tree as the words of [`shown`].
+    pub fn show(&mut self, words: &mut Vec<u32>) {
+        self.index.shown(&mut Words(words));
+    }
+
     /// The label of each entry.
     pub fn labels(&self) -> Vec<u32> {
         let label = |p: &Rc<RefCell<Poly<O>>>| p.borrow().sign_to_lm_ratio.get_comparer().unwrap();
         self.polys.iter().map(label).collect()
     }
 
-    /// For each entry the number of splits that have it as their key. A key
-    /// holds a reference to its entry, and so do `polys` and the leaf.
-    pub fn keys(&self) -> Vec<usize> {
-        self.polys.iter().map(|p| Rc::strong_count(p) - 2).collect()
-    }
-
-    pub fn maxima(&self) -> Vec<Power> {
-        self.max_exp.get()
+    pub fn maxima(&self) -> &Maxima {
+        &self.max_exp
     }
 
     /// How often labels were dealt afresh.
