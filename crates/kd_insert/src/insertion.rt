@@ -39,9 +39,11 @@ pub fn hang(image: &mut [u8], s: Shape, lm: &[u8], label: u64)
     requires { ⌜ Hangs (words (now image)) s (words (now lm)) label ⌝ }
     ensures { λ _. ⌜ ((h : Hangs (words (now (image .entry))) s (words (now (lm .entry))) label) → now (image .exit) ≡ hung (now (image .entry)) s (words (now (lm .entry))) label (h .growth)) ⌝ }
 {
+    let mut table = [0u8; 256];
+    power_table::lay(&mut table, lm);
     let n = s.entries;
     let at = s.permutation_at();
-    let p = crate::descent::descend(image, s, lm, label);
+    let p = crate::descent::descend(image, s, lm, &table, label);
     words::runs::insert(image, at + p, at + n, n as u32);
     words::put(image, fields::LENGTH, n as u32 + 1);
 }

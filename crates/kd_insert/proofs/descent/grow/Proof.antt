@@ -18,7 +18,7 @@ get-requires c κs = search needs
 
 grow-gcd-requires : tie.Need-grow-gcd-requires
 grow-gcd-requires c κs =
-    let start = c .before .before .before .before .before in (
+    let start = c .before .before .before .before .before .before in (
       start .pre .0,
       (
         start .pre .1 .0,
@@ -26,7 +26,7 @@ grow-gcd-requires c κs =
           start .pre .1 .1 .0,
           (
             start .pre .1 .1 .1 .0,
-            (start .pre .1 .1 .1 .1 .0, (start .pre .1 .1 .1 .1 .1 .0, (start .pre .1 .1 .1 .1 .1 .1 .0, start .pre .1 .1 .1 .1 .1 .1 .1 .1))),
+            (start .pre .1 .1 .1 .1 .0, (start .pre .1 .1 .1 .1 .1 .0, (start .pre .1 .1 .1 .1 .1 .1 .0, (start .pre .1 .1 .1 .1 .1 .1 .1 .1 .0, start .pre .1 .1 .1 .1 .1 .1 .1 .1 .1)))),
           ),
         ),
       ),
@@ -46,7 +46,7 @@ same-length c = search needs
 
 returns : tie.Need-returns
 returns c =
-    let start = c .before .before .before .before .before .before .before .before .before .before .before .before in
+    let start = c .before .before .before .before .before .before .before .before .before .before .before .before .before in
     let get = c .before .before .before .before .before .before .before .before .get in
     let grow-gcd = c .before .before .before .before .before .before .grow-gcd in
     row-written (start .args .image .now) (grow-gcd .last .0) _ (start .args .s) (start .args .at) (get .result) (words (start .args .lm .now)) (grow-gcd .kept .0)

@@ -10,7 +10,7 @@ use Rattle.kd_insert.proofs.slots.write_gcd.Reads as write-gcd-reads
 
 write-gcd-requires : tie.Need-write-gcd-requires
 write-gcd-requires c κs =
-    let start = c .before .before .before .before in
+    let start = c .before .before .before .before .before in
     (start .pre .0, (start .pre .1 .0, (start .pre .1 .1 .0, (start .pre .1 .1 .1 .0, (start .pre .1 .1 .1 .1 .0, start .pre .1 .1 .1 .1 .1 .0)))))
 
 same-length : tie.Need-same-length
@@ -18,22 +18,22 @@ same-length c = search needs
 
 returns : tie.Need-returns
 returns c =
-    let start = c .before .before .before .before .before .before .before in
+    let start = c .before .before .before .before .before .before .before .before in
     let if1 = c .before .before .before .before .if1 in
     rw (← first-gcd (words (start .args .image .now)) (start .args .s .variables) (start .args .at) (start .args .c) (words (start .args .lm .now)) (if1 .taken))
     (c .before .before .write-gcd .ensures)
 
 meet-requires : tie.Need-meet-requires
 meet-requires c κs =
-    let start = c .before .before .before .before in
-    (start .pre .0, (start .pre .1 .0, (start .pre .1 .1 .0, (start .pre .1 .1 .1 .0, (start .pre .1 .1 .1 .1 .1 .0, (start .pre .1 .1 .1 .1 .1 .1 .0, start .pre .1 .1 .1 .1 .1 .1 .1))))))
+    let start = c .before .before .before .before .before in
+    (start .pre .0, (start .pre .1 .0, (start .pre .1 .1 .0, (start .pre .1 .1 .1 .0, (start .pre .1 .1 .1 .1 .1 .0, (start .pre .1 .1 .1 .1 .1 .1 .0, (start .pre .1 .1 .1 .1 .1 .1 .1 .0, start .pre .1 .1 .1 .1 .1 .1 .1 .1)))))))
 
 same-length-2 : tie.Need-same-length-2
 same-length-2 c = search needs
 
 returns-2 : tie.Need-returns-2
 returns-2 c =
-    let start = c .before .before .before .before .before .before .before in
+    let start = c .before .before .before .before .before .before .before .before in
     let if1 = c .before .before .before .before .if1 in
     rw (← other-gcd (words (start .args .image .now)) (start .args .s .variables) (start .args .at) (start .args .c) (words (start .args .lm .now)) (if1 .left)) (c .before .before .meet .ensures)
 

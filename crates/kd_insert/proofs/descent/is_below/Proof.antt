@@ -1,7 +1,7 @@
-use Rattle.monomial.proofs.Firsts.{starts-wide, starts-whole, first-whole}
+use Prim.Native.Nat.{_-_}
+use mathlib.Core.Path.{_∙_}
 use native.Mathlib.Omega.{arith}
 use Rattle.words.specs.Words.{words}
-use Rattle.monomial.proofs.Laws.{canonical-more}
 use Rattle.kd_insert.proofs.Ways.{below-ratio, below-power}
 use borrow.Author.Needs.{needs}
 use Rattle.kd_insert.proofs.descent.is_below.Statement.{statement}
@@ -9,24 +9,24 @@ use Rattle.kd_insert.proofs.descent.is_below.Tie as tie
 use Rattle.kd_insert.proofs.descent.is_below.Reads as reads
 use Rattle.kd_insert.proofs.descent.is_below.Lts as lts
 use Rattle.index_image.proofs.stored.label_in.Reads as label-in-reads
-use Rattle.monomial.proofs.power_of.Reads as power-of-reads
+use Rattle.words.proofs.get.Reads as get-reads
 
 label-in-requires : tie.Need-label-in-requires
 label-in-requires c κs =
-    let start = c .before .before .before .before in (
+    let start = c .before .before .before .before .before in (
       start .pre .0,
       (
         start .pre .1 .0,
         (
-          (omega (arith, c .if1 .taken, start .pre .1 .1 .1 .0 .0, start .pre .0 .kind-to), ((start .pre .1 .1 .1 .1) (c .if1 .taken)) .0),
-          ((start .pre .1 .1 .1 .1) (c .if1 .taken)) .1,
+          (omega (arith, c .if1 .taken, start .pre .1 .1 .1 .0 .0, start .pre .0 .kind-to), ((start .pre .1 .1 .1 .1 .0) (c .if1 .taken)) .0),
+          ((start .pre .1 .1 .1 .1 .0) (c .if1 .taken)) .1,
         ),
       ),
     )
 
 returns : tie.Need-returns
 returns c =
-    let start = c .before .before .before .before .before in
+    let start = c .before .before .before .before .before .before in
     below-ratio (words (start .args .image .now)) (start .args .s) (words (start .args .lm .now)) (start .args .label) (start .args .tag) (start .args .key)
     (c .label-in .result) (c .before .if1 .taken) (c .label-in .ensures)
 
@@ -36,21 +36,19 @@ sub-v c = search needs
 sub-v-2 : tie.Need-sub-v-2
 sub-v-2 c = search needs
 
-cast-power-of : tie.Need-cast-power-of
-cast-power-of c = search needs
-
-power-of-requires : tie.Need-power-of-requires
-power-of-requires c κs =
-    let start = c .before .before .before .before .before in
-    ((omega arith, (omega arith, omega (arith, start .pre .1 .1 .1 .0 .1, start .pre .0 .vars-to, start .pre .0 .kind-to))), starts-wide (starts-whole (start .pre .1 .1 .0)))
+get-requires : tie.Need-get-requires
+get-requires c κs =
+    let start = c .before .before .before .before .before .before in
+    omega (arith, start .pre .1 .1 .1 .0 .1, start .pre .0 .vars-to, start .pre .1 .1 .1 .1 .1 .0)
 
 returns-2 : tie.Need-returns-2
 returns-2 c =
-    let start = c .before .before .before .before .before .before in
+    let start = c .before .before .before .before .before .before .before in
     below-power (words (start .args .image .now)) (start .args .s) (words (start .args .lm .now)) (start .args .label) (start .args .tag) (start .args .key)
-    (c .power-of .result) (c .before .before .if1 .left) (rw (first-whole (start .pre .1 .1 .0)) at (c .power-of .ensures))
+    (c .get .result) (c .before .before .if1 .left)
+    (c .get .ensures ∙ start .pre .1 .1 .1 .1 .1 .1 .each ((start .args .tag) - 1 - (start .args .s .kind)) (omega (arith, start .pre .1 .1 .1 .0 .1, start .pre .0 .vars-to)))
 
 pub is-below-spec : {M : Type 1} → statement M
 is-below-spec =
     tie.close
-    (tie.spec label-in-requires returns sub-v sub-v-2 cast-power-of power-of-requires returns-2)
+    (tie.spec label-in-requires returns sub-v sub-v-2 get-requires returns-2)

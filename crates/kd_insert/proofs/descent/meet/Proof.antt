@@ -1,4 +1,5 @@
-use Rattle.monomial.proofs.Firsts.{starts-wide, starts-whole, first-whole}
+use Rattle.monomial.proofs.Firsts.{starts-wide, first-canonical}
+use Rattle.monomial.proofs.Laws.{canonical-more}
 use Rattle.index_image.specs.Shape as shape
 use native.Mathlib.Omega.{arith}
 use Rattle.words.specs.Words.{words}
@@ -12,30 +13,34 @@ use Rattle.kd_insert.proofs.descent.meet.Reads as reads
 use Rattle.kd_insert.proofs.descent.meet.Lts as lts
 use Rattle.index_image.proofs.stored.monomial_from.Reads as monomial-from-reads
 use Rattle.kd_insert.proofs.descent.make_gcd.Reads as make-gcd-reads
-use Rattle.monomial.proofs.divides.Reads as divides-reads
+use Rattle.power_table.proofs.divides.Reads as divides-reads
 
 add-monomial-from : tie.Need-add-monomial-from
 add-monomial-from c = search needs
 
 monomial-from-requires : tie.Need-monomial-from-requires
-monomial-from-requires c κs = let s = (c .before .before .before) in (s .pre .1 .1 .1 .1 .1 .0, omega (arith, s .pre .1 .0, s .pre .1 .1 .1 .1 .0))
+monomial-from-requires c κs = let s = (c .before .before .before .before) in (s .pre .1 .1 .1 .1 .1 .0, omega (arith, s .pre .1 .0, s .pre .1 .1 .1 .1 .0))
 
 divides-requires : tie.Need-divides-requires
-divides-requires c κs = (starts-wide (c .monomial-from .ensures .starts), starts-wide (starts-whole (c .before .before .before .before .pre .1 .1 .1 .0)))
+divides-requires c κs =
+    let s = c .before .before .before .before .before in (
+      starts-wide (c .monomial-from .ensures .starts),
+      (canonical-more (omega arith) (s .pre .0 .vars-to) (first-canonical (omega arith) (c .monomial-from .ensures .starts)), s .pre .1 .1 .1 .1 .1 .1 .1 .0),
+    )
 
 same-length : tie.Need-same-length
 same-length c = search needs
 
 returns : tie.Need-returns
-returns c = let s = (c .before .before .before .before .before .before) in
-    gcd-stays (s .args .image .now) (s .args .s) (s .args .at) (words (s .args .lm .now)) (λ j. (c .before .before .before .before .before .slice-known .given) j .fits) (s .pre .0 .vars-to)
+returns c = let s = (c .before .before .before .before .before .before .before) in
+    gcd-stays (s .args .image .now) (s .args .s) (s .args .at) (words (s .args .lm .now)) (λ j. (c .before .before .before .before .before .before .slice-known .given) j .fits) (s .pre .0 .vars-to)
     (omega (arith, s .pre .1 .0, s .pre .1 .1 .1 .1 .0)) (in-canonical (words (s .args .image .now)) (s .args .s .variables) (shape.gcdAt (s .args .at))
     (s .pre .1 .1 .1 .1 .1 .0)) (s .pre .1 .1 .1 .0)
-    (s .pre .1 .1 .1 .1 .1 .1) (sym (rw (c .before .before .monomial-from .ensures .is, first-whole (s .pre .1 .1 .1 .0)) at (c .before .divides .ensures)) ∙ c .if1 .taken)
+    (s .pre .1 .1 .1 .1 .1 .1 .0) (sym (rw (c .before .before .monomial-from .ensures .is) at ((c .before .divides .ensures) (words (s .args .lm .now)) (s .pre .1 .1 .1 .1 .1 .1 .1 .1))) ∙ c .if1 .taken)
 
 make-gcd-requires : tie.Need-make-gcd-requires
 make-gcd-requires c κs =
-    let at7 = c .before .before .before .before .before .before .before in
+    let at7 = c .before .before .before .before .before .before .before .before in
     let s = at7 in
     (s .pre .0, (s .pre .1 .0, (s .pre .1 .1 .0, (s .pre .1 .1 .1 .0, (s .pre .1 .1 .1 .1 .0, s .pre .1 .1 .1 .1 .1 .0)))))
 

@@ -19,8 +19,8 @@ node-at-requires c κs = search needs
 
 get-requires : tie.Need-get-requires
 get-requires c κs =
-    let start = c .before .before .before in
-    let z = spot-here (start .args .image .now) (start .args .s) (start .pre .0) (start .pre .1 .0) (words (start .args .lm .now)) (start .args .label) (start .args .k) (start .pre .1 .1 .1) in
+    let start = c .before .before .before .before in
+    let z = spot-here (start .args .image .now) (start .args .s) (start .pre .0) (start .pre .1 .0) (words (start .args .lm .now)) (start .args .label) (start .args .k) (start .pre .1 .1 .1 .0) in
     omega (arith, c .node-at .ensures, start .pre .1 .0)
 
 cast-tag : tie.Need-cast-tag
@@ -28,22 +28,22 @@ cast-tag c = search needs
 
 add-get : tie.Need-add-get
 add-get c =
-    let start = c .before .before .before .before .before in
-    let z = spot-here (start .args .image .now) (start .args .s) (start .pre .0) (start .pre .1 .0) (words (start .args .lm .now)) (start .args .label) (start .args .k) (start .pre .1 .1 .1) in
+    let start = c .before .before .before .before .before .before in
+    let z = spot-here (start .args .image .now) (start .args .s) (start .pre .0) (start .pre .1 .0) (words (start .args .lm .now)) (start .args .label) (start .args .k) (start .pre .1 .1 .1 .0) in
     omega (arith, c .before .before .node-at .ensures)
 
 get-requires-2 : tie.Need-get-requires-2
 get-requires-2 c κs =
-    let start = c .before .before .before .before .before in
-    let z = spot-here (start .args .image .now) (start .args .s) (start .pre .0) (start .pre .1 .0) (words (start .args .lm .now)) (start .args .label) (start .args .k) (start .pre .1 .1 .1) in
+    let start = c .before .before .before .before .before .before in
+    let z = spot-here (start .args .image .now) (start .args .s) (start .pre .0) (start .pre .1 .0) (words (start .args .lm .now)) (start .args .label) (start .args .k) (start .pre .1 .1 .1 .0) in
     omega (arith, c .before .before .node-at .ensures, start .pre .1 .0)
 
-cast-t15 : tie.Need-cast-t15
-cast-t15 c = search needs
+cast-t16 : tie.Need-cast-t16
+cast-t16 c = search needs
 
 returns : tie.Need-returns
 returns c =
-    let start = c .before .before .before .before .before .before in
+    let start = c .before .before .before .before .before .before .before in
     let node-at = c .before .before .before .node-at in
     let get = c .before .before .get in
     let W = words (start .args .image .now) in
@@ -53,24 +53,24 @@ returns c =
 
 add-get-2 : tie.Need-add-get-2
 add-get-2 c =
-    let start = c .before .before .before .before .before in
-    let z = spot-here (start .args .image .now) (start .args .s) (start .pre .0) (start .pre .1 .0) (words (start .args .lm .now)) (start .args .label) (start .args .k) (start .pre .1 .1 .1) in
+    let start = c .before .before .before .before .before .before in
+    let z = spot-here (start .args .image .now) (start .args .s) (start .pre .0) (start .pre .1 .0) (words (start .args .lm .now)) (start .args .label) (start .args .k) (start .pre .1 .1 .1 .0) in
     omega (arith, c .before .before .node-at .ensures)
 
 get-requires-3 : tie.Need-get-requires-3
 get-requires-3 c κs =
-    let start = c .before .before .before .before .before in
-    let z = spot-here (start .args .image .now) (start .args .s) (start .pre .0) (start .pre .1 .0) (words (start .args .lm .now)) (start .args .label) (start .args .k) (start .pre .1 .1 .1) in
+    let start = c .before .before .before .before .before .before in
+    let z = spot-here (start .args .image .now) (start .args .s) (start .pre .0) (start .pre .1 .0) (words (start .args .lm .now)) (start .args .label) (start .args .k) (start .pre .1 .1 .1 .0) in
     omega (arith, c .before .before .node-at .ensures, start .pre .1 .0)
 
 is-below-requires : tie.Need-is-below-requires
 is-below-requires c κs =
-    let start = c .before .before .before .before .before .before in
+    let start = c .before .before .before .before .before .before .before in
     let node-at = c .before .before .before .node-at in
     let get = c .before .before .get in
     let W = words (start .args .image .now) in
     let B = at-branch (start .args .image .now) (start .args .s) (start .pre .0) (start .pre .1 .0) (words (start .args .lm .now)) (start .args .label) (start .args .k)
-    (start .pre .1 .1 .1) (λ z. (c .before .if1 .left) ((get .ensures ∙ ap (λ (j : ℕ). getD W j 0) (node-at .ensures)) ∙ z)) in (
+    (start .pre .1 .1 .1 .0) (λ z. (c .before .if1 .left) ((get .ensures ∙ ap (λ (j : ℕ). getD W j 0) (node-at .ensures)) ∙ z)) in (
       start .pre .0,
       (
         start .pre .1 .0,
@@ -81,9 +81,12 @@ is-below-requires c κs =
               omega (arith, (get .ensures ∙ ap (λ (j : ℕ). getD W j 0) (node-at .ensures)), B .tag-is),
               omega (arith, (get .ensures ∙ ap (λ (j : ℕ). getD W j 0) (node-at .ensures)), B .tag-is, B .dim-ok),
             ),
-            ratio-key (start .args .image .now) (start .args .s) (start .pre .0) (start .pre .1 .0) (words (start .args .lm .now)) (start .args .label) (start .args .k)
-                (start .pre .1 .1 .1) B (get .result) (c .get3 .result) (get .ensures ∙ ap (λ (j : ℕ). getD W j 0) (node-at .ensures))
-                (c .get3 .ensures ∙ ap (λ (j : ℕ). getD W (j + 1) 0) (node-at .ensures)),
+            (
+              ratio-key (start .args .image .now) (start .args .s) (start .pre .0) (start .pre .1 .0) (words (start .args .lm .now)) (start .args .label) (start .args .k)
+                  (start .pre .1 .1 .1 .0) B (get .result) (c .get3 .result) (get .ensures ∙ ap (λ (j : ℕ). getD W j 0) (node-at .ensures))
+                  (c .get3 .ensures ∙ ap (λ (j : ℕ). getD W (j + 1) 0) (node-at .ensures)),
+              start .pre .1 .1 .1 .1,
+            ),
           ),
         ),
       ),
@@ -91,7 +94,7 @@ is-below-requires c κs =
 
 returns-2 : tie.Need-returns-2
 returns-2 c =
-    let start = c .before .before .before .before .before .before .before .before in
+    let start = c .before .before .before .before .before .before .before .before .before in
     let node-at = c .before .before .before .before .before .node-at in
     let get = c .before .before .before .before .get in
     let if1 = c .before .before .before .if1 in
@@ -106,16 +109,16 @@ returns-2 c =
 
 add-get-3 : tie.Need-add-get-3
 add-get-3 c =
-    let start = c .before .before .before .before .before .before .before .before in
+    let start = c .before .before .before .before .before .before .before .before .before in
     let node-at = c .before .before .before .before .before .node-at in
-    let z = spot-here (start .args .image .now) (start .args .s) (start .pre .0) (start .pre .1 .0) (words (start .args .lm .now)) (start .args .label) (start .args .k) (start .pre .1 .1 .1) in
+    let z = spot-here (start .args .image .now) (start .args .s) (start .pre .0) (start .pre .1 .0) (words (start .args .lm .now)) (start .args .label) (start .args .k) (start .pre .1 .1 .1 .0) in
     omega (arith, node-at .ensures)
 
 get-requires-4 : tie.Need-get-requires-4
 get-requires-4 c κs =
-    let start = c .before .before .before .before .before .before .before .before in
+    let start = c .before .before .before .before .before .before .before .before .before in
     let node-at = c .before .before .before .before .before .node-at in
-    let z = spot-here (start .args .image .now) (start .args .s) (start .pre .0) (start .pre .1 .0) (words (start .args .lm .now)) (start .args .label) (start .args .k) (start .pre .1 .1 .1) in
+    let z = spot-here (start .args .image .now) (start .args .s) (start .pre .0) (start .pre .1 .0) (words (start .args .lm .now)) (start .args .label) (start .args .k) (start .pre .1 .1 .1 .0) in
     omega (arith, node-at .ensures, start .pre .1 .0)
 
 cast-skip : tie.Need-cast-skip
@@ -126,37 +129,37 @@ add-less c = search needs
 
 add-less-2 : tie.Need-add-less-2
 add-less-2 c =
-    let start = c .before .before .before .before .before .before .before .before .before .before in
+    let start = c .before .before .before .before .before .before .before .before .before .before .before in
     let node-at = c .before .before .before .before .before .before .before .node-at in
-    let z = spot-here (start .args .image .now) (start .args .s) (start .pre .0) (start .pre .1 .0) (words (start .args .lm .now)) (start .args .label) (start .args .k) (start .pre .1 .1 .1) in
+    let z = spot-here (start .args .image .now) (start .args .s) (start .pre .0) (start .pre .1 .0) (words (start .args .lm .now)) (start .args .label) (start .args .k) (start .pre .1 .1 .1 .0) in
     omega (arith, node-at .ensures)
 
 add-get-4 : tie.Need-add-get-4
 add-get-4 c =
-    let start = c .before .before .before .before .before .before .before .before .before .before in
+    let start = c .before .before .before .before .before .before .before .before .before .before .before in
     let node-at = c .before .before .before .before .before .before .before .node-at in
-    let z = spot-here (start .args .image .now) (start .args .s) (start .pre .0) (start .pre .1 .0) (words (start .args .lm .now)) (start .args .label) (start .args .k) (start .pre .1 .1 .1) in
+    let z = spot-here (start .args .image .now) (start .args .s) (start .pre .0) (start .pre .1 .0) (words (start .args .lm .now)) (start .args .label) (start .args .k) (start .pre .1 .1 .1 .0) in
     omega (arith, node-at .ensures)
 
 get-requires-5 : tie.Need-get-requires-5
 get-requires-5 c κs =
-    let start = c .before .before .before .before .before .before .before .before .before .before in
+    let start = c .before .before .before .before .before .before .before .before .before .before .before in
     let node-at = c .before .before .before .before .before .before .before .node-at in
     let get = c .before .before .before .before .before .before .get in
     let if1 = c .before .before .before .before .before .if1 in
     let B = at-branch (start .args .image .now) (start .args .s) (start .pre .0) (start .pre .1 .0) (words (start .args .lm .now)) (start .args .label) (start .args .k)
-    (start .pre .1 .1 .1) (λ z. (if1 .left) ((get .ensures ∙ ap (λ (j : ℕ). getD (words (start .args .image .now)) j 0) (node-at .ensures)) ∙ z)) in
+    (start .pre .1 .1 .1 .0) (λ z. (if1 .left) ((get .ensures ∙ ap (λ (j : ℕ). getD (words (start .args .image .now)) j 0) (node-at .ensures)) ∙ z)) in
     omega (arith, spot (start .args .s) (start .pre .0) ((start .args .k) + 1) (omega (arith, B .two)) .fits, row-behind (start .args .s) (start .args .k), node-at .ensures, start .pre .1 .0)
 
 cast-passed : tie.Need-cast-passed
 cast-passed c = search needs
 
-add-t17 : tie.Need-add-t17
-add-t17 c = search needs
+add-t18 : tie.Need-add-t18
+add-t18 c = search needs
 
 returns-3 : tie.Need-returns-3
 returns-3 c =
-    let start = c .before .before .before .before .before .before .before .before .before .before .before in
+    let start = c .before .before .before .before .before .before .before .before .before .before .before .before in
     let node-at = c .before .before .before .before .before .before .before .before .node-at in
     let get = c .before .before .before .before .before .before .before .get in
     let if1 = c .before .before .before .before .before .before .if1 in
@@ -183,7 +186,7 @@ next-step-spec =
     cast-tag
     add-get
     get-requires-2
-    cast-t15
+    cast-t16
     returns
     add-get-2
     get-requires-3
@@ -197,5 +200,5 @@ next-step-spec =
     add-get-4
     get-requires-5
     cast-passed
-    add-t17
+    add-t18
     returns-3)
