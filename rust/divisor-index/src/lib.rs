@@ -31,13 +31,13 @@
 //!
 //! A list of calls judges the whole image once, and a method of an index lends a
 //! list of one call. With 8 to 20 variables and 4,000 entries the check takes
-//! about 0.1 to 0.3 ms in a monomial index and 0.5 to 1 ms in a ratio index; a
-//! call takes 0.2 to 10 µs. So
+//! about 0.1 to 0.6 ms in a monomial index and 0.5 to 1.7 ms in a ratio index, by the
+//! machine; a call takes 0.2 to 12 µs. So
 //!
 //! | 4,000 entries | one call by itself | one of a batch of 100 |
 //! |---|---|---|
-//! | monomial index | 0.1 to 0.3 ms | 1 to 4 µs |
-//! | ratio index | 0.5 to 1 ms | 6 to 16 µs |
+//! | monomial index | 0.1 to 0.6 ms | 1 to 7 µs |
+//! | ratio index | 0.5 to 1.7 ms | 6 to 24 µs |
 //!
 //! Write calls that do not wait for each other's answers into a [`MonomialBatch`]
 //! or a [`RatioBatch`], or ask [`MonomialIndex::contains_divisors`] and
