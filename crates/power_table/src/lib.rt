@@ -8,11 +8,10 @@ ghost use Rattle.monomial.specs.Monomial.{Canonical, Starts, first};
 ghost use Rattle.monomial.specs.Operations as ops;
 ghost use Rattle.power_table.specs.Tabled.{Powers};
 
-// Lays the powers of m out in the first 64 words of a table.
-pub fn lay(table: &mut [u8], m: &[u8])
-    requires { ⌜ 256 ≤ length (now table) ⌝ }
+// Lays the powers of m out in a table of 64 words.
+pub fn lay(table: &mut [u8; 256], m: &[u8])
     requires { ⌜ Canonical 1 64 (words (now m)) ⌝ }
-    ensures { λ _. ⌜ Powers (words (now (table .exit))) (words (now (m .entry))) ⌝ }
+    ensures { λ _. ⌜ (length (now (table .exit)) ≡ 256) × Powers (words (now (table .exit))) (words (now (m .entry))) ⌝ }
 {
     words::runs::clear(table, 0, 64);
     let mut i: usize = 0;

@@ -20,7 +20,7 @@ use Rattle.words.proofs.put.Reads as put-reads
 use Rattle.words.proofs.runs.clear.Reads as clear-reads
 
 abbrev Inv-loop : tie.InvT-loop
-Inv-loop table₀ m i₀ table i = (length table ≡ length table₀) × Laying table (words m) i
+Inv-loop table₀ m i₀ table i = (length table ≡ 256) × Laying table (words m) i
 
 abbrev μ-loop : tie.MeasureT-loop
 μ-loop table₀ m i₀ table i = length (words m) - i
@@ -29,22 +29,17 @@ clear-requires : tie.Need-clear-requires Inv-loop μ-loop
 clear-requires c κs = search needs
 
 loop-holds : tie.Need-loop-holds Inv-loop μ-loop
-loop-holds c =
-    let start = c .before .before .before .before .before .before in
-    (refl, lay-start (start .args .table .now) _ (words (start .args .m .now)) (start .pre .1) (start .pre .0) (c .before .before .clear .ensures))
+loop-holds c = let start = (c .before .before .before) in (search needs, lay-start (start .args .table .now) _ (words (start .args .m .now)) (start .pre) (search needs) (c .clear .ensures))
 
 get-requires : tie.Need-get-requires Inv-loop μ-loop
-get-requires c κs = omega (arith, length-words (c .before .before .before .before .before .before .before .args .m .now), within (c .loop .inv .1 .ra))
+get-requires c κs = omega (arith, length-words (c .before .before .before .before .args .m .now), within (c .loop .inv .1 .ra))
 
 is-end-requires : tie.Need-is-end-requires Inv-loop μ-loop
 is-end-requires c κs = search needs
 
-same-length : tie.Need-same-length Inv-loop μ-loop
-same-length c = search needs
-
 returns : tie.Need-returns Inv-loop μ-loop
 returns c = let loop = (c .before .before .before .loop) in
-    lay-end _ _ _ _ (loop .inv .1) (c .before .before .get .ensures) (is-end-true _ (c .before .is-end .ensures) (c .if1 .taken))
+    (loop .inv .0, lay-end _ _ _ _ (loop .inv .1) (c .before .before .get .ensures) (is-end-true _ (c .before .is-end .ensures) (c .if1 .taken)))
 
 id-requires : tie.Need-id-requires Inv-loop μ-loop
 id-requires c κs = search needs
@@ -56,39 +51,24 @@ power-requires : tie.Need-power-requires Inv-loop μ-loop
 power-requires c κs = search needs
 
 put-requires : tie.Need-put-requires Inv-loop μ-loop
-put-requires c κs =
-    let is-end = c .before .before .before .before .is-end in
-    let get = c .before .before .before .before .before .get in
-    let loop = c .before .before .before .before .before .before .loop in
-    let clear = c .before .before .before .before .before .before .before .before .before .clear in
-    let start = c .before .before .before .before .before .before .before .before .before .before .before .before .before in
+put-requires c κs = let is-end = (c .before .before .before .before .is-end) in
+    let get = (c .before .before .before .before .before .get) in let loop = (c .before .before .before .before .before .before .loop) in
     let step = lay-more _ _ _ _ (loop .inv .1) (get .ensures) (is-end-false _ (is-end .ensures) (c .before .before .before .if1 .left)) in
-    omega (arith, c .before .id .ensures, loop .inv .0, clear .kept .0, start .pre .0, step .known)
+    omega (arith, c .before .id .ensures, loop .inv .0, step .known)
 
 add-i : tie.Need-add-i Inv-loop μ-loop
-add-i c =
-    let loop = c .before .before .before .before .before .before .before .before .before .loop in
-    let start = c .before .before .before .before .before .before .before .before .before .before .before .before .before .before .before .before in
+add-i c = let loop = (c .before .before .before .before .before .before .before .loop) in let start = (c .before .before .before .before .before .before .before .before .before .before .before) in
     omega (arith, length-words (start .args .m .now), within (loop .inv .1 .ra))
 
 loop-less : tie.Need-loop-less Inv-loop μ-loop
-loop-less c =
-    let loop = c .before .before .before .before .before .before .before .before .before .loop in
-    let start = c .before .before .before .before .before .before .before .before .before .before .before .before .before .before .before .before in
+loop-less c = let loop = (c .before .before .before .before .before .before .before .loop) in let start = (c .before .before .before .before .before .before .before .before .before .before .before) in
     omega (arith, length-words (start .args .m .now), within (loop .inv .1 .ra))
 
 loop-again : tie.Need-loop-again Inv-loop μ-loop
-loop-again c =
-    let put = c .before .before .put in
-    let is-end = c .before .before .before .before .before .before .before .is-end in
-    let get = c .before .before .before .before .before .before .before .before .get in
-    let loop = c .before .before .before .before .before .before .before .before .before .loop in
-    let clear = c .before .before .before .before .before .before .before .before .before .before .before .before .clear in
-    let start = c .before .before .before .before .before .before .before .before .before .before .before .before .before .before .before .before in
-    let step = lay-more _ _ _ _ (loop .inv .1) (get .ensures) (is-end-false _ (is-end .ensures) (c .before .before .before .before .before .before .if1 .left)) in (
-      omega (arith, put .kept .0, loop .inv .0),
-      step .next _ (omega (arith, loop .inv .0, clear .kept .0, start .pre .0)) (put .ensures ∙ rw (c .before .before .before .before .id .ensures, c .before .before .before .power .ensures) refl),
-    )
+loop-again c = let put = (c .put) in
+    let is-end = (c .before .before .before .before .before .is-end) in let get = (c .before .before .before .before .before .before .get) in let loop = (c .before .before .before .before .before .before .before .loop) in
+    let step = lay-more _ _ _ _ (loop .inv .1) (get .ensures) (is-end-false _ (is-end .ensures) (c .before .before .before .before .if1 .left)) in
+    (put .kept .0 ∙ loop .inv .0, step .next _ (omega (arith, loop .inv .0)) (put .ensures ∙ rw (c .before .before .id .ensures, c .before .power .ensures) refl))
 
 pub lay-spec : {M : Type 1} → statement M
 lay-spec =
@@ -100,7 +80,6 @@ lay-spec =
     loop-holds
     get-requires
     is-end-requires
-    same-length
     returns
     id-requires
     cast-put
