@@ -22,10 +22,11 @@ use Rattle.index_image.specs.Shape as at
 use Rattle.index_image.specs.Layout.{Sound}
 use Rattle.index_image.specs.Head.{HeadOk, HeadIs}
 use Rattle.index_image.specs.Walk.{power, label, mapMaxima, Ready}
-use Rattle.index_walk.specs.Walked.{Bounded, Walked}
+use Rattle.leaf_rows.specs.Leaves.{Bounded}
+use Rattle.index_walk.specs.Walked.{Walked}
 use Rattle.index_image.specs.Door.{rowsIn, Tables, EntriesOk}
 use Rattle.index_image.specs.Marks.{nameAt, Named}
-use Rattle.index_walk.specs.Tests.{Uppers}
+use Rattle.leaf_rows.specs.Leaves.{Uppers}
 use Rattle.index_image.specs.declared.Shape.{Shape}
 use Rattle.index_image.specs.declared.head.Head.{Head}
 use Rattle.index_image.specs.declared.head.Head.the-variants.{Image}

@@ -1,7 +1,3 @@
--- `Bounding`, `Limiting`, `Uppers`: bounds and how they go down. `Testing`: what each test decides.
--- `Walks`: one law for each return of the walk.
-pub mod Bounding
-pub mod Limiting
+-- `Uppers`: bounds with one word changed, and changed back. `Walks`: one law for each return of the walk.
 pub mod Uppers
-pub mod Testing
 pub mod Walks

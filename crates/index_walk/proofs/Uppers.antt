@@ -8,7 +8,7 @@ use lib.ListN.{length, getD, set}
 use lib.Seq.{getD-set-same, getD-set-other, set-getD, set-set}
 use Rattle.words.specs.Words.{words, putW}
 use Rattle.words.proofs.Laws.{Bytes, length-words, length-putW, words-putW, words-small, words-inj}
-use Rattle.index_walk.specs.Tests.{Uppers}
+use Rattle.leaf_rows.specs.Leaves.{Uppers}
 
 module _ (m : ℕ) (h : List ℕ) (u : Uppers m h) (v x : ℕ) (hv : v < m) (hx : x < 2 ^ 32) where
   pub words-put : (h′ : List ℕ) → h′ ≡ putW h v x → words h′ ≡ set (words h) v x

@@ -15,17 +15,19 @@ use Rattle.kd_theory.specs.Tree.{Tree, leaf, branch, inorder, nodes}
 use Rattle.kd_theory.proofs.BagLaws.{here, in-left, in-right, in-both}
 use Rattle.kd_theory.proofs.BifurcateLaws.{least-le, least-from}
 use Rattle.index_image.specs.declared.Shape.{Shape}
-use Rattle.index_walk.specs.declared.Limits.{Limits}
+use Rattle.branch_rows.specs.declared.Limits.{Limits}
 use Rattle.index_image.specs.Shape as at
 use Rattle.index_image.specs.Walk.{power, label, mapMaxima, Ready, Below, Sides, Ordered, TreeAt}
-use Rattle.index_walk.specs.Walked.{Bounded, Found, Walked}
+use Rattle.leaf_rows.specs.Leaves.{Bounded}
+use Rattle.index_walk.specs.Walked.{Found, Walked}
 use Rattle.index_image.specs.Layout.{gcdOf}
 use Rattle.index_image.specs.Shape.{tagAt, keyAt, countAt, gcdAt}
 use Rattle.index_image.specs.Rows.{monomialIn, entriesFrom}
-use Rattle.index_walk.specs.Tests.{Inside, LeafOk, KeyIn, BelowKey, Cut, Slots, OtherOk, BranchOk}
+use Rattle.leaf_rows.specs.Leaves.{Inside, LeafOk}
+use Rattle.branch_rows.specs.Branches.{KeyIn, BelowKey, Cut, Slots, OtherOk, BranchOk}
 use Rattle.index_image.proofs.Gcds.{Powers, image-powers, SlotHas, gcd-both, gcd-pow}
 use Rattle.index_image.proofs.Places.{place-fits}
-use Rattle.index_walk.proofs.Bounding.{bounded-each}
+use Rattle.leaf_rows.proofs.Bounding.{bounded-each}
 use Rattle.index_image.proofs.Keys.{key-ratio, ratio-key, some-of, below-variable}
 use Rattle.index_image.proofs.Trees.{some-node, nodes-branch, nodes-leaf, RowIs, take-apart, put-together, leaf-row, row-leaf, Head, tree-head}
 

@@ -2,16 +2,11 @@
 use mathlib.Core.Path.{_≡_}
 use mathlib.Core.List.{List}
 use Prim.Native.Nat.{ℕ, _+_, _≤_, _<_}
-use lib.ListN.{length, getD}
-use Rattle.kd_theory.specs.Bag.{_∈_}
+use lib.ListN.{length}
 use Rattle.kd_theory.specs.Tree.{Tree, inorder, nodes}
-use Rattle.index_image.specs.Walk.{power, label, TreeAt}
+use Rattle.index_image.specs.Walk.{TreeAt}
 use Rattle.index_image.specs.declared.Shape.{Shape}
-
--- every entry has powers below H and, in a ratio index, a label from ll on and below lh
-pub record Bounded (W : List ℕ) (s : Shape) (H : List ℕ) (ll lh : ℕ) (es : List ℕ) : Type 0 where
-  pub powers : (e : ℕ) → e ∈ es → (v : ℕ) → v < s .variables → power W s v e < getD H v 0
-  pub labels : s .kind ≡ 1 → (e : ℕ) → e ∈ es → (ll ≤ label W s e) × (label W s e < lh)
+use Rattle.leaf_rows.specs.Leaves.{Bounded}
 
 -- a tree at row k of at most `avail` entries, within the rows and the bounds
 pub record Found (W : List ℕ) (s : Shape) (H : List ℕ) (ll lh k lo avail : ℕ) (t : Tree) : Type 0 where

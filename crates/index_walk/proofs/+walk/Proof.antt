@@ -8,7 +8,8 @@ use Rattle.words.specs.Words.{words}
 use Rattle.words.proofs.Tables.{never}
 use Rattle.index_image.specs.Shape as at
 use Rattle.index_walk.specs.Walked.{Walked}
-use Rattle.index_walk.specs.Tests.{Uppers, KeyIn}
+use Rattle.leaf_rows.specs.Leaves.{Uppers}
+use Rattle.branch_rows.specs.Branches.{KeyIn}
 use Rattle.index_image.proofs.Places.{node-room}
 use Rattle.index_walk.proofs.Uppers.{words-put, uppers-put, put-back}
 use Prim.Native.Nat.{ℕ, _+_, _-_, _*_, _≤_, _<_}
@@ -21,10 +22,10 @@ use Rattle.index_image.proofs.Shape.node_at.Reads as node-at-reads
 use Rattle.index_walk.proofs.count_at.Reads as count-at-reads
 use Rattle.index_walk.proofs.count_behind.Reads as count-behind-reads
 use Rattle.index_walk.proofs.exchange.Reads as exchange-reads
-use Rattle.index_walk.proofs.key_ok.Reads as key-ok-reads
-use Rattle.index_walk.proofs.leaf_ok.Reads as leaf-ok-reads
+use Rattle.branch_rows.proofs.key_ok.Reads as key-ok-reads
+use Rattle.leaf_rows.proofs.leaf_ok.Reads as leaf-ok-reads
 use Rattle.index_walk.proofs.over_ok.Reads as over-ok-reads
-use Rattle.index_walk.proofs.sides.Reads as sides-reads
+use Rattle.branch_rows.proofs.sides.Reads as sides-reads
 use Rattle.words.proofs.get.Reads as get-reads
 use Rattle.words.proofs.put.Reads as put-reads
 use Rattle.index_walk.proofs.+walk.{statement}

@@ -13,7 +13,7 @@ use Rattle.index_walk.proofs.one_row.Tie as tie
 use Rattle.index_walk.proofs.one_row.Reads as reads
 use Rattle.index_walk.proofs.one_row.Lts as lts
 use Rattle.index_image.proofs.Shape.node_at.Reads as node-at-reads
-use Rattle.index_walk.proofs.leaf_ok.Reads as leaf-ok-reads
+use Rattle.leaf_rows.proofs.leaf_ok.Reads as leaf-ok-reads
 use Rattle.words.proofs.get.Reads as get-reads
 
 -- helpers

@@ -7,7 +7,7 @@ use Rattle.index_walk.proofs.over_ok.Tie as tie
 use Rattle.index_walk.proofs.over_ok.Reads as reads
 use Rattle.index_walk.proofs.over_ok.Lts as lts
 use Rattle.index_image.proofs.Shape.node_at.Reads as node-at-reads
-use Rattle.index_walk.proofs.branch_ok.Reads as branch-ok-reads
+use Rattle.branch_rows.proofs.branch_ok.Reads as branch-ok-reads
 
 node-at-requires : tie.Need-node-at-requires
 node-at-requires c κs = (c .before .pre .0 .range, omega (arith, c .before .pre .1 .0, c .before .pre .0 .range .nodes-to, c .before .pre .0 .range .cap-to))

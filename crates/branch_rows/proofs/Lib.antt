@@ -1,0 +1,3 @@
+-- `Limiting`: the bounds of both sides. `Testing`: what each test decides.
+pub mod Limiting
+pub mod Testing
