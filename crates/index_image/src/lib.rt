@@ -1,8 +1,6 @@
 // The image of an index: where its tables are, and the door's question whether it is sound. docs/LAYOUT.md has the tables.
-pub mod entries;
 pub mod fields;
 pub mod head;
-pub mod marks;
 pub mod stored;
 
 ghost use mathlib.Core.Path.{_≡_};

@@ -63,10 +63,10 @@ fn permutation_ok(image: &[u8], s: Shape) -> bool
 {
     let p = s.permutation_at();
     let n = s.entries;
-    if !index_image::marks::in_range(image, p, n) {
+    if !index_tables::marks::in_range(image, p, n) {
         return false;
     }
-    if !index_image::marks::all_named(image, p, 1, n, n) {
+    if !index_tables::marks::all_named(image, p, 1, n, n) {
         return false;
     }
     words::runs::is_blank(image, p + n, s.capacity - n)
@@ -85,7 +85,7 @@ fn rows_named(image: &[u8], s: Shape) -> bool
     }
     let e = s.entry_at(0) + (2 * s.variables + fields::ROW);
     let rows = words::get(image, s.labels_at() + fields::ROWS) as usize;
-    index_image::marks::all_named(image, e, s.entry_width(), s.entries, rows)
+    index_tables::marks::all_named(image, e, s.entry_width(), s.entries, rows)
 }
 
 // Writes a bound above every power into each word.
@@ -151,7 +151,7 @@ fn tables_ok(image: &[u8], s: Shape) -> bool
     if !labels_ok(image, s) {
         return false;
     }
-    if !index_image::entries::entries_ok(image, s) {
+    if !index_tables::entries::entries_ok(image, s) {
         return false;
     }
     if !permutation_ok(image, s) {

@@ -6,8 +6,8 @@ use Rattle.index_sound.proofs.permutation_ok.Tie as tie
 use Rattle.index_sound.proofs.permutation_ok.Reads as reads
 use Rattle.index_sound.proofs.permutation_ok.Lts as lts
 use Rattle.index_image.proofs.Shape.permutation_at.Reads as permutation-at-reads
-use Rattle.index_image.proofs.marks.all_named.Reads as all-named-reads
-use Rattle.index_image.proofs.marks.in_range.Reads as in-range-reads
+use Rattle.index_tables.proofs.marks.all_named.Reads as all-named-reads
+use Rattle.index_tables.proofs.marks.in_range.Reads as in-range-reads
 use Rattle.words.proofs.runs.is_blank.Reads as is-blank-reads
 
 permutation-at-requires : tie.Need-permutation-at-requires

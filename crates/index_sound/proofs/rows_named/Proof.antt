@@ -9,7 +9,7 @@ use Rattle.index_sound.proofs.rows_named.Lts as lts
 use Rattle.index_image.proofs.Shape.entry_at.Reads as entry-at-reads
 use Rattle.index_image.proofs.Shape.entry_width.Reads as entry-width-reads
 use Rattle.index_image.proofs.Shape.labels_at.Reads as labels-at-reads
-use Rattle.index_image.proofs.marks.all_named.Reads as all-named-reads
+use Rattle.index_tables.proofs.marks.all_named.Reads as all-named-reads
 use Rattle.words.proofs.get.Reads as get-reads
 
 returns : tie.Need-returns

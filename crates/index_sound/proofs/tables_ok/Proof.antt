@@ -5,7 +5,7 @@ use Rattle.index_sound.proofs.tables_ok.Statement.{statement}
 use Rattle.index_sound.proofs.tables_ok.Tie as tie
 use Rattle.index_sound.proofs.tables_ok.Reads as reads
 use Rattle.index_sound.proofs.tables_ok.Lts as lts
-use Rattle.index_image.proofs.entries.entries_ok.Reads as entries-ok-reads
+use Rattle.index_tables.proofs.entries.entries_ok.Reads as entries-ok-reads
 use Rattle.index_sound.proofs.labels_ok.Reads as labels-ok-reads
 use Rattle.index_sound.proofs.maxima_ok.Reads as maxima-ok-reads
 use Rattle.index_sound.proofs.nodes_ok.Reads as nodes-ok-reads
