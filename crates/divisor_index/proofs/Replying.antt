@@ -25,7 +25,8 @@ use Rattle.index_image.proofs.Shapes.{empty-range}
 use Rattle.call_list.specs.Bodies.{IsList}
 use Rattle.listing.specs.Listed.{Root, Each}
 use Rattle.indices.proofs.Inserts.{shaped}
-use Rattle.divisor_index.specs.Ran.{indexKind, Ran}
+use Rattle.index_opening.specs.Kinds.{indexKind}
+use Rattle.divisor_index.specs.Ran.{Ran}
 use Rattle.divisor_index.specs.Doors.{openingGood, lengthNumber, openNumber, openBytes, RunIs, ListingIs}
 use Rattle.divisor_index.proofs.Running.{list-calls}
 

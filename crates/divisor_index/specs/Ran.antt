@@ -1,16 +1,11 @@
 -- What a list of calls leaves. Assumes nothing.
 use mathlib.Core.Path.{_≡_}
 use mathlib.Core.List.{List, [], _∷_}
-use Prim.Native.Nat.{ℕ, zero, suc}
+use Prim.Native.Nat.{ℕ}
 use Rattle.words.specs.Words.{pasteW}
-use Rattle.index_theory.specs.State.{Kind, monomials, ratioed, State}
+use Rattle.index_theory.specs.State.{State}
 use Rattle.index_theory.specs.Calls.{Call, step, after, answers}
 use Rattle.index_image.specs.Layout.{encode, Is}
-
--- the index kind of a number: 0 for a monomial index, else a ratio index
-abbrev pub indexKind : ℕ → Kind
-indexKind zero = monomials
-indexKind (suc k) = ratioed
 
 -- the call c leaves the bytes bs′ of the image bs, and its answer word at the front of the buffer
 pub record Called (c : Call) (bs bs′ out out′ : List ℕ) : Type 0 where

@@ -1,6 +1,5 @@
 // The divisor index: opening, call lists and the listing, exported to C. A door asks document 01's questions in their order and returns 0,
 // or the number of the first whose reply is no, which changes no byte.
-pub mod opening;
 pub mod run;
 
 use index_image::Shape;
@@ -61,7 +60,7 @@ pub extern "C" fn divisor_index_open(
     if image.len() < index_image::length(s.kind, s.variables, s.capacity) {
         return 2;
     }
-    opening::open_tables(image, s, maxima);
+    index_opening::open_tables(image, s, maxima);
     0
 }
 

@@ -17,7 +17,7 @@ use Rattle.index_theory.specs.Claims.{CallOf, AnswerIs, Ties}
 use Rattle.index_theory.specs.Demand3.{Side, HoldsEach, NotUnsaid}
 use Rattle.index_image.specs.Layout.{shapeOf, Is}
 use Rattle.index_image.specs.Shape as at
-use Rattle.divisor_index.specs.Ran.{indexKind}
+use Rattle.index_opening.specs.Kinds.{indexKind}
 use Rattle.divisor_index.specs.Doors.{openNumber, openBytes, RunIs}
 
 -- ---- an opening that is served leaves a sound image, which holds nothing; one that is refused changes nothing

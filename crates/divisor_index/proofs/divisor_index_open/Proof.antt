@@ -9,7 +9,7 @@ use Rattle.divisor_index.proofs.divisor_index_open.Tie as tie
 use Rattle.divisor_index.proofs.divisor_index_open.Reads as reads
 use Rattle.divisor_index.proofs.divisor_index_open.Lts as lts
 use Rattle.divisor_index.proofs.opening_good.Reads as opening-good-reads
-use Rattle.divisor_index.proofs.opening.open_tables.Reads as open-tables-reads
+use Rattle.index_opening.proofs.open_tables.Reads as open-tables-reads
 use Rattle.index_image.proofs.length.Reads as length-reads
 
 opening-good-requires : tie.Need-opening-good-requires

@@ -25,7 +25,7 @@ use Rattle.index_image.specs.Shape as at
 use Rattle.index_image.specs.declared.Shape.{Shape}
 use Rattle.index_image.proofs.Gcds.{Powers, gcd-none}
 use Rattle.kd_query.proofs.Posing.{six-written}
-use Rattle.divisor_index.specs.Ran.{indexKind}
+use Rattle.index_opening.specs.Kinds.{indexKind}
 
 suc-row : (n w : ℕ) → suc n * w ≡ w + n * w
 suc-row n w = omega arith

@@ -1,10 +1,10 @@
-use Rattle.divisor_index.proofs.Openings.{head-written}
+use Rattle.index_opening.proofs.Openings.{head-written}
 use native.Mathlib.Omega.{arith}
 use borrow.Author.Needs.{needs}
-use Rattle.divisor_index.proofs.opening.open_head.Statement.{statement}
-use Rattle.divisor_index.proofs.opening.open_head.Tie as tie
-use Rattle.divisor_index.proofs.opening.open_head.Reads as reads
-use Rattle.divisor_index.proofs.opening.open_head.Lts as lts
+use Rattle.index_opening.proofs.open_head.Statement.{statement}
+use Rattle.index_opening.proofs.open_head.Tie as tie
+use Rattle.index_opening.proofs.open_head.Reads as reads
+use Rattle.index_opening.proofs.open_head.Lts as lts
 use Rattle.words.proofs.put.Reads as put-reads
 use Rattle.words.proofs.runs.clear.Reads as clear-reads
 

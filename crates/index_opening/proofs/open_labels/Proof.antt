@@ -1,12 +1,12 @@
-use Rattle.divisor_index.proofs.Openings.{labels-none, labels-written, asked-labels, part-room}
+use Rattle.index_opening.proofs.Openings.{labels-none, labels-written, asked-labels, part-room}
 use Prim.Native.Nat.{_*_, _+_, _-_}
 use mathlib.Core.Path.{ap}
 use native.Mathlib.Omega.{arith}
 use borrow.Author.Needs.{needs}
-use Rattle.divisor_index.proofs.opening.open_labels.Statement.{statement}
-use Rattle.divisor_index.proofs.opening.open_labels.Tie as tie
-use Rattle.divisor_index.proofs.opening.open_labels.Reads as reads
-use Rattle.divisor_index.proofs.opening.open_labels.Lts as lts
+use Rattle.index_opening.proofs.open_labels.Statement.{statement}
+use Rattle.index_opening.proofs.open_labels.Tie as tie
+use Rattle.index_opening.proofs.open_labels.Reads as reads
+use Rattle.index_opening.proofs.open_labels.Lts as lts
 use Rattle.fast_compare.proofs.open.Reads as open-reads
 use Rattle.index_image.proofs.Shape.labels_at.Reads as labels-at-reads
 use Rattle.index_image.proofs.Shape.labels_size.Reads as labels-size-reads

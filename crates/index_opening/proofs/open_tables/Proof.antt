@@ -1,11 +1,11 @@
-use Rattle.divisor_index.proofs.Openings.{opened-tables}
+use Rattle.index_opening.proofs.Openings.{opened-tables}
 use borrow.Author.Needs.{needs}
-use Rattle.divisor_index.proofs.opening.open_tables.Statement.{statement}
-use Rattle.divisor_index.proofs.opening.open_tables.Tie as tie
-use Rattle.divisor_index.proofs.opening.open_tables.Reads as reads
-use Rattle.divisor_index.proofs.opening.open_tables.Lts as lts
-use Rattle.divisor_index.proofs.opening.open_head.Reads as open-head-reads
-use Rattle.divisor_index.proofs.opening.open_labels.Reads as open-labels-reads
+use Rattle.index_opening.proofs.open_tables.Statement.{statement}
+use Rattle.index_opening.proofs.open_tables.Tie as tie
+use Rattle.index_opening.proofs.open_tables.Reads as reads
+use Rattle.index_opening.proofs.open_tables.Lts as lts
+use Rattle.index_opening.proofs.open_head.Reads as open-head-reads
+use Rattle.index_opening.proofs.open_labels.Reads as open-labels-reads
 use Rattle.index_image.proofs.Shape.entry_at.Reads as entry-at-reads
 use Rattle.index_image.proofs.Shape.labels_at.Reads as labels-at-reads
 use Rattle.index_image.proofs.Shape.node_at.Reads as node-at-reads

@@ -12,7 +12,7 @@ ghost use Rattle.fast_compare.specs.Map.{empty};
 ghost use Rattle.index_theory.specs.State.{opened};
 ghost use Rattle.index_image.specs.Layout.{labelWords, encode};
 ghost use Rattle.index_image.specs.Shape as at;
-ghost use Rattle.divisor_index.specs.Ran.{indexKind};
+ghost use Rattle.index_opening.specs.Kinds.{indexKind};
 
 // Writes the header.
 fn open_head(image: &mut [u8], s: Shape)
