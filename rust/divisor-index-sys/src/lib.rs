@@ -77,7 +77,7 @@ on_two! {
     divisor_index_ratio_cmp;
 }
 
-// crates/divmask. Refusals: 1 variables and maxima, 7 words, 5 room.
+// crates/divmask_work. Refusals: 1 variables and maxima, 7 words, 5 room.
 extern "C" {
     /// The mask of a monomial, as a bare word.
     pub fn divisor_index_divmask_mask(
