@@ -115,11 +115,7 @@ fn comparer(c: Head, a: &[u8], b: &[u8], after: &[u8]) -> bool {
         return false;
     }
     bytes::copy(a, &mut out);
-    let r = fast_compare::doors::divisor_index_fast_compare_get_comparer(
-        &mut out[..n],
-        c.variables,
-        b,
-    );
+    let r = label_work::divisor_index_fast_compare_get_comparer(&mut out[..n], c.variables, b);
     if r / 4294967296 != c.number as u64 {
         return false;
     }
@@ -136,7 +132,7 @@ fn rebuild(c: Head, a: &[u8], after: &[u8]) -> bool {
         return false;
     }
     bytes::copy(a, &mut out);
-    let r = fast_compare::doors::divisor_index_fast_compare_rebuild(&mut out[..n]);
+    let r = label_work::divisor_index_fast_compare_rebuild(&mut out[..n]);
     if r != c.number {
         return false;
     }

@@ -114,7 +114,7 @@ extern "C" {
     ) -> u32;
 }
 
-// crates/fast_compare. Refusals: 1 variables and capacity, 2 buffer, 3 image, 7
+// crates/label_work. Refusals: 1 variables and capacity, 2 buffer, 3 image, 7
 // words, 8 capacity reached, 10 no label.
 extern "C" {
     /// The length in bytes of a label map's image, which is above 16, or 1.
