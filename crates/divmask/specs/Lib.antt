@@ -1,4 +1,2 @@
 pub mod Mask
 pub mod Tracker
-pub mod Doors
-pub mod Table

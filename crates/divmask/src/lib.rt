@@ -1,8 +1,6 @@
 // From divmask.rs: masks of monomials and the mask test.
 // Maxima are lent as one word a variable. Cutoffs are never stored: how many of a variable's bits its power sets is one division.
-pub mod doors;
 pub mod pairs;
-pub mod table;
 pub mod tracker;
 
 ghost use mathlib.Core.Path.{_≡_};
@@ -21,7 +19,7 @@ pub enum DivMaskTestResult {
 }
 
 // How many bits variable v has: `whole`, and one more for the first `extra` variables.
-fn bits_of(whole: u32, extra: u32, v: u32) -> u32
+pub fn bits_of(whole: u32, extra: u32, v: u32) -> u32
     requires { ⌜ whole ≤ 32 ⌝ }
     ensures { λ r. ⌜ r ≡ whole + cond (ltb v extra) 1 0 ⌝ }
 {
@@ -29,7 +27,7 @@ fn bits_of(whole: u32, extra: u32, v: u32) -> u32
 }
 
 // How many bits the variables before v have.
-fn first_bit(whole: u32, extra: u32, v: u32) -> u32
+pub fn first_bit(whole: u32, extra: u32, v: u32) -> u32
     requires { ⌜ (whole ≤ 32) × (v ≤ 64) ⌝ }
     ensures { λ r. ⌜ r ≡ v * whole + min v extra ⌝ }
 {
@@ -38,7 +36,7 @@ fn first_bit(whole: u32, extra: u32, v: u32) -> u32
 
 // The bits that a power sets. Cutoffs rise, so these are the lowest ones, as many as cutoffs lie below the power.
 // The lesser number is taken before the division, so that no branch waits for the quotient: it would often be mispredicted.
-fn field(bits: u32, maximum: u32, power: u32) -> u64
+pub fn field(bits: u32, maximum: u32, power: u32) -> u64
     requires { ⌜ (bits ≤ 32) × ((1 ≤ maximum) × (maximum ≤ 32767)) ⌝ }
     requires { ⌜ (1 ≤ power) × (power ≤ 32767) ⌝ }
     ensures { λ r. ⌜ r ≡ parts bits maximum power bits ⌝ }

@@ -35,7 +35,7 @@ fn mask(name: &[u8], variables: u32, maxima: &[u8], monomial: &[u8]) {
     let mut out = [170u8; 4];
     begin(
         name,
-        divmask::doors::divisor_index_divmask_mask(variables, maxima, monomial, &mut out),
+        divmask_work::divisor_index_divmask_mask(variables, maxima, monomial, &mut out),
     );
     word(words::get(&out, 0));
     end();
@@ -46,7 +46,7 @@ fn mask_short(name: &[u8], variables: u32, maxima: &[u8], monomial: &[u8]) {
     let mut out = [170u8; 3];
     begin(
         name,
-        divmask::doors::divisor_index_divmask_mask(variables, maxima, monomial, &mut out),
+        divmask_work::divisor_index_divmask_mask(variables, maxima, monomial, &mut out),
     );
     bytes(&out);
     end();
@@ -83,7 +83,7 @@ fn update(name: &[u8], x0: u32, x1: u32, monomial: &[u8]) {
     words::put(&mut maxima, 1, x1);
     begin(
         name,
-        divmask::doors::divisor_index_divmask_update(2, &mut maxima, monomial),
+        divmask_work::divisor_index_divmask_update(2, &mut maxima, monomial),
     );
     word(words::get(&maxima, 0));
     word(words::get(&maxima, 1));
@@ -98,7 +98,7 @@ fn growth(name: &[u8], x0: u32, x1: u32, percentage: u8) {
     let mut out = [170u8; 4];
     begin(
         name,
-        divmask::doors::divisor_index_divmask_growth(2, &maxima, percentage, &mut out),
+        divmask_work::divisor_index_divmask_growth(2, &maxima, percentage, &mut out),
     );
     word(words::get(&out, 0));
     end();
@@ -109,14 +109,14 @@ fn growth_short(name: &[u8]) {
     let mut out = [170u8; 3];
     begin(
         name,
-        divmask::doors::divisor_index_divmask_growth(1, &maxima, 0, &mut out),
+        divmask_work::divisor_index_divmask_growth(1, &maxima, 0, &mut out),
     );
     bytes(&out);
     end();
 }
 
 fn test(name: &[u8], a: u32, b: u32) {
-    begin(name, divmask::doors::divisor_index_divmask_divides(a, b));
+    begin(name, divmask_work::divisor_index_divmask_divides(a, b));
     end();
 }
 

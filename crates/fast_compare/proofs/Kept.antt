@@ -2,20 +2,17 @@
 use mathlib.Core.Path.{_≡_, refl}
 use mathlib.Core.List.{List}
 use mathlib.Core.Logic.{_↔_}
-use mathlib.Core.Bool.{Bool, true, false, cond}
 use Prim.Native.Nat.{ℕ, _≤_, _<_}
 use native.Mathlib.Omega.{arith}
 use lib.ListN.{length, getD}
-use Rattle.words.specs.Words.{words, pasteW}
+use Rattle.words.specs.Words.{pasteW}
 use Rattle.monomial.specs.Order.{compare}
 use Rattle.monomial.specs.declared.monomial_ordering.CmpOrd.the-variants.{Less}
 use Rattle.fast_compare.specs.Labels.{sorted}
-use Rattle.fast_compare.specs.Map.{Value, valueOf, cmp, Good, State, value, label, Valid, place, answer, stored, after, rebuild}
+use Rattle.fast_compare.specs.Map.{Value, cmp, Good, State, value, label, Valid, place, answer, stored, after, rebuild}
 use Rattle.fast_compare.specs.Layout.{encode, Is, Gave}
-use Rattle.fast_compare.specs.Door.{valueLent, left, Asking, Rebuilt}
 use Rattle.fast_compare.specs.declared.Comparer.{Comparer}
 use Rattle.fast_compare.specs.declared.Comparer.the-variants.{Known, New, Full, NoLabel}
-use Rattle.fast_compare.specs.declared.doors.Answer.{Answer}
 use Rattle.fast_compare.specs.declared.Place.the-variants.{At, Before}
 use Rattle.fast_compare.proofs.Neighbours.{none-known, some-known}
 use Rattle.fast_compare.proofs.Rising.{compare-at, compare-before, compare-last}
@@ -23,7 +20,6 @@ use Rattle.fast_compare.proofs.Maps.{cmp-lawful, after-valid, rebuild-v
 use Rattle.fast_compare.proofs.Images.{ranked}
 use Rattle.fast_compare.proofs.Exact.{pasted}
 use Rattle.fast_compare.proofs.Giving.{at-place, before-place, known-row}
-use Rattle.fast_compare.proofs.Replies.{lent-is-good}
 
 -- ---- soundness is kept
 -- a call keeps the numbers of a map, so what it leaves has the same length
@@ -60,19 +56,6 @@ gave-sound bs exit st q r i g w = after-is bs exit st q i g (w .bytes)
 pub rebuild-is : (bs exit : List ℕ) (st : State) → Is st bs → exit ≡ pasteW bs 0 (encode (rebuild st)) → Is (rebuild st) exit
 unfolding rebuild
 rebuild-is bs exit st i e = rw e (pasted (rebuild st) (rebuild-valid st (i .valid)) bs (i .room))
-
--- a door's call keeps the map sound, whatever bytes are lent beside it
-pub asking-keeps : (n : ℕ) (ratio : List ℕ) (r : Answer) (entry exit : List ℕ) → Asking n ratio r entry exit → (st : State) → Is st entry → Is (left st n ratio) exit
-unfolding left
-asking-keeps n ratio r entry exit a st i = go (valueLent (st .variables) n ratio) refl (a .sound st i .1)
-  where
-    go : (b : Bool) → valueLent (st .variables) n ratio ≡ b → exit ≡ pasteW entry 0 (encode (cond (valueLent (st .variables) n ratio) (after st (valueOf n (words ratio))) st))
-        → Is (cond (valueLent (st .variables) n ratio) (after st (valueOf n (words ratio))) st) exit
-    go true e w = rw e (after-is entry exit st (valueOf n (words ratio)) i (lent-is-good (st .variables) n ratio e) (rw e at w))
-    go false e w = rw e (rw (rw e at w) (pasted st (i .valid) entry (i .room)))
-
-pub rebuilt-keeps : (r : ℕ) (entry exit : List ℕ) → Rebuilt r entry exit → (st : State) → Is st entry → Is (rebuild st) exit
-rebuilt-keeps r entry exit a st i = rebuild-is entry exit st i (a .sound st i .1)
 
 -- ---- a query by its place: comparing labels is comparing values
 module _ (st : State) (val : Valid st) (q : Value) (i : ℕ) (h : i < length (st .rows)) where

@@ -13,13 +13,8 @@ pub mod Images
 pub mod Exact
 pub mod Kept
 -- The code's steps:
--- `Scans`, `Reading`, `Checks`: reading rows, searching, checking. `Storing`, `Giving`: a label given. `Respacing`: rebuild.
--- `Opening`, `Replies`: the doors.
+-- `Scans`, `Reading`: reading rows, searching. `Giving`: the place of a value and the labels next to it. `Opening`: an empty map.
 pub mod Scans
-pub mod Checks
 pub mod Reading
-pub mod Storing
 pub mod Giving
-pub mod Respacing
 pub mod Opening
-pub mod Replies

@@ -3,7 +3,7 @@ use mathlib.Core.Path.{_≡_, sym, ap, _∙_}
 use mathlib.Core.List.{List}
 use mathlib.Core.Option.{some}
 use Prim.Native.Nat.{ℕ, _+_, _-_, _*_, _/_, _≤_, _<_}
-use native.Mathlib.Nat.{mul-le-mul-right}
+use native.Mathlib.Nat.{mul-le-mul, mul-le-mul-right}
 use native.Mathlib.Omega.{arith}
 use lib.ListN.{length, getD}
 use Rattle.words.specs.Kinds.{payload}
@@ -15,12 +15,15 @@ use Rattle.fast_compare.specs.Labels.{below, sorted}
 use Rattle.fast_compare.specs.Map.{Value, cmp, State, value, label, placed, place}
 use Rattle.fast_compare.specs.Layout.{size, Is, Sound, ratioWords, valueAt, HasRatio}
 use Rattle.fast_compare.specs.declared.Place.the-variants.{At, Before}
-use Rattle.fast_compare.proofs.Checks.{rows-small}
 use Rattle.fast_compare.proofs.Ranks.{less-equal, turn, turn-equal, below-most, place-less, place-equal, place-greater}
 use Rattle.fast_compare.proofs.Neighbours.{known-at, known-none, new-at}
 use Rattle.fast_compare.proofs.Maps.{cmp-lawful}
 use Rattle.fast_compare.proofs.Images.{ranked, header, row-is, order-get}
 use Rattle.fast_compare.proofs.Exact.{fits-words, head-of, count-of}
+
+-- the rows of a map take few words
+pub rows-small : (m c : ℕ) → m ≤ 64 → c ≤ 4096 → c * (m + 3) ≤ 274432
+rows-small m c h k = mul-le-mul {n₁ = c} {m₁ = m + 3} {n₂ = 4096} {m₂ = 67} k (omega arith)
 
 -- the numbers of the header, m variables, capacity c and n rows, and that what they name fits
 pub record Head (len m c n : ℕ) : Type 0 where

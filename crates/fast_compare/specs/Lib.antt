@@ -1,4 +1,3 @@
 pub mod Labels
 pub mod Map
 pub mod Layout
-pub mod Door

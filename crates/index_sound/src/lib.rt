@@ -52,7 +52,7 @@ fn labels_ok(image: &[u8], s: Shape) -> bool
     }
     let a = 4 * s.labels_at();
     let b = a + 4 * s.labels_size();
-    fast_compare::soundness::sound_for(&image[a..b], s.variables, s.capacity)
+    label_sound::sound_for(&image[a..b], s.variables, s.capacity)
 }
 
 // Whether the permutation names each entry.

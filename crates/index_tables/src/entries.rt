@@ -13,7 +13,7 @@ ghost use Rattle.words.specs.Kinds.{varWord};
 ghost use Rattle.monomial.specs.Monomial.{Starts, first};
 ghost use Rattle.monomial.specs.Operations.{result};
 ghost use Rattle.monomial.specs.declared.ordered_ops.Op.{Op};
-ghost use Rattle.divmask.specs.Table.{Tabled};
+ghost use Rattle.divmask_table.specs.Table.{Tabled};
 ghost use Rattle.divmask.specs.Tracker.{Maxima};
 ghost use Rattle.index_theory.specs.Entries.{quotientOf};
 ghost use Rattle.index_image.specs.Door as door;
@@ -39,7 +39,7 @@ pub fn masked_slot(
 {
     let a = 4 * map;
     let b = a + 4 * variables;
-    let found = divmask::table::judge(&image[a..b], variables as u32, table, limit, image, i);
+    let found = divmask_table::judge(&image[a..b], variables as u32, table, limit, image, i);
     let n = found.words;
     if n == 0 {
         return false;
@@ -211,6 +211,6 @@ pub fn entries_ok(image: &[u8], s: Shape) -> bool
     let a = 4 * (fields::HEADER + s.variables);
     let b = a + 4 * s.variables;
     let mut table = [0u8; 8192];
-    let limit = divmask::table::prepare(&image[a..b], s.variables as u32, n, &mut table);
+    let limit = divmask_table::prepare(&image[a..b], s.variables as u32, n, &mut table);
     all_entries(image, s, &table, limit)
 }

@@ -34,12 +34,12 @@ pub fn settle(labels: &mut [u8], index: u32, ratio: &[u8])
     requires { ⌜ map.Good (getD (words (now labels)) 1 0) (map.valueOf index (words (now ratio))) ⌝ }
     ensures { λ _. ⌜ ((l : map.State) → layout.Is l (now (labels .entry)) → now (labels .exit) ≡ pasteW (now (labels .entry)) 0 (layout.encode (settled l (map.valueOf index (words (now (ratio .entry))))))) ⌝ }
 {
-    let c = fast_compare::get_comparer(labels, index, ratio);
+    let c = label_insert::get_comparer(labels, index, ratio);
     if !no_label(c) {
         return;
     }
-    fast_compare::rebuild(labels);
-    fast_compare::get_comparer(labels, index, ratio);
+    label_insert::rebuild(labels);
+    label_insert::get_comparer(labels, index, ratio);
 }
 
 // The row of a value.

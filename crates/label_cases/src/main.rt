@@ -1,5 +1,4 @@
 // Worked cases of the label map, run through its doors: falling and rising values, capacity, rebuild, damaged maps.
-use fast_compare::doors;
 ghost use Prim.Native.Nat.{_+_, _*_, _/_, _≤_};
 ghost use lib.ListN.{length};
 
@@ -20,7 +19,7 @@ fn answer(r: u64) {
 
 // The answer for the value of this index and the ratio one.
 fn ask(map: &mut [u8], index: u32) -> u64 {
-    doors::divisor_index_fast_compare_get_comparer(map, index, b"\x00\x00\x00\x00")
+    label_work::divisor_index_fast_compare_get_comparer(map, index, b"\x00\x00\x00\x00")
 }
 
 fn report(count: u32, last: u64, r: u64) {
@@ -54,7 +53,7 @@ fn rising(map: &mut [u8]) {
     let mut last: u64 = 0;
     while k < 40 {
         words::put(&mut ratio, 0, 536903681 + k);
-        let r = doors::divisor_index_fast_compare_get_comparer(map, 7, &ratio);
+        let r = label_work::divisor_index_fast_compare_get_comparer(map, 7, &ratio);
         if 4294967295 < r {
             return report(k, last, r);
         }
@@ -80,7 +79,7 @@ fn sound_with(map: &mut [u8], i: usize, more: u32) -> bool
 {
     let old = words::get(map, i);
     words::put(map, i, std::num::wrapping_add_u32(old, more));
-    let ok = fast_compare::soundness::sound(map);
+    let ok = label_sound::sound(map);
     words::put(map, i, old);
     ok
 }
@@ -112,26 +111,26 @@ fn damaged(map: &mut [u8], more: u32) {
 }
 
 fn main() {
-    answer(doors::divisor_index_fast_compare_length(1, 40) as u64);
-    answer(doors::divisor_index_fast_compare_length(0, 40) as u64);
-    answer(doors::divisor_index_fast_compare_length(64, 4096) as u64);
+    answer(label_work::divisor_index_fast_compare_length(1, 40) as u64);
+    answer(label_work::divisor_index_fast_compare_length(0, 40) as u64);
+    answer(label_work::divisor_index_fast_compare_length(64, 4096) as u64);
     io::write_all(1, b"\n");
     let mut wide = [0u8; 816];
-    number(doors::divisor_index_fast_compare_open(1, 40, &mut wide) as u64);
-    number(doors::divisor_index_fast_compare_open(1, 41, &mut wide) as u64);
-    number(doors::divisor_index_fast_compare_open(65, 40, &mut wide) as u64);
+    number(label_work::divisor_index_fast_compare_open(1, 40, &mut wide) as u64);
+    number(label_work::divisor_index_fast_compare_open(1, 41, &mut wide) as u64);
+    number(label_work::divisor_index_fast_compare_open(65, 40, &mut wide) as u64);
     io::write_all(1, b"\n");
     falling(&mut wide);
-    number(doors::divisor_index_fast_compare_rebuild(&mut wide) as u64);
+    number(label_work::divisor_index_fast_compare_rebuild(&mut wide) as u64);
     answer(ask(&mut wide, 1));
     io::write_all(1, b"\n");
-    number(doors::divisor_index_fast_compare_open(1, 40, &mut wide) as u64);
+    number(label_work::divisor_index_fast_compare_open(1, 40, &mut wide) as u64);
     io::write_all(1, b"\n");
     rising(&mut wide);
     let mut small = [0u8; 88];
-    number(doors::divisor_index_fast_compare_open(2, 3, &mut small) as u64);
+    number(label_work::divisor_index_fast_compare_open(2, 3, &mut small) as u64);
     capacity(&mut small);
-    number(doors::divisor_index_fast_compare_open(2, 3, &mut small) as u64);
+    number(label_work::divisor_index_fast_compare_open(2, 3, &mut small) as u64);
     answer(ask(&mut small, 5));
     answer(ask(&mut small, 3));
     io::write_all(1, b"\n");

@@ -61,7 +61,7 @@ fn mask(c: Head, a: &[u8], b: &[u8], after: &[u8]) -> bool {
     if 704 < room {
         return false;
     }
-    let r = divmask::doors::divisor_index_divmask_mask(c.variables, a, b, &mut out[..room]);
+    let r = divmask_work::divisor_index_divmask_mask(c.variables, a, b, &mut out[..room]);
     if r != c.number {
         return false;
     }
@@ -75,7 +75,7 @@ fn mask_divides(c: Head, a: &[u8], b: &[u8]) -> bool {
     if b.len() < 4 {
         return false;
     }
-    divmask::doors::divisor_index_divmask_divides(words::get(a, 0), words::get(b, 0)) == c.number
+    divmask_work::divisor_index_divmask_divides(words::get(a, 0), words::get(b, 0)) == c.number
 }
 
 fn update(c: Head, a: &[u8], b: &[u8], after: &[u8]) -> bool {
@@ -85,7 +85,7 @@ fn update(c: Head, a: &[u8], b: &[u8], after: &[u8]) -> bool {
         return false;
     }
     bytes::copy(a, &mut out);
-    let r = divmask::doors::divisor_index_divmask_update(c.variables, &mut out[..n], b);
+    let r = divmask_work::divisor_index_divmask_update(c.variables, &mut out[..n], b);
     if r != c.number {
         return false;
     }
@@ -101,7 +101,7 @@ fn growth(c: Head, a: &[u8], b: &[u8], after: &[u8]) -> bool {
     if b.len() < 1 {
         return false;
     }
-    let r = divmask::doors::divisor_index_divmask_growth(c.variables, a, b[0], &mut out[..room]);
+    let r = divmask_work::divisor_index_divmask_growth(c.variables, a, b[0], &mut out[..room]);
     if r != c.number {
         return false;
     }
@@ -115,11 +115,7 @@ fn comparer(c: Head, a: &[u8], b: &[u8], after: &[u8]) -> bool {
         return false;
     }
     bytes::copy(a, &mut out);
-    let r = fast_compare::doors::divisor_index_fast_compare_get_comparer(
-        &mut out[..n],
-        c.variables,
-        b,
-    );
+    let r = label_work::divisor_index_fast_compare_get_comparer(&mut out[..n], c.variables, b);
     if r / 4294967296 != c.number as u64 {
         return false;
     }
@@ -136,7 +132,7 @@ fn rebuild(c: Head, a: &[u8], after: &[u8]) -> bool {
         return false;
     }
     bytes::copy(a, &mut out);
-    let r = fast_compare::doors::divisor_index_fast_compare_rebuild(&mut out[..n]);
+    let r = label_work::divisor_index_fast_compare_rebuild(&mut out[..n]);
     if r != c.number {
         return false;
     }

@@ -77,7 +77,7 @@ on_two! {
     divisor_index_ratio_cmp;
 }
 
-// crates/divmask. Refusals: 1 variables and maxima, 7 words, 5 room.
+// crates/divmask_work. Refusals: 1 variables and maxima, 7 words, 5 room.
 extern "C" {
     /// The mask of a monomial, as a bare word.
     pub fn divisor_index_divmask_mask(
@@ -114,7 +114,7 @@ extern "C" {
     ) -> u32;
 }
 
-// crates/fast_compare. Refusals: 1 variables and capacity, 2 buffer, 3 image, 7
+// crates/label_work. Refusals: 1 variables and capacity, 2 buffer, 3 image, 7
 // words, 8 capacity reached, 10 no label.
 extern "C" {
     /// The length in bytes of a label map's image, which is above 16, or 1.

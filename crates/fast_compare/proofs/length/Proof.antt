@@ -1,5 +1,5 @@
 use native.Mathlib.Omega.{arith}
-use Rattle.fast_compare.proofs.Checks.{rows-small}
+use Rattle.fast_compare.proofs.Reading.{rows-small}
 use borrow.Author.Needs.{needs}
 use Rattle.fast_compare.proofs.length.Statement.{statement}
 use Rattle.fast_compare.proofs.length.Tie as tie

@@ -4,7 +4,7 @@ use Rattle.index_sound.proofs.labels_ok.Statement.{statement}
 use Rattle.index_sound.proofs.labels_ok.Tie as tie
 use Rattle.index_sound.proofs.labels_ok.Reads as reads
 use Rattle.index_sound.proofs.labels_ok.Lts as lts
-use Rattle.fast_compare.proofs.soundness.sound_for.Reads as sound-for-reads
+use Rattle.label_sound.proofs.sound_for.Reads as sound-for-reads
 use Rattle.index_image.proofs.Shape.labels_at.Reads as labels-at-reads
 use Rattle.index_image.proofs.Shape.labels_size.Reads as labels-size-reads
 

@@ -6,7 +6,7 @@ use Rattle.label_cases.proofs.rising.Statement.{statement}
 use Rattle.label_cases.proofs.rising.Tie as tie
 use Rattle.label_cases.proofs.rising.Reads as reads
 use Rattle.label_cases.proofs.rising.Lts as lts
-use Rattle.fast_compare.proofs.doors.divisor_index_fast_compare_get_comparer.Reads as divisor-index-fast-compare-get-comparer-reads
+use Rattle.label_work.proofs.divisor_index_fast_compare_get_comparer.Reads as divisor-index-fast-compare-get-comparer-reads
 use Rattle.label_cases.proofs.report.Reads as report-reads
 use Rattle.words.proofs.put.Reads as put-reads
 

@@ -8,7 +8,7 @@ use Rattle.oracle_replay.proofs.comparer.Tie as tie
 use Rattle.oracle_replay.proofs.comparer.Reads as reads
 use Rattle.oracle_replay.proofs.comparer.Lts as lts
 use Rattle.bytes.proofs.copy.Reads as copy-reads
-use Rattle.fast_compare.proofs.doors.divisor_index_fast_compare_get_comparer.Reads as divisor-index-fast-compare-get-comparer-reads
+use Rattle.label_work.proofs.divisor_index_fast_compare_get_comparer.Reads as divisor-index-fast-compare-get-comparer-reads
 use Rattle.oracle_replay.proofs.holds.Reads as holds-reads
 
 returns : tie.Need-returns

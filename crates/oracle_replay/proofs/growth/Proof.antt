@@ -6,7 +6,7 @@ use Rattle.oracle_replay.proofs.growth.Statement.{statement}
 use Rattle.oracle_replay.proofs.growth.Tie as tie
 use Rattle.oracle_replay.proofs.growth.Reads as reads
 use Rattle.oracle_replay.proofs.growth.Lts as lts
-use Rattle.divmask.proofs.doors.divisor_index_divmask_growth.Reads as divisor-index-divmask-growth-reads
+use Rattle.divmask_work.proofs.divisor_index_divmask_growth.Reads as divisor-index-divmask-growth-reads
 use Rattle.oracle_replay.proofs.holds.Reads as holds-reads
 
 returns : tie.Need-returns

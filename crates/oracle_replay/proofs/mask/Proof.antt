@@ -6,7 +6,7 @@ use Rattle.oracle_replay.proofs.mask.Statement.{statement}
 use Rattle.oracle_replay.proofs.mask.Tie as tie
 use Rattle.oracle_replay.proofs.mask.Reads as reads
 use Rattle.oracle_replay.proofs.mask.Lts as lts
-use Rattle.divmask.proofs.doors.divisor_index_divmask_mask.Reads as divisor-index-divmask-mask-reads
+use Rattle.divmask_work.proofs.divisor_index_divmask_mask.Reads as divisor-index-divmask-mask-reads
 use Rattle.oracle_replay.proofs.holds.Reads as holds-reads
 
 returns : tie.Need-returns

@@ -8,7 +8,7 @@ use Rattle.oracle_replay.proofs.update.Tie as tie
 use Rattle.oracle_replay.proofs.update.Reads as reads
 use Rattle.oracle_replay.proofs.update.Lts as lts
 use Rattle.bytes.proofs.copy.Reads as copy-reads
-use Rattle.divmask.proofs.doors.divisor_index_divmask_update.Reads as divisor-index-divmask-update-reads
+use Rattle.divmask_work.proofs.divisor_index_divmask_update.Reads as divisor-index-divmask-update-reads
 use Rattle.oracle_replay.proofs.holds.Reads as holds-reads
 
 returns : tie.Need-returns

@@ -11,7 +11,7 @@ use Rattle.index_tables.proofs.entries.entries_ok.Statement.{statement}
 use Rattle.index_tables.proofs.entries.entries_ok.Tie as tie
 use Rattle.index_tables.proofs.entries.entries_ok.Reads as reads
 use Rattle.index_tables.proofs.entries.entries_ok.Lts as lts
-use Rattle.divmask.proofs.table.prepare.Reads as prepare-reads
+use Rattle.divmask_table.proofs.prepare.Reads as prepare-reads
 use Rattle.index_image.proofs.Shape.entry_at.Reads as entry-at-reads
 use Rattle.index_image.proofs.Shape.entry_width.Reads as entry-width-reads
 use Rattle.index_tables.proofs.entries.all_entries.Reads as all-entries-reads

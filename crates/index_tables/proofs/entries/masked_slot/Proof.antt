@@ -12,7 +12,7 @@ use Rattle.index_tables.proofs.entries.masked_slot.Statement.{statement
 use Rattle.index_tables.proofs.entries.masked_slot.Tie as tie
 use Rattle.index_tables.proofs.entries.masked_slot.Reads as reads
 use Rattle.index_tables.proofs.entries.masked_slot.Lts as lts
-use Rattle.divmask.proofs.table.judge.Reads as judge-reads
+use Rattle.divmask_table.proofs.judge.Reads as judge-reads
 use Rattle.words.proofs.pairs.get.Reads as get-reads
 use Rattle.words.proofs.runs.is_blank.Reads as is-blank-reads
 

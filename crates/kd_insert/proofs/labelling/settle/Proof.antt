@@ -8,8 +8,8 @@ use Rattle.kd_insert.proofs.labelling.settle.Statement.{statement}
 use Rattle.kd_insert.proofs.labelling.settle.Tie as tie
 use Rattle.kd_insert.proofs.labelling.settle.Reads as reads
 use Rattle.kd_insert.proofs.labelling.settle.Lts as lts
-use Rattle.fast_compare.proofs.get_comparer.Reads as get-comparer-reads
-use Rattle.fast_compare.proofs.rebuild.Reads as rebuild-reads
+use Rattle.label_insert.proofs.get_comparer.Reads as get-comparer-reads
+use Rattle.label_insert.proofs.rebuild.Reads as rebuild-reads
 use Rattle.kd_insert.proofs.labelling.no_label.Reads as no-label-reads
 
 get-comparer-requires : tie.Need-get-comparer-requires

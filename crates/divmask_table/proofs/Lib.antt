@@ -1,0 +1,2 @@
+-- `Tabling`: a table of the bits that small powers set.
+pub mod Tabling

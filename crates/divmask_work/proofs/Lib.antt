@@ -1,0 +1,2 @@
+-- `Served`: what the doors' proofs share.
+pub mod Served

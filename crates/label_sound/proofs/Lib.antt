@@ -1,0 +1,2 @@
+-- `Checks`: what the answers of the checks come to.
+pub mod Checks
