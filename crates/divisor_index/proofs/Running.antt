@@ -25,7 +25,7 @@ use Rattle.index_image.proofs.Encoding.{image-length}
 use Rattle.index_image.proofs.Lengths.{valid-fits}
 use Rattle.index_image.proofs.Pasted.{pasted}
 use Rattle.listing.proofs.Monomials.{behind}
-use Rattle.kd_insert.proofs.Settling.{paste-again}
+use Rattle.kd_labelling.proofs.Settling.{paste-again}
 use Rattle.call_list.proofs.Parting.{past-end, calls-nil}
 use Rattle.indices.specs.Replied.{Replied}
 use Rattle.indices.proofs.Inserts.{itself}

@@ -38,11 +38,11 @@ use Rattle.index_image.proofs.Images as of
 use Rattle.index_image.proofs.Images.{labels-of-ratios}
 use Rattle.index_image.proofs.Keys.{tree-words-ext, by-numbers}
 use Rattle.index_image.proofs.Once.{once-below}
-use Rattle.kd_insert.specs.Growing.{belowIn, keysBy, Keyed, Growth, grownRows, place}
-use Rattle.kd_insert.specs.Growing as growing
+use Rattle.kd_descent.specs.Growing.{belowIn, keysBy, Keyed, Growth, grownRows, place}
+use Rattle.kd_descent.specs.Growing as growing
 use Rattle.kd_insert.specs.Inserting.{Hangs, hung}
 use Rattle.kd_theory.proofs.PlaceLaws.{insert-inorder, place-inside, insert-agree}
-use Rattle.kd_insert.proofs.Ways.{insert-nodes}
+use Rattle.kd_descent.proofs.Ways.{insert-nodes}
 use Rattle.words.proofs.Pasting.{part-before, part-after}
 use Rattle.words.proofs.Drafts.{Draft, draft-start, draft-step}
 

@@ -20,7 +20,7 @@ use Rattle.index_image.proofs.Images.{head-ok}
 use Rattle.index_image.proofs.Encoding.{image-length}
 use Rattle.index_image.proofs.Lengths.{valid-fits}
 use Rattle.kd_insert.specs.Inserting.{Room, Inserted}
-use Rattle.kd_insert.proofs.Ways.{insert-nodes}
+use Rattle.kd_descent.proofs.Ways.{insert-nodes}
 use Rattle.kd_insert.proofs.Monomials.{shape-is}
 use Rattle.words.proofs.Pasting.{part-pasted}
 

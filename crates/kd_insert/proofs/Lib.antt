@@ -1,11 +1,6 @@
-pub mod Grown
-pub mod Writing
-pub mod Ways
-pub mod Going
+pub mod Tracking
 pub mod Inserts
 pub mod Halves
 pub mod Monomials
-pub mod Settling
-pub mod Parts
 pub mod Ratios
 pub mod Kept

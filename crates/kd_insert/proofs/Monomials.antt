@@ -26,7 +26,7 @@ use Rattle.index_image.specs.Walk.{mapMaxima}
 use Rattle.index_image.specs.Head.{HeadOk}
 use Rattle.index_image.specs.declared.Shape.{Shape}
 use Rattle.index_image.proofs.Bounds.{entry-inside, width-least}
-use Rattle.kd_insert.proofs.Writing.{masked-length}
+use Rattle.kd_slots.proofs.Writing.{masked-length}
 use Rattle.index_image.proofs.Heads.{same-shape}
 use Rattle.index_image.proofs.Shapes.{code-monomial}
 use Rattle.index_image.proofs.Images as of
@@ -66,10 +66,6 @@ map-tracked bs im s lm b e =
     let l : length us ≡ m = updated-length lm (part (words bs) at.maximaAt m) ∙ b .present .one-each in
     let r = b .room in
     (ap length e ∙ length-pasteW bs at.maximaAt us (omega arith), rw e (part-after bs at.maximaAt us (at.mapAt m) m (omega arith) (omega arith)))
-
--- and when words are written behind them
-pub map-entered : (im im′ : List ℕ) (s : Shape) (a : ℕ) (ws : List ℕ) → 4 * a ≤ length im → at.entriesAt (s .variables) ≤ a → im′ ≡ pasteW im a ws → mapMaxima (words im′) s ≡ mapMaxima (words im) s
-map-entered im im′ s a ws h l e = rw e (part-before im a ws (at.mapAt (s .variables)) (s .variables) h (omega arith))
 
 -- ---- a monomial index has no labels
 no-labels : (k : Kind) (l : map.State) (e : Entry) → k ≡ monomials → labelled k l e ≡ l

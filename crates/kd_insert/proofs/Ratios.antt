@@ -37,7 +37,8 @@ use Rattle.index_image.proofs.Labels.{MapIs, of-map, label-at}
 use Rattle.index_image.proofs.Rows.{row-of, label-of}
 use Rattle.index_image.proofs.Images as of
 use Rattle.kd_insert.specs.Inserting.{Room, Inserted, signed, Hangs, hung}
-use Rattle.kd_insert.specs.Labelling.{settled, Labels, ratioRow}
+use Rattle.kd_labelling.specs.Labelling.{settled, Labels}
+use Rattle.kd_slots.specs.Slots.{ratioRow}
 use Rattle.words.proofs.Pasting.{part-before, part-after, get-after, part-pasted, paste-in}
 use Rattle.words.proofs.Drafts.{Draft, draft-step}
 use Rattle.kd_insert.proofs.Inserts.{half, Lengths, lengths, hangs, growth, finish, val′}

@@ -13,7 +13,7 @@ use Rattle.index_image.specs.Layout.{encode, Is, Sound}
 use Rattle.index_image.specs.Head.{HeadOk}
 use Rattle.index_image.specs.Shape as at
 use Rattle.index_image.specs.declared.Shape.{Shape}
-use Rattle.kd_insert.specs.Growing.{Growth, grownRows, place}
+use Rattle.kd_descent.specs.Growing.{Growth, grownRows, place}
 
 -- a sound image with this header, and fewer entries than its capacity
 pub record Room (bs : List ℕ) (s : Shape) : Type 0 where

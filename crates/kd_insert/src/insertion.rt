@@ -11,7 +11,7 @@ ghost use Rattle.divmask.specs.Tracker.{Maxima, updated};
 ghost use Rattle.index_theory.specs.Calls.{plain};
 ghost use Rattle.index_image.specs.Shape as shape;
 ghost use Rattle.index_image.specs.Walk.{mapMaxima};
-ghost use Rattle.kd_insert.specs.Growing.{Growth, place};
+ghost use Rattle.kd_descent.specs.Growing.{Growth, place};
 ghost use Rattle.kd_insert.specs.Inserting.{Room, Inserted, signed, Hangs, hung};
 
 // Runs `update` on the present maxima.
@@ -43,7 +43,7 @@ pub fn hang(image: &mut [u8], s: Shape, lm: &[u8], label: u64)
     power_table::lay(&mut table, lm);
     let n = s.entries;
     let at = s.permutation_at();
-    let p = crate::descent::descend(image, s, lm, &table, label);
+    let p = kd_descent::descend(image, s, lm, &table, label);
     words::runs::insert(image, at + p, at + n, n as u32);
     words::put(image, fields::LENGTH, n as u32 + 1);
 }
@@ -58,7 +58,7 @@ pub fn insert_monomial(image: &mut [u8], s: Shape, lm: &[u8]) -> usize
 {
     let n = s.entries;
     track(image, s, lm);
-    crate::slots::write_masked(image, s, s.entry_at(n), lm);
+    kd_slots::write_masked(image, s, s.entry_at(n), lm);
     hang(image, s, lm, 0);
     n
 }
@@ -73,11 +73,11 @@ pub fn insert_ratio(image: &mut [u8], s: Shape, index: u32, sign: &[u8], lm: &[u
     ensures { λ r. ⌜ Inserted (signed index (words (now (sign .entry))) (words (now (lm .entry)))) r (now (image .entry)) (now (image .exit)) ⌝ }
 {
     let n = s.entries;
-    let row = crate::labelling::label_entry(image, s, index, sign, lm);
-    let label = crate::labelling::label_at(image, s, row);
+    let row = kd_labelling::label_entry(image, s, index, sign, lm);
+    let label = kd_labelling::label_at(image, s, row);
     track(image, s, sign);
     track(image, s, lm);
-    crate::slots::write_ratio_row(image, s, s.entry_at(n), index, sign, lm, row as u32);
+    kd_slots::write_ratio_row(image, s, s.entry_at(n), index, sign, lm, row as u32);
     hang(image, s, lm, label);
     n
 }

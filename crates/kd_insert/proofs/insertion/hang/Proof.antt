@@ -2,7 +2,7 @@ use native.Mathlib.Omega.{arith}
 use Rattle.words.specs.Words.{words}
 use Rattle.monomial.proofs.Laws.{canonical-more}
 use Rattle.index_image.proofs.Bounds.{size-small}
-use Rattle.kd_insert.specs.Growing as growing
+use Rattle.kd_descent.specs.Growing as growing
 use Rattle.kd_theory.proofs.PlaceLaws.{place-inside}
 use Rattle.kd_insert.proofs.Inserts.{hung-is}
 use mathlib.Core.Path.{_∙_, sym}
@@ -12,7 +12,7 @@ use Rattle.kd_insert.proofs.insertion.hang.Tie as tie
 use Rattle.kd_insert.proofs.insertion.hang.Reads as reads
 use Rattle.kd_insert.proofs.insertion.hang.Lts as lts
 use Rattle.index_image.proofs.Shape.permutation_at.Reads as permutation-at-reads
-use Rattle.kd_insert.proofs.descent.descend.Reads as descend-reads
+use Rattle.kd_descent.proofs.descend.Reads as descend-reads
 use Rattle.power_table.proofs.lay.Reads as lay-reads
 use Rattle.words.proofs.put.Reads as put-reads
 use Rattle.words.proofs.runs.insert.Reads as insert-reads

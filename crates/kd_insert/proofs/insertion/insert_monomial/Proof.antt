@@ -1,5 +1,6 @@
 use native.Mathlib.Omega.{arith}
-use Rattle.kd_insert.proofs.Monomials.{Basics, basics, map-tracked, monomial-hangs, monomial-inserted, map-entered}
+use Rattle.kd_insert.proofs.Monomials.{Basics, basics, map-tracked, monomial-hangs, monomial-inserted}
+use Rattle.kd_slots.proofs.Writing.{map-entered}
 use Rattle.index_image.proofs.Bounds.{entry-inside, width-least, size-small}
 use mathlib.Core.Path.{_≡_, sym, ap, _∙_}
 use mathlib.Core.List.{List, [], _∷_, _++_}
@@ -14,7 +15,7 @@ use Rattle.kd_insert.proofs.insertion.insert_monomial.Lts as lts
 use Rattle.index_image.proofs.Shape.entry_at.Reads as entry-at-reads
 use Rattle.kd_insert.proofs.insertion.hang.Reads as hang-reads
 use Rattle.kd_insert.proofs.insertion.track.Reads as track-reads
-use Rattle.kd_insert.proofs.slots.write_masked.Reads as write-masked-reads
+use Rattle.kd_slots.proofs.write_masked.Reads as write-masked-reads
 
 track-requires : tie.Need-track-requires
 track-requires c κs =

@@ -1,7 +1,8 @@
 use native.Mathlib.Omega.{arith}
 use Rattle.words.specs.Words.{words}
 use Rattle.index_image.proofs.Bounds.{entry-inside, ratio-width}
-use Rattle.kd_insert.proofs.Monomials.{Basics, basics, map-entered}
+use Rattle.kd_insert.proofs.Monomials.{Basics, basics}
+use Rattle.kd_slots.proofs.Writing.{map-entered}
 use Rattle.kd_insert.proofs.Ratios.{Calls, basics-tracked, label-ready, early, Early, late, ratio-inserted}
 use borrow.Author.Needs.{needs}
 use Rattle.kd_insert.proofs.insertion.insert_ratio.Statement.{statement}
@@ -11,9 +12,9 @@ use Rattle.kd_insert.proofs.insertion.insert_ratio.Lts as lts
 use Rattle.index_image.proofs.Shape.entry_at.Reads as entry-at-reads
 use Rattle.kd_insert.proofs.insertion.hang.Reads as hang-reads
 use Rattle.kd_insert.proofs.insertion.track.Reads as track-reads
-use Rattle.kd_insert.proofs.labelling.label_at.Reads as label-at-reads
-use Rattle.kd_insert.proofs.labelling.label_entry.Reads as label-entry-reads
-use Rattle.kd_insert.proofs.slots.write_ratio_row.Reads as write-ratio-row-reads
+use Rattle.kd_labelling.proofs.label_at.Reads as label-at-reads
+use Rattle.kd_labelling.proofs.label_entry.Reads as label-entry-reads
+use Rattle.kd_slots.proofs.write_ratio_row.Reads as write-ratio-row-reads
 
 label-entry-requires : tie.Need-label-entry-requires
 label-entry-requires c κs =

@@ -3,7 +3,7 @@ use Rattle.index_image.specs.Shape as shape
 use native.Mathlib.Omega.{arith}
 use Rattle.words.specs.Words.{words}
 use Rattle.words.proofs.Drafts.{part-of as part-words}
-use Rattle.kd_insert.proofs.Writing.{tracked-back}
+use Rattle.kd_insert.proofs.Tracking.{tracked-back}
 use lib.ListN.{length-take, length-drop}
 use Prim.Native.Nat.{_+_, _-_, _*_}
 use borrow.Author.Needs.{needs}

@@ -1,0 +1,4 @@
+pub mod Grown
+pub mod Writing
+pub mod Ways
+pub mod Going
