@@ -32,8 +32,8 @@ use Rattle.index_image.proofs.Shapes.{code-ratio, code-monomial}
 use Rattle.index_image.proofs.Slots.{MadeAside}
 use Rattle.kd_query.specs.Ended.{Ends, From}
 use Rattle.kd_query.specs.Posed.{Poses, PosedFor}
-use Rattle.kd_tree.specs.Asked.{searchNumber}
-use Rattle.kd_tree.specs.declared.query.Search.the-variants.{Contained, Reducer, High, Low, Singular}
+use Rattle.query_words.specs.Asked.{searchNumber}
+use Rattle.query_words.specs.declared.Search.the-variants.{Contained, Reducer, High, Low, Singular}
 use Rattle.kd_query.proofs.Ending.{high-range, reducing-range, low-range, singular-range}
 use Rattle.kd_query.proofs.Standing.{shape-is}
 

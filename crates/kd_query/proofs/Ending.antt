@@ -27,7 +27,7 @@ use Rattle.index_image.proofs.Images.{labels-of-ratios}
 use Rattle.index_image.proofs.Rows.{label-of}
 use Rattle.index_theory.specs.Searches.{reducing, high, low, singular, isRegular}
 use Rattle.index_theory.specs.Ranges.{notBelow, notPast}
-use Rattle.kd_tree.specs.Asked.{lowered, Range}
+use Rattle.query_words.specs.Asked.{lowered, Range}
 use Rattle.kd_query.specs.Ended.{Ends, From}
 
 greater-is : (a b : ℕ) → isGreater (compare a b) ≡ ltb b a

@@ -13,7 +13,7 @@ use Rattle.words.proofs.Pasting.{part-pasted}
 use Rattle.index_image.specs.Shape as at
 use Rattle.index_image.specs.declared.Shape.{Shape}
 use Rattle.index_image.proofs.Bounds.{size-small, width-small, entries-small, labels-small}
-use Rattle.kd_tree.specs.Asked.{shapeIn, slotAt, Laid}
+use Rattle.query_words.specs.Asked.{shapeIn, slotAt, Laid}
 use Rattle.kd_query.specs.Posed.{maskWords, rangeWords, slotWords, placeWords, shapeWords}
 
 pub six-written : (b₀ b₁ b₂ b₃ b₄ b₅ b₆ : List ℕ) (i a b c d e f : ℕ) → 4 * (i + 6) ≤ length b₀ → b₁ ≡ putW b₀ i a → b₂ ≡ putW b₁ (i + 1) b

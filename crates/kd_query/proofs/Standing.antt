@@ -26,11 +26,11 @@ use Rattle.index_image.specs.Walk.{mapMaxima}
 use Rattle.index_image.specs.declared.Shape.{Shape}
 use Rattle.index_image.proofs.Heads.{same-shape}
 use Rattle.index_image.proofs.Images as of
-use Rattle.kd_tree.specs.Asked.{searchNumber, shapeIn, searchOf, slotAt, Range, Laid, Asks}
+use Rattle.query_words.specs.Asked.{searchNumber, shapeIn, searchOf, slotAt, Range, Laid, Asks}
 use Rattle.kd_tree.specs.Rooted.{Rooted}
 use Rattle.kd_query.specs.Posed.{lmDivides, limitFor, Limited, maskWords, rangeWords, slotWords, placeWords, shapeWords, Poses}
-use Rattle.kd_tree.specs.declared.query.Search.{Search}
-use Rattle.kd_tree.specs.declared.query.Search.the-variants.{Contained, Reducer, High, Low, Singular}
+use Rattle.query_words.specs.declared.Search.{Search}
+use Rattle.query_words.specs.declared.Search.the-variants.{Contained, Reducer, High, Low, Singular}
 use Rattle.kd_query.proofs.Posing.{node-small, slot-small, laid}
 
 -- ---- the words, in their order

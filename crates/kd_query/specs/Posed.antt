@@ -12,10 +12,10 @@ use Rattle.index_theory.specs.State.{ratioed, State}
 use Rattle.index_image.specs.Layout.{Is}
 use Rattle.index_image.specs.Shape as at
 use Rattle.index_image.specs.declared.Shape.{Shape}
-use Rattle.kd_tree.specs.Asked.{searchOf, slotAt, Range}
+use Rattle.query_words.specs.Asked.{searchOf, slotAt, Range}
 use Rattle.kd_tree.specs.Rooted.{Rooted}
-use Rattle.kd_tree.specs.declared.query.Search.{Search}
-use Rattle.kd_tree.specs.declared.query.Search.the-variants.{Contained, Reducer, High, Low, Singular}
+use Rattle.query_words.specs.declared.Search.{Search}
+use Rattle.query_words.specs.declared.Search.the-variants.{Contained, Reducer, High, Low, Singular}
 
 -- ---- what is searched for
 -- lms are to divide, or else signature monomials

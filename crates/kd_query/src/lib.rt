@@ -5,8 +5,8 @@ pub mod writing;
 
 use index_image::Shape;
 use index_image::stored;
-use kd_tree::query;
-use kd_tree::query::Search;
+use query_words as query;
+use query_words::Search;
 ghost use mathlib.Core.Path.{_≡_};
 ghost use Prim.Native.Nat.{_+_, _*_, _<_, _≤_};
 ghost use lib.ListN.{length};
@@ -20,7 +20,7 @@ ghost use Rattle.index_image.specs.Head.{HeadOk};
 ghost use Rattle.index_image.specs.Layout.{Sound};
 ghost use Rattle.index_image.specs.Shape as at;
 ghost use Rattle.index_image.specs.Walk.{mapMaxima};
-ghost use Rattle.kd_tree.specs.Asked.{searchNumber};
+ghost use Rattle.query_words.specs.Asked.{searchNumber};
 ghost use Rattle.kd_query.specs.Posed.{lmDivides, Poses, PosedFor};
 
 // Whether lms are to divide, or else signature monomials.

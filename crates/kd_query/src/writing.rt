@@ -1,7 +1,7 @@
 // The words of a query, written.
 use index_image::Shape;
 use index_image::fields;
-use kd_tree::query;
+use query_words as query;
 ghost use mathlib.Core.Path.{_≡_};
 ghost use mathlib.Core.Bool.{cond};
 ghost use Prim.Native.Nat.{_+_, _*_, _/_, _%_, _<_, _≤_};
@@ -9,7 +9,7 @@ ghost use lib.ListN.{length};
 ghost use mathlib.Core.List.{[], _∷_, _++_};
 ghost use Rattle.words.specs.Words.{pasteW};
 ghost use Rattle.index_image.specs.Shape as at;
-ghost use Rattle.kd_tree.specs.Asked.{slotAt};
+ghost use Rattle.query_words.specs.Asked.{slotAt};
 ghost use Rattle.kd_query.specs.Posed.{maskWords, rangeWords, slotWords, placeWords, shapeWords};
 
 // Writes six words from word `at` on.
