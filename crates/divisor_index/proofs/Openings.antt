@@ -24,7 +24,7 @@ use Rattle.index_image.specs.Layout.{code, header, slot, gcdPowers, gcdOf, node
 use Rattle.index_image.specs.Shape as at
 use Rattle.index_image.specs.declared.Shape.{Shape}
 use Rattle.index_image.proofs.Gcds.{Powers, gcd-none}
-use Rattle.kd_query.proofs.Posing.{six-written}
+use Rattle.query_writing.proofs.Posing.{six-written}
 use Rattle.divisor_index.specs.Ran.{indexKind}
 
 suc-row : (n w : ℕ) → suc n * w ≡ w + n * w
