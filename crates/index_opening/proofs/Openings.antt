@@ -8,7 +8,7 @@ use borrow.Rule.Slice.PartMut.{putMid}
 use Rattle.words.specs.Words.{putW, pasteW}
 use Rattle.words.specs.Tables.{zeros, table}
 use Rattle.words.proofs.Drafts.{lent-back}
-use Rattle.words.proofs.Laws.{pasteW-nil}
+use Rattle.words.proofs.Laws.{pasteW-nil, six-written}
 use Rattle.words.proofs.Tables.{length-zeros, zeros-add, pasteW-append}
 use Rattle.monomial.specs.Sizes.{Sizes}
 use Rattle.divmask.specs.Mask.{mask}
@@ -24,7 +24,6 @@ use Rattle.index_image.specs.Layout.{code, header, slot, gcdPowers, gcdOf, node
 use Rattle.index_image.specs.Shape as at
 use Rattle.index_image.specs.declared.Shape.{Shape}
 use Rattle.index_image.proofs.Gcds.{Powers, gcd-none}
-use Rattle.kd_query.proofs.Posing.{six-written}
 use Rattle.index_opening.specs.Kinds.{indexKind}
 
 suc-row : (n w : ℕ) → suc n * w ≡ w + n * w

@@ -19,7 +19,7 @@ use Rattle.index_image.specs.Head.{HeadOk}
 use Rattle.index_image.specs.Walk.{Ready, label}
 use Rattle.index_image.specs.declared.Shape.{Shape}
 use Rattle.index_image.proofs.Images as image
-use Rattle.kd_tree.specs.Asked.{shapeIn, floorIn, optionOf, lowered, labelAt, Laid}
+use Rattle.query_words.specs.Asked.{shapeIn, floorIn, optionOf, lowered, labelAt, Laid}
 use Rattle.kd_query.specs.Posed.{PosedFor}
 use Rattle.kd_tree.specs.Rooted.{Rooted, RootReady, Answer, Answered}
 use Rattle.listing.specs.Listed.{Root}

@@ -1,6 +1,6 @@
 // From ratio_monomial_index.rs: the calls of a ratio index.
 use index_image::Shape;
-use kd_tree::query;
+use query_words as query;
 ghost use mathlib.Core.Path.{_≡_};
 ghost use mathlib.Core.Logic.{_⊎_};
 ghost use Prim.Native.Nat.{_+_, _%_, _≤_, _<_};

@@ -1,9 +1,9 @@
 -- The five queries of calls, from their parts. Assumes nothing.
-use mathlib.Core.Path.{_≡_, refl, sym, ap, subst, _∙_}
+use mathlib.Core.Path.{_≡_, refl, sym, ap, _∙_}
 use mathlib.Core.List.{List}
-use Prim.Native.Nat.{ℕ, _+_, _-_, _*_, _≤_, _<_}
+use Prim.Native.Nat.{ℕ, _+_, _*_, _≤_}
 use native.Mathlib.Omega.{arith}
-use lib.ListN.{length, take, drop}
+use lib.ListN.{length, take}
 use lib.Seq.{length-take-le}
 use Rattle.words.specs.Words.{words, pasteW}
 use Rattle.words.proofs.Laws.{length-pasteW}
@@ -13,29 +13,23 @@ use Rattle.monomial.proofs.Laws.{canonical-more, canonical-result, length-resul
 use Rattle.monomial.specs.Operations.{result}
 use Rattle.monomial.specs.declared.ordered_ops.Op.{Op}
 use Rattle.fast_compare.specs.Map as map
-use Rattle.fast_compare.specs.Layout as lay
 use Rattle.index_theory.specs.Entries.{quotientOf}
 use Rattle.index_theory.specs.Ranges.{dividend}
 use Rattle.index_theory.specs.Searches.{containment, reducing, high, low, singular}
-use Rattle.index_theory.specs.State.{Kind, monomials, ratioed, State}
-use Rattle.index_image.specs.Door.{labelBytes}
+use Rattle.index_theory.specs.State.{monomials, State}
 use Rattle.index_image.specs.Head.{HeadOk}
-use Rattle.index_image.specs.Layout as layout
-use Rattle.index_image.specs.Layout.{Is, Sound}
-use Rattle.index_image.specs.Shape as at
+use Rattle.index_image.specs.Layout.{Is}
 use Rattle.index_image.specs.declared.Shape.{Shape}
 use Rattle.index_image.proofs.EntryWords.{no-ratio}
-use Rattle.index_image.proofs.Images as of
-use Rattle.index_image.proofs.Labels.{MapIs, is-map}
 use Rattle.index_image.proofs.Reading.{front-pasted}
-use Rattle.index_image.proofs.Shapes.{code-ratio, code-monomial}
+use Rattle.index_image.proofs.Shapes.{code-monomial}
 use Rattle.index_image.proofs.Slots.{MadeAside}
-use Rattle.kd_query.specs.Ended.{Ends, From}
+use Rattle.label_ranges.specs.Ended.{Ends, From}
 use Rattle.kd_query.specs.Posed.{Poses, PosedFor}
-use Rattle.kd_tree.specs.Asked.{searchNumber}
-use Rattle.kd_tree.specs.declared.query.Search.the-variants.{Contained, Reducer, High, Low, Singular}
-use Rattle.kd_query.proofs.Ending.{high-range, reducing-range, low-range, singular-range}
-use Rattle.kd_query.proofs.Standing.{shape-is}
+use Rattle.query_words.specs.Asked.{searchNumber}
+use Rattle.query_words.specs.declared.Search.the-variants.{Contained, Reducer, High, Low, Singular}
+use Rattle.kd_query.proofs.Ranging.{high-range, reducing-range, low-range, singular-range}
+use Rattle.label_ranges.proofs.Lending.{shape-is, kind-of}
 
 -- ---- a ratio made in a scratch
 module _ (m : ℕ) (few : m ≤ 64) (a b : List ℕ) (ca : Canonical 1 m a) (cb : Canonical 1 m b) where
@@ -65,22 +59,6 @@ module _ (bs : List ℕ) (s : Shape) (h : HeadOk (words bs) (length bs) s) where
   plain-of : (st : State) → Is st bs → s .kind ≡ 0 → st .kind ≡ monomials
   plain-of st I k = code-monomial (st .kind) (ap (λ (y : Shape). y .kind) (shape-is bs s h st I) ∙ k)
 
-  kind-of : (st : State) → Is st bs → s .kind ≡ 1 → st .kind ≡ ratioed
-  kind-of st I k = code-ratio (st .kind) (ap (λ (y : Shape). y .kind) (shape-is bs s h st I) ∙ k)
-
-  -- ---- the label map as a part of the image
-  module _ (k : s .kind ≡ 1) (x y : ℕ) (ex : x ≡ at.labelsAt s) (ey : y ≡ at.labelsSize s) where
-    part-is : take (4 * x + 4 * y - 4 * x) (drop (4 * x) bs) ≡ labelBytes bs s
-    part-is = let z : 4 * x + 4 * y - 4 * x ≡ 4 * y = omega arith in rw (z, ex, ey) refl
-
-    pub lent-is : (st : State) → Is st bs → lay.Is (st .labels) (take (4 * x + 4 * y - 4 * x) (drop (4 * x) bs))
-    lent-is st I =
-        let m : MapIs (words bs) s (st .labels) = subst (λ (z : Shape). MapIs (words bs) z (st .labels)) (shape-is bs s h st I) (of.map-is bs st I (kind-of st I k)) in
-        rw part-is (is-map bs s (h .range) (h .room) k (st .labels) m)
-
-    pub lent-sound : Sound bs → lay.Sound (take (4 * x + 4 * y - 4 * x) (drop (4 * x) bs))
-    lent-sound S = record { state = S .state .labels; is = lent-is (S .state) (S .is) }
-
   -- ---- the queries
   module _ (ms Q : List ℕ) where
     pub contained-posed : s .kind ≡ 0 → Poses bs ms (searchNumber Contained) 0 0 0 Q → PosedFor bs ms (containment (words ms)) Q
@@ -92,26 +70,26 @@ module _ (bs : List ℕ) (s : Shape) (h : HeadOk (words bs) (length bs) s) where
           → PosedFor bs ms (reducing v (words ms)) Q
       unfolding PosedFor Poses searchNumber dividend
       reducer-posed v up down E P st I =
-          let r = kind-of st I k in
+          let r = kind-of bs s h st I k in
           P st (reducing v (words ms)) I r refl refl (λ _. reducing-range st (I .valid) r v up down (E st I) (words ms))
 
       pub high-posed : (v : map.Value) (up down floor : ℕ) → ((st : State) → Is st bs → Ends (st .labels) v up down)
           → Poses bs ms (searchNumber High) up 4294967296 floor Q → PosedFor bs ms (high v (words ms)) Q
       unfolding PosedFor Poses searchNumber dividend
       high-posed v up down floor E P st I =
-          let r = kind-of st I k in
+          let r = kind-of bs s h st I k in
           P st (high v (words ms)) I r refl refl (λ _. high-range st (I .valid) r v up down (E st I) (words ms) floor)
 
       pub low-posed : (i from to floor : ℕ) → ((st : State) → Is st bs → From (st .labels) i from) → ((st : State) → Is st bs → From (st .labels) (i + 1) to)
           → Poses bs ms (searchNumber Low) from to floor Q → PosedFor bs ms (low i (words ms)) Q
       unfolding PosedFor Poses searchNumber dividend
       low-posed i from to floor F T P st I =
-          let r = kind-of st I k in
+          let r = kind-of bs s h st I k in
           P st (low i (words ms)) I r refl refl (λ _. low-range st (I .valid) r (words ms) i from to floor (F st I) (T st I))
 
       pub singular-posed : (i : ℕ) (rs l : List ℕ) (up down to floor : ℕ) → rs ≡ result Op.Ratio (words ms) l → ((st : State) → Is st bs → Ends (st .labels) (map.valueOf i rs) up down)
           → ((st : State) → Is st bs → From (st .labels) (i + 1) to) → Poses bs ms (searchNumber Singular) up to floor Q → PosedFor bs ms (singular i (words ms) l) Q
       unfolding PosedFor Poses searchNumber dividend quotientOf
       singular-posed i rs l up down to floor e E T P st I =
-          let r = kind-of st I k in
+          let r = kind-of bs s h st I k in
           P st (singular i (words ms) l) I r refl refl (λ _. singular-range st (I .valid) r i (words ms) l up down to floor (rw e at (E st I)) (T st I))

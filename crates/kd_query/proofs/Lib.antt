@@ -1,6 +1,3 @@
-pub mod Indexing
-pub mod Ending
-pub mod Limiting
-pub mod Posing
+pub mod Ranging
 pub mod Standing
 pub mod Calling

@@ -1,6 +1,6 @@
 -- The words of a query read off again, and the request that they stand for. Assumes nothing.
 use mathlib.Core.Path.{_≡_, refl, sym, ap, subst, _∙_}
-use mathlib.Core.Bool.{Bool, true, false, cond}
+use mathlib.Core.Bool.{Bool, cond}
 use mathlib.Core.List.{List, [], _∷_, _++_}
 use Prim.Native.Nat.{ℕ, _+_, _*_, _/_, _%_, _^_, _≤_, _<_}
 use native.Mathlib.Omega.{arith}
@@ -20,18 +20,18 @@ use Rattle.index_theory.specs.Ranges.{dividend, byLm, limitOf}
 use Rattle.index_theory.specs.Searches.{Query, containment, reducing, high, low, singular, kindFor}
 use Rattle.index_theory.specs.State.{ratioed, State}
 use Rattle.index_image.specs.Head.{HeadOk}
-use Rattle.index_image.specs.Layout.{shapeOf, Is, Sound}
+use Rattle.index_image.specs.Layout.{Is}
 use Rattle.index_image.specs.Shape as at
 use Rattle.index_image.specs.Walk.{mapMaxima}
 use Rattle.index_image.specs.declared.Shape.{Shape}
-use Rattle.index_image.proofs.Heads.{same-shape}
 use Rattle.index_image.proofs.Images as of
-use Rattle.kd_tree.specs.Asked.{searchNumber, shapeIn, searchOf, slotAt, Range, Laid, Asks}
-use Rattle.kd_tree.specs.Rooted.{Rooted}
-use Rattle.kd_query.specs.Posed.{lmDivides, limitFor, Limited, maskWords, rangeWords, slotWords, placeWords, shapeWords, Poses}
-use Rattle.kd_tree.specs.declared.query.Search.{Search}
-use Rattle.kd_tree.specs.declared.query.Search.the-variants.{Contained, Reducer, High, Low, Singular}
-use Rattle.kd_query.proofs.Posing.{node-small, slot-small, laid}
+use Rattle.query_words.specs.Asked.{searchNumber, searchOf, slotAt, Range, Laid, Asks}
+use Rattle.kd_query.specs.Posed.{lmDivides, Poses}
+use Rattle.query_writing.specs.Written.{limitFor, Limited, maskWords, rangeWords, slotWords, placeWords, shapeWords}
+use Rattle.query_words.specs.declared.Search.{Search}
+use Rattle.query_words.specs.declared.Search.the-variants.{Contained, Reducer, High, Low, Singular}
+use Rattle.query_writing.proofs.Posing.{node-small, slot-small, laid}
+use Rattle.label_ranges.proofs.Lending.{shape-is}
 
 -- ---- the words, in their order
 -- what the words Q say, where those of the limits are as in Q₁
@@ -153,14 +153,11 @@ limit-of r v = refl
 
 -- ---- what an image tells
 module _ (bs : List ℕ) (s : Shape) (h : HeadOk (words bs) (length bs) s) (st : State) (I : Is st bs) where
-  pub shape-is : shapeOf st ≡ s
-  shape-is = same-shape (words bs) (length bs) (shapeOf st) s (of.head-ok bs st I) h
-
   pub vars-is : st .variables ≡ s .variables
-  vars-is = ap (λ (y : Shape). y .variables) shape-is
+  vars-is = ap (λ (y : Shape). y .variables) (shape-is bs s h st I)
 
   pub map-is : mapMaxima (words bs) s ≡ st .mapMaxima
-  map-is = ap (mapMaxima (words bs)) (sym shape-is) ∙ of.pieces bs st I .map
+  map-is = ap (mapMaxima (words bs)) (sym (shape-is bs s h st I)) ∙ of.pieces bs st I .map
 
   pub map-good : Maxima (s .variables) (mapMaxima (words bs) s)
   map-good = rw (map-is, ← vars-is) (I .valid .map-good)

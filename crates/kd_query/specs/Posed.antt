@@ -1,21 +1,17 @@
--- The words of a query by what is asked, as they are written. Assumes nothing.
+-- What the words of a query stand for. Assumes nothing.
 use mathlib.Core.Path.{_≡_}
-use mathlib.Core.Bool.{Bool, true, false, cond, _&&_}
-use mathlib.Core.List.{List, [], _∷_}
-use Prim.Native.Nat.{ℕ, _+_, _/_, _%_, _<_}
-use lib.ListN.{getD}
+use mathlib.Core.Bool.{Bool, true, false}
+use mathlib.Core.List.{List}
+use Prim.Native.Nat.{ℕ}
 use Rattle.words.specs.Words.{words}
-use Rattle.monomial.specs.Monomial.{pow}
 use Rattle.index_theory.specs.Ranges.{dividend}
-use Rattle.index_theory.specs.Searches.{Query, kindFor, dense}
+use Rattle.index_theory.specs.Searches.{Query, kindFor}
 use Rattle.index_theory.specs.State.{ratioed, State}
 use Rattle.index_image.specs.Layout.{Is}
-use Rattle.index_image.specs.Shape as at
-use Rattle.index_image.specs.declared.Shape.{Shape}
-use Rattle.kd_tree.specs.Asked.{searchOf, slotAt, Range}
+use Rattle.query_words.specs.Asked.{searchOf, Range}
 use Rattle.kd_tree.specs.Rooted.{Rooted}
-use Rattle.kd_tree.specs.declared.query.Search.{Search}
-use Rattle.kd_tree.specs.declared.query.Search.the-variants.{Contained, Reducer, High, Low, Singular}
+use Rattle.query_words.specs.declared.Search.{Search}
+use Rattle.query_words.specs.declared.Search.the-variants.{Contained, Reducer, High, Low, Singular}
 
 -- ---- what is searched for
 -- lms are to divide, or else signature monomials
@@ -25,36 +21,6 @@ lmDivides Reducer = true
 lmDivides High = true
 lmDivides Low = false
 lmDivides Singular = false
-
--- ---- limits
--- the largest key of variable v whose other side may have a divisor of q; lms are to divide, or else signature monomials
-unfoldable pub limitFor : Bool → List ℕ → ℕ → ℕ
-limitFor lm q v = cond (lm && dense q v) (pow 1 q v) 4294967295
-
--- each variable has its limit at the tag of its branches
-pub record Limited (Q : List ℕ) (s : Shape) (limit : ℕ → ℕ) : Type 0 where
-  pub each : (v : ℕ) → v < s .variables → getD Q (1 + s .kind + v) 0 ≡ limit v
-
--- ---- the other words, in the order of their places
--- the search's number, mask and short exponent vector of the monomial to be divided, and the mask for nodes
-unfoldable pub maskWords : ℕ → Bool → ℕ → ℕ → List ℕ
-maskWords search lm mask vector = search ∷ 0 ∷ mask ∷ vector ∷ cond lm mask 4294967295 ∷ 0 ∷ []
-
--- a range of labels, each end in two words
-unfoldable pub rangeWords : ℕ → ℕ → ℕ → List ℕ
-rangeWords from to floor =
-    from % 4294967296 ∷ from / 4294967296 ∷ to % 4294967296 ∷ to / 4294967296 ∷ floor % 4294967296 ∷ floor / 4294967296 ∷ []
-
--- where the divisor of entry 0 and its mask stand
-unfoldable pub slotWords : Shape → Bool → List ℕ
-slotWords s lm = slotAt s lm 0 ∷ at.maskAt (s .variables) (slotAt s lm 0) ∷ []
-
--- by the shape: where tables stand, and the label of row 0 with the shape
-unfoldable pub placeWords : Shape → List ℕ
-placeWords s = at.nodeAt s 0 ∷ at.nodeWidth (s .variables) ∷ at.permutationAt s ∷ at.entryWidth s ∷ at.rowAt s 0 ∷ (s .variables + 3) ∷ []
-
-unfoldable pub shapeWords : Shape → List ℕ
-shapeWords s = at.labelAt s 0 ∷ s .kind ∷ s .variables ∷ s .capacity ∷ s .entries ∷ s .nodes ∷ []
 
 -- ---- what the words are made for
 -- with the image bs and the monomial ms, the words Q stand for every request of the search's number that has this range of labels

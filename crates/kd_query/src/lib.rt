@@ -1,12 +1,8 @@
 // From the parts of a call to the words of a query, which `kd_tree::find` reads.
-pub mod limits;
-pub mod ranges;
-pub mod writing;
-
 use index_image::Shape;
 use index_image::stored;
-use kd_tree::query;
-use kd_tree::query::Search;
+use query_words as query;
+use query_words::Search;
 ghost use mathlib.Core.Path.{_≡_};
 ghost use Prim.Native.Nat.{_+_, _*_, _<_, _≤_};
 ghost use lib.ListN.{length};
@@ -20,7 +16,7 @@ ghost use Rattle.index_image.specs.Head.{HeadOk};
 ghost use Rattle.index_image.specs.Layout.{Sound};
 ghost use Rattle.index_image.specs.Shape as at;
 ghost use Rattle.index_image.specs.Walk.{mapMaxima};
-ghost use Rattle.kd_tree.specs.Asked.{searchNumber};
+ghost use Rattle.query_words.specs.Asked.{searchNumber};
 ghost use Rattle.kd_query.specs.Posed.{lmDivides, Poses, PosedFor};
 
 // Whether lms are to divide, or else signature monomials.
@@ -55,11 +51,11 @@ pub fn pose(
     ensures { λ _. ⌜ Poses (now (image .entry)) (now (m .entry)) (searchNumber search) from to floor (words (now (q .exit))) ⌝ }
 {
     let lm = by_lm(search);
-    limits::limit(q, s, lm, m);
-    writing::put_masks(q, query::number(search), lm, stored::masks_of(image, s, m));
-    writing::put_range(q, from, to, floor);
-    writing::put_slot(q, s, lm);
-    writing::lay(q, s);
+    query_writing::limits::limit(q, s, lm, m);
+    query_writing::put_masks(q, query::number(search), lm, stored::masks_of(image, s, m));
+    query_writing::put_range(q, from, to, floor);
+    query_writing::put_slot(q, s, lm);
+    query_writing::lay(q, s);
 }
 
 // The query of call 1: some monomial divides m.
@@ -84,7 +80,7 @@ pub fn reducer(image: &[u8], s: Shape, q: &mut [u8], index: u32, ratio: &[u8], m
     requires { ⌜ Canonical 1 (s .variables) (words (now m)) ⌝ }
     ensures { λ _. ⌜ PosedFor (now (image .entry)) (now (m .entry)) (reducing (valueOf index (words (now (ratio .entry)))) (words (now (m .entry)))) (words (now (q .exit))) ⌝ }
 {
-    let e = ranges::ends_of(image, s, index, ratio);
+    let e = label_ranges::ends_of(image, s, index, ratio);
     pose(image, s, q, m, Search::Reducer, 0, e.above, e.below);
 }
 
@@ -98,7 +94,7 @@ pub fn high(image: &[u8], s: Shape, q: &mut [u8], index: u32, ratio: &[u8], m: &
     requires { ⌜ Canonical 1 (s .variables) (words (now m)) ⌝ }
     ensures { λ _. ⌜ PosedFor (now (image .entry)) (now (m .entry)) (high (valueOf index (words (now (ratio .entry)))) (words (now (m .entry)))) (words (now (q .exit))) ⌝ }
 {
-    let e = ranges::ends_of(image, s, index, ratio);
+    let e = label_ranges::ends_of(image, s, index, ratio);
     pose(image, s, q, m, Search::High, e.above, 4294967296, 0);
 }
 
@@ -112,8 +108,8 @@ pub fn low(image: &[u8], s: Shape, q: &mut [u8], index: u32, m: &[u8])
     requires { ⌜ Canonical 1 (s .variables) (words (now m)) ⌝ }
     ensures { λ _. ⌜ PosedFor (now (image .entry)) (now (m .entry)) (low index (words (now (m .entry)))) (words (now (q .exit))) ⌝ }
 {
-    let from = ranges::from_of(image, s, index);
-    let to = ranges::from_of(image, s, index + 1);
+    let from = label_ranges::from_of(image, s, index);
+    let to = label_ranges::from_of(image, s, index + 1);
     pose(image, s, q, m, Search::Low, from, to, 0);
 }
 
@@ -139,7 +135,7 @@ pub fn singular(
 {
     let n = monomial::fraction_division(m, lm, scratch);
     let e = 4 * n;
-    let ends = ranges::ends_of(image, s, index, &scratch[..e]);
-    let next = ranges::from_of(image, s, index + 1);
+    let ends = label_ranges::ends_of(image, s, index, &scratch[..e]);
+    let next = label_ranges::from_of(image, s, index + 1);
     pose(image, s, q, m, Search::Singular, ends.above, next, 0);
 }

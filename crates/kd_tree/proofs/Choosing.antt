@@ -14,7 +14,8 @@ use Rattle.words.proofs.Laws.{length-words}
 use Rattle.monomial.specs.Monomial.{pow}
 use Rattle.monomial.specs.Operations.{allBelow}
 use Rattle.monomial.proofs.Divisions.{all-true, all-each}
-use Rattle.divmask.specs.Mask.{mask, bit, within}
+use Rattle.divmask.specs.Mask.{mask, bit, within, tested}
+use Rattle.divmask.specs.declared.DivMaskTestResult.the-variants.{NotDivisible, Unsure}
 use Rattle.fast_compare.specs.Map as map
 use Rattle.kd_theory.specs.Tree.{Tree, branch, inorder, nodes}
 use Rattle.index_theory.specs.Entries.{Entry, entryAt, ratioOf}
@@ -33,8 +34,25 @@ use Rattle.kd_split.specs.HasTree.{HasTree}
 use Rattle.kd_split.proofs.Standing.{based, node-next, row-inside}
 use Rattle.kd_split.proofs.Becoming.{parts}
 use Rattle.kd_split.proofs.Reading.{kind-one, label-of-entry, holds-ready}
-use Rattle.kd_tree.specs.Asked.{nodeMaskIn, maskIn, limitIn, fromIn, toIn, labelAt, Asks}
+use Rattle.query_words.specs.Asked.{nodeMaskIn, maskIn, limitIn, fromIn, toIn, labelAt, Asks}
 use Rattle.kd_tree.specs.Searched.{ReadyBranch, SidesAre, Chosen}
+
+-- ---- masks
+pub not-within : (a b : ℕ) → NotDivisible ≡ tested a b → within a b ≡ false
+unfolding tested
+not-within a b e = go (within a b) e
+  where
+    go : (c : Bool) → NotDivisible ≡ cond c Unsure NotDivisible → c ≡ false
+    go true e = absurd (let z : _≡_ {A = ℕ} 0 1 = cc in omega arith)
+    go false e = refl
+
+pub is-within : (a b : ℕ) → Unsure ≡ tested a b → within a b ≡ true
+unfolding tested
+is-within a b e = go (within a b) e
+  where
+    go : (c : Bool) → Unsure ≡ cond c Unsure NotDivisible → c ≡ true
+    go true e = refl
+    go false e = absurd (let z : _≡_ {A = ℕ} 0 1 = cc in omega arith)
 
 -- ---- the dimension of a branch, and its key
 pub record DimIs (s : Shape) (d key : ℕ) : Type 0 where

@@ -1,7 +1,4 @@
-pub mod Laying
-pub mod Packing
-pub mod Counting
-pub mod Scanning
+pub mod Leaves
 pub mod Choosing
 pub mod Visiting
 pub mod Rooting

@@ -29,7 +29,7 @@ use Rattle.index_image.proofs.Lengths.{valid-fits}
 use Rattle.kd_split.specs.HasTree.{HasTree, Became}
 use Rattle.kd_split.proofs.Standing.{part-same, part-kept}
 use Rattle.kd_split.proofs.Becoming.{put-rest, tree-became}
-use Rattle.kd_tree.specs.Asked.{shapeIn, optionOf, Asks}
+use Rattle.query_words.specs.Asked.{shapeIn, optionOf, Asks}
 use Rattle.kd_tree.specs.Searched.{searchFrom, Ready, Found, Searched}
 use Rattle.kd_tree.specs.Rooted.{Rooted, RootReady, Answer, Answered}
 use Rattle.kd_tree.proofs.Visiting.{search-kept}

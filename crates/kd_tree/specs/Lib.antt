@@ -1,4 +1,2 @@
-pub mod Asked
 pub mod Searched
-pub mod Counted
 pub mod Rooted

@@ -1,32 +1,20 @@
 -- What the members of the search cycle ask and promise. Assumes nothing.
 use mathlib.Core.Path.{_≡_}
-use mathlib.Core.Bool.{Bool, true, cond}
+use mathlib.Core.Bool.{Bool}
 use mathlib.Core.Option.{Option}
 use mathlib.Core.List.{List, _++_}
-use Prim.Native.Nat.{ℕ, zero, suc, _+_, _/_, _%_, _≤_, _<_}
-use lib.Dec.{eqb}
-use lib.ListN.{length, getD}
+use Prim.Native.Nat.{ℕ, suc, _+_, _≤_}
+use lib.ListN.{getD}
 use Rattle.words.specs.Words.{words, putW}
-use Rattle.kd_theory.specs.Bag.{Step, foldUntil}
-use Rattle.kd_theory.specs.Tree.{Tree, leaf, branch, inorder, goesLess, goesOther, visit, searchAt, start}
+use Rattle.kd_theory.specs.Tree.{Tree, leaf, branch, inorder, goesLess, goesOther, visit, searchAt}
 use Rattle.kd_theory.specs.Tree as tree
 use Rattle.index_theory.specs.State.{State}
 use Rattle.index_theory.specs.Searches.{Query, path, process, split}
 use Rattle.index_image.specs.Shape as at
-use Rattle.index_image.specs.Rows.{entriesFrom}
 use Rattle.index_image.specs.declared.Shape.{Shape}
-use Rattle.kd_split.specs.HasTree.{Holds, HasTree, Became}
-use Rattle.kd_tree.specs.Asked.{optionOf, Asks}
-
--- ---- what a search has come to, in one number: the rows in use, what was found, and whether to go on
-unfoldable pub rowsOf : ℕ → ℕ
-rowsOf acc = acc / 16384
-
-unfoldable pub bestOf : ℕ → ℕ
-bestOf acc = acc % 16384 / 2
-
-unfoldable pub onOf : ℕ → Bool
-onOf acc = eqb (acc % 2) 1
+use Rattle.kd_split.specs.HasTree.{HasTree, Became}
+use Rattle.query_words.specs.Asked.{optionOf, Asks}
+use Rattle.kd_leaf.specs.Visited.{Stepped}
 
 -- ---- the theory's search at a node, and of a branch
 abbrev pub searchFrom : State → Query → ℕ → Tree → Option ℕ → tree.Out (Option ℕ)
@@ -63,15 +51,6 @@ pub record ReadyLeaf (bs ms : List ℕ) (s : Shape) (Q : List ℕ) (k lo rows be
   pub has : HasTree state (words bs) s k lo rows (leaf es)
   pub small : best ≤ s .entries
 
--- the tables stand, and c entries from place lo on
-pub record ReadyEntries (bs ms : List ℕ) (s : Shape) (Q : List ℕ) (lo c best : ℕ) : Type 0 where
-  pub state : State
-  pub request : Query
-  pub asks : Asks state request ms s Q
-  pub holds : Holds state (words bs) s
-  pub inside : lo + c ≤ s .entries
-  pub small : best ≤ s .entries
-
 -- ---- what is promised, for whatever tree stood there
 pub record Found (st : State) (bs bs′ : List ℕ) (s : Shape) (k lo rows : ℕ) (t : Tree) (o : tree.Out (Option ℕ)) (best : ℕ) (on : Bool) (rows′ : ℕ) : Type 0 where
   pub became : Became st bs bs′ s k lo rows rows′ t (o .tree)
@@ -89,18 +68,9 @@ Branched bs bs′ ms s Q k lo rows best best′ on rows′ =
     (st : State) (r : Query) (d key : ℕ) (a b : Tree) → Asks st r ms s Q → HasTree st (words bs) s k lo rows (branch d key a b)
     → Found st bs bs′ s k lo rows (branch d key a b) (visitOf st r (branch d key a b) (optionOf best)) best′ on rows′
 
--- entries are visited, one after the other
-pub record Stepped (st : State) (r : Query) (s : Shape) (es : List ℕ) (best best′ : ℕ) (on : Bool) : Type 0 where
-  pub is : record { acc = optionOf best′; on = on } ≡ foldUntil (process (st .entries) r) (start (optionOf best)) es
-  pub small : best′ ≤ s .entries
-
 -- those of a leaf
 unfoldable pub Scanned : (bs ms : List ℕ) (s : Shape) (Q : List ℕ) (k lo rows best best′ : ℕ) (on : Bool) → Type 0
 Scanned bs ms s Q k lo rows best best′ on = (st : State) (r : Query) (es : List ℕ) → Asks st r ms s Q → HasTree st (words bs) s k lo rows (leaf es) → Stepped st r s es best best′ on
-
--- the c entries from place lo on
-unfoldable pub Visited : (bs ms : List ℕ) (s : Shape) (Q : List ℕ) (lo c best best′ : ℕ) (on : Bool) → Type 0
-Visited bs ms s Q lo c best best′ on = (st : State) (r : Query) → Asks st r ms s Q → Holds st (words bs) s → Stepped st r s (entriesFrom (words bs) s lo c) best best′ on
 
 -- which sides of a branch are visited, and the dimension that is tried first there
 pub record SidesAre (st : State) (r : Query) (d key : ℕ) (es : List ℕ) (less other : Bool) (next : ℕ) : Type 0 where

@@ -1,10 +1,8 @@
 // The k-d tree in the image of an index: searched in place, its long leaves split as they are searched.
-pub mod leaf;
-pub mod query;
-pub mod step;
-
 use divmask::DivMaskTestResult;
 use index_image::fields;
+use kd_leaf::step;
+use query_words as query;
 ghost use mathlib.Core.Path.{_≡_};
 ghost use mathlib.Core.Bool.{true};
 ghost use Prim.Native.Nat.{ℕ, _+_, _*_, _<_, _≤_};
@@ -13,8 +11,9 @@ ghost use Rattle.words.specs.Words.{words};
 ghost use Rattle.divmask.specs.Mask.{within};
 ghost use Rattle.index_image.specs.Shape as at;
 ghost use Rattle.kd_split.specs.Split.{Standing, RootSplit};
-ghost use Rattle.kd_tree.specs.Asked.{shapeIn, nodeMaskIn, Laid};
-ghost use Rattle.kd_tree.specs.Searched.{rowsOf, bestOf, onOf, Ready, ReadyBranch, ReadyLeaf, Searched, Branched, Scanned, Chosen, Grew};
+ghost use Rattle.query_words.specs.Asked.{shapeIn, nodeMaskIn, Laid};
+ghost use Rattle.kd_leaf.specs.Packed.{rowsOf, bestOf, onOf};
+ghost use Rattle.kd_tree.specs.Searched.{Ready, ReadyBranch, ReadyLeaf, Searched, Branched, Scanned, Chosen, Grew};
 ghost use Rattle.kd_tree.specs.Rooted.{RootReady, Answered};
 
 // Which sides of a branch a search visits, and the dimension that is tried first there.
@@ -116,7 +115,7 @@ fn scan(image: &[u8], q: &[u8], m: &[u8], k: usize, lo: usize, acc: u64) -> u64
     ensures { λ r. ⌜ Scanned (now (image .entry)) (now (m .entry)) (shapeIn (words (now (q .entry)))) (words (now (q .entry))) k lo (rowsOf acc) (bestOf acc) (bestOf r) (onOf r) × (rowsOf r ≡ rowsOf acc) ⌝ }
 {
     let c = words::get(image, query::node_at(q, k) + fields::COUNT) as usize;
-    leaf::search(image, q, m, lo, c, acc)
+    kd_leaf::search(image, q, m, lo, c, acc)
 }
 
 // Searches the tree at row k, whose entries start at place lo. Dimensions are tried from `dim` on.

@@ -225,6 +225,18 @@ pub putW-paste : (bs : List ℕ) (i w : ℕ) → 4 * i + 4 ≤ length bs → put
 putW-paste bs i w h =
     ap (λ (l : List ℕ). putW l i w) (sym (pasteW-nil bs i)) ∙ pasteW-snoc bs i [] i w (omega arith) h
 
+-- six words put one behind the other
+pub six-written : (b₀ b₁ b₂ b₃ b₄ b₅ b₆ : List ℕ) (i a b c d e f : ℕ) → 4 * (i + 6) ≤ length b₀ → b₁ ≡ putW b₀ i a → b₂ ≡ putW b₁ (i + 1) b
+    → b₃ ≡ putW b₂ (i + 2) c → b₄ ≡ putW b₃ (i + 3) d → b₅ ≡ putW b₄ (i + 4) e → b₆ ≡ putW b₅ (i + 5) f
+    → b₆ ≡ pasteW b₀ i (a ∷ b ∷ c ∷ d ∷ e ∷ f ∷ [])
+six-written b₀ b₁ b₂ b₃ b₄ b₅ b₆ i a b c d e f room e₁ e₂ e₃ e₄ e₅ e₆ =
+    let p₁ : b₁ ≡ pasteW b₀ i (a ∷ []) = e₁ ∙ putW-paste b₀ i a (omega arith) in
+    let p₂ : b₂ ≡ pasteW b₀ i (a ∷ b ∷ []) = e₂ ∙ rw p₁ (pasteW-snoc b₀ i (a ∷ []) (i + 1) b (omega arith) (omega arith)) in
+    let p₃ : b₃ ≡ pasteW b₀ i (a ∷ b ∷ c ∷ []) = e₃ ∙ rw p₂ (pasteW-snoc b₀ i (a ∷ b ∷ []) (i + 2) c (omega arith) (omega arith)) in
+    let p₄ : b₄ ≡ pasteW b₀ i (a ∷ b ∷ c ∷ d ∷ []) = e₄ ∙ rw p₃ (pasteW-snoc b₀ i (a ∷ b ∷ c ∷ []) (i + 3) d (omega arith) (omega arith)) in
+    let p₅ : b₅ ≡ pasteW b₀ i (a ∷ b ∷ c ∷ d ∷ e ∷ []) = e₅ ∙ rw p₄ (pasteW-snoc b₀ i (a ∷ b ∷ c ∷ d ∷ []) (i + 4) e (omega arith) (omega arith)) in
+    e₆ ∙ rw p₅ (pasteW-snoc b₀ i (a ∷ b ∷ c ∷ d ∷ e ∷ []) (i + 5) f (omega arith) (omega arith))
+
 -- the words that were pasted at the front, and the bytes behind them
 pub pasteW-front : (bs ws : List ℕ) → pasteW bs 0 ws ≡ bytes ws ++ drop (4 * length ws) bs
 unfolding pasteW

@@ -7,7 +7,7 @@ use Rattle.kd_query.proofs.high.Tie as tie
 use Rattle.kd_query.proofs.high.Reads as reads
 use Rattle.kd_query.proofs.high.Lts as lts
 use Rattle.kd_query.proofs.pose.Reads as pose-reads
-use Rattle.kd_query.proofs.ranges.ends_of.Reads as ends-of-reads
+use Rattle.label_ranges.proofs.ends_of.Reads as ends-of-reads
 
 ends-of-requires : tie.Need-ends-of-requires
 ends-of-requires c κs = search needs

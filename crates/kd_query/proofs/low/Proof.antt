@@ -5,7 +5,7 @@ use Rattle.kd_query.proofs.low.Tie as tie
 use Rattle.kd_query.proofs.low.Reads as reads
 use Rattle.kd_query.proofs.low.Lts as lts
 use Rattle.kd_query.proofs.pose.Reads as pose-reads
-use Rattle.kd_query.proofs.ranges.from_of.Reads as from-of-reads
+use Rattle.label_ranges.proofs.from_of.Reads as from-of-reads
 
 from-of-requires : tie.Need-from-of-requires
 from-of-requires c κs = search needs

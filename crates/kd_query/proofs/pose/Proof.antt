@@ -6,13 +6,13 @@ use Rattle.kd_query.proofs.pose.Tie as tie
 use Rattle.kd_query.proofs.pose.Reads as reads
 use Rattle.kd_query.proofs.pose.Lts as lts
 use Rattle.kd_query.proofs.by_lm.Reads as by-lm-reads
-use Rattle.kd_query.proofs.limits.limit.Reads as limit-reads
+use Rattle.query_writing.proofs.limits.limit.Reads as limit-reads
 use Rattle.index_image.proofs.stored.masks_of.Reads as masks-of-reads
-use Rattle.kd_tree.proofs.query.number.Reads as number-reads
-use Rattle.kd_query.proofs.writing.lay.Reads as lay-reads
-use Rattle.kd_query.proofs.writing.put_masks.Reads as put-masks-reads
-use Rattle.kd_query.proofs.writing.put_range.Reads as put-range-reads
-use Rattle.kd_query.proofs.writing.put_slot.Reads as put-slot-reads
+use Rattle.query_words.proofs.number.Reads as number-reads
+use Rattle.query_writing.proofs.lay.Reads as lay-reads
+use Rattle.query_writing.proofs.put_masks.Reads as put-masks-reads
+use Rattle.query_writing.proofs.put_range.Reads as put-range-reads
+use Rattle.query_writing.proofs.put_slot.Reads as put-slot-reads
 
 by-lm-requires : tie.Need-by-lm-requires
 by-lm-requires c κs = search needs

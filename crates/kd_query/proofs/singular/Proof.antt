@@ -11,8 +11,8 @@ use Rattle.kd_query.proofs.singular.Tie as tie
 use Rattle.kd_query.proofs.singular.Reads as reads
 use Rattle.kd_query.proofs.singular.Lts as lts
 use Rattle.kd_query.proofs.pose.Reads as pose-reads
-use Rattle.kd_query.proofs.ranges.ends_of.Reads as ends-of-reads
-use Rattle.kd_query.proofs.ranges.from_of.Reads as from-of-reads
+use Rattle.label_ranges.proofs.ends_of.Reads as ends-of-reads
+use Rattle.label_ranges.proofs.from_of.Reads as from-of-reads
 use Rattle.monomial.proofs.fraction_division.Reads as fraction-division-reads
 
 -- the ratio in the scratch

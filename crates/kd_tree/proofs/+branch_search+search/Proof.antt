@@ -4,7 +4,7 @@ use mathlib.Core.Path.{refl, sym, _∙_}
 use lib.ListN.{length, getD}
 use Rattle.words.specs.Words.{words}
 use Rattle.index_image.specs.Shape as at
-use Rattle.kd_tree.specs.Asked.{shapeIn}
+use Rattle.query_words.specs.Asked.{shapeIn}
 use Rattle.kd_tree.proofs.Visiting.{taken, passed, standing, scan-ready, scan-done, branch-ready, branch-done, branch-falls, few-rows, less-ready, next-small, less-falls, numbers, growing, halfway, skipped, skip-fits, ret-neither, ret-stopped, ret-cut, other-ready, other-place, other-falls, ret-other}
 use Prim.Native.Nat.{ℕ, _<_, _+_, _*_}
 use borrow.Fn.Kinds.{In}
@@ -19,9 +19,9 @@ use Rattle.kd_tree.proofs.grow.Reads as grow-reads
 use Rattle.kd_tree.proofs.open_node.Reads as open-node-reads
 use Rattle.kd_tree.proofs.path_at.Reads as path-at-reads
 use Rattle.kd_tree.proofs.scan.Reads as scan-reads
-use Rattle.kd_tree.proofs.step.goes_on.Reads as goes-on-reads
-use Rattle.kd_tree.proofs.step.rows.Reads as rows-reads
-use Rattle.kd_tree.proofs.step.with_rows.Reads as with-rows-reads
+use Rattle.kd_leaf.proofs.step.goes_on.Reads as goes-on-reads
+use Rattle.kd_leaf.proofs.step.rows.Reads as rows-reads
+use Rattle.kd_leaf.proofs.step.with_rows.Reads as with-rows-reads
 use Rattle.kd_tree.proofs.+branch_search+search.{statement}
 use Rattle.kd_tree.proofs.+branch_search+search.Tie.{close}
 

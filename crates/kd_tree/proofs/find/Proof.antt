@@ -1,4 +1,4 @@
-use Rattle.kd_tree.proofs.Laying.{query-long, nodes-is}
+use Rattle.query_words.proofs.Laying.{query-long, nodes-is}
 use Rattle.kd_tree.proofs.Rooting.{root-ready, root-rows, root-numbers, root-answered}
 use Rattle.words.specs.Words.{words}
 use mathlib.Core.Path.{_≡_, refl, sym, ap, _∙_}
@@ -8,11 +8,11 @@ use Rattle.kd_tree.proofs.find.Statement.{statement}
 use Rattle.kd_tree.proofs.find.Tie as tie
 use Rattle.kd_tree.proofs.find.Reads as reads
 use Rattle.kd_tree.proofs.find.Lts as lts
-use Rattle.kd_tree.proofs.query.num.Reads as num-reads
+use Rattle.query_words.proofs.num.Reads as num-reads
 use Rattle.kd_tree.proofs.search_root.Reads as search-root-reads
-use Rattle.kd_tree.proofs.step.best.Reads as best-reads
-use Rattle.kd_tree.proofs.step.first.Reads as first-reads
-use Rattle.kd_tree.proofs.step.rows.Reads as rows-reads
+use Rattle.kd_leaf.proofs.step.best.Reads as best-reads
+use Rattle.kd_leaf.proofs.step.first.Reads as first-reads
+use Rattle.kd_leaf.proofs.step.rows.Reads as rows-reads
 use Rattle.words.proofs.put.Reads as put-reads
 
 num-requires : tie.Need-num-requires

@@ -1,13 +1,14 @@
 use native.Mathlib.Omega.{arith}
 use mathlib.Core.Path.{_≡_, refl, sym, ap, _∙_}
-use Rattle.kd_tree.proofs.Laying.{query-long, node-word, grew}
+use Rattle.query_words.proofs.Laying.{query-long, node-word}
+use Rattle.kd_tree.proofs.Visiting.{grew}
 use borrow.Author.Needs.{needs}
 use Rattle.kd_tree.proofs.grow.Statement.{statement}
 use Rattle.kd_tree.proofs.grow.Tie as tie
 use Rattle.kd_tree.proofs.grow.Reads as reads
 use Rattle.kd_tree.proofs.grow.Lts as lts
-use Rattle.kd_tree.proofs.query.node_at.Reads as node-at-reads
-use Rattle.kd_tree.proofs.query.num.Reads as num-reads
+use Rattle.query_words.proofs.node_at.Reads as node-at-reads
+use Rattle.query_words.proofs.num.Reads as num-reads
 use Rattle.words.proofs.get.Reads as get-reads
 use Rattle.words.proofs.put.Reads as put-reads
 

@@ -1,5 +1,5 @@
 use mathlib.Core.Path.{_≡_, refl, sym, ap, _∙_}
-use Rattle.kd_tree.proofs.Counting.{not-within, is-within}
+use Rattle.kd_tree.proofs.Choosing.{not-within, is-within}
 use borrow.Author.Needs.{needs}
 use Rattle.kd_tree.proofs.may.Statement.{statement}
 use Rattle.kd_tree.proofs.may.Tie as tie

@@ -1,13 +1,13 @@
 use native.Mathlib.Omega.{arith}
 use mathlib.Core.Path.{_≡_, refl, sym, ap, _∙_}
-use Rattle.kd_tree.proofs.Scanning.{leaf-numbers, leaf-ready, leaf-done}
+use Rattle.kd_tree.proofs.Leaves.{leaf-numbers, leaf-ready, leaf-done}
 use borrow.Author.Needs.{needs}
 use Rattle.kd_tree.proofs.scan.Statement.{statement}
 use Rattle.kd_tree.proofs.scan.Tie as tie
 use Rattle.kd_tree.proofs.scan.Reads as reads
 use Rattle.kd_tree.proofs.scan.Lts as lts
-use Rattle.kd_tree.proofs.leaf.search.Reads as search-reads
-use Rattle.kd_tree.proofs.query.node_at.Reads as node-at-reads
+use Rattle.kd_leaf.proofs.search.Reads as search-reads
+use Rattle.query_words.proofs.node_at.Reads as node-at-reads
 use Rattle.words.proofs.get.Reads as get-reads
 
 node-at-requires : tie.Need-node-at-requires

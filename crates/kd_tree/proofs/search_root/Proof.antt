@@ -1,4 +1,4 @@
-use Rattle.kd_tree.proofs.Laying.{query-long}
+use Rattle.query_words.proofs.Laying.{query-long}
 use Rattle.kd_tree.proofs.Visiting.{standing, scan-ready, scan-done, branch-ready, branch-done, few-rows, as-node, as-branch}
 use mathlib.Core.Path.{_≡_, refl, sym, ap, _∙_}
 use native.Mathlib.Omega.{arith}
@@ -8,11 +8,11 @@ use Rattle.kd_tree.proofs.search_root.Tie as tie
 use Rattle.kd_tree.proofs.search_root.Reads as reads
 use Rattle.kd_tree.proofs.search_root.Lts as lts
 use Rattle.kd_split.proofs.split_node.Reads as split-node-reads
-use Rattle.kd_tree.proofs.query.shape.Reads as shape-reads
+use Rattle.query_words.proofs.shape.Reads as shape-reads
 use Rattle.kd_tree.proofs.scan.Reads as scan-reads
 use Rattle.kd_tree.proofs.search.Reads as search-reads
-use Rattle.kd_tree.proofs.step.rows.Reads as rows-reads
-use Rattle.kd_tree.proofs.step.with_rows.Reads as with-rows-reads
+use Rattle.kd_leaf.proofs.step.rows.Reads as rows-reads
+use Rattle.kd_leaf.proofs.step.with_rows.Reads as with-rows-reads
 
 shape-requires : tie.Need-shape-requires
 shape-requires c κs = omega (arith, query-long _ _ (c .before .before .before .before .pre .0 .asks .laid))

@@ -9,7 +9,7 @@ use Rattle.indices.proofs.ratio_monomial_index.find_a_reducer.Reads as 
 use Rattle.indices.proofs.ratio_monomial_index.find_a_reducer.Lts as lts
 use Rattle.kd_query.proofs.reducer.Reads as reducer-reads
 use Rattle.kd_tree.proofs.find.Reads as find-reads
-use Rattle.kd_tree.proofs.query.label.Reads as label-reads
+use Rattle.query_words.proofs.label.Reads as label-reads
 use Rattle.words.proofs.answer_word.Reads as answer-word-reads
 use Rattle.words.proofs.pairs.get.Reads as get-reads
 
