@@ -2,7 +2,7 @@
 use mathlib.Core.Path.{refl}
 use Rattle.monomial.specs.Monomial.{find, powerOf, pow, varsOf, monomialOf}
 use Rattle.monomial.specs.Operations.{powers, result}
-use Rattle.monomial.specs.Order.{compare, total, revlex, grevlex, order}
+use Rattle.monomial_ordering.specs.Order.{compare, total, revlex, grevlex, order}
 use Rattle.fast_compare.specs.Labels.{count, pick, below, known, greater, nearest, floor, ceiling, lowest, highest, free, half, rebuilt}
 use Rattle.fast_compare.specs.Map.{row, cmp, given, answer, stored, after, relabelled, rebuild}
 use Rattle.divmask.specs.Mask.{bits, firstBit, cutoff, parts, field, fields, mask}

@@ -8,8 +8,8 @@ use lib.Dec.{eqb}
 use Rattle.words.specs.Kinds.{varWord, endWord}
 use Rattle.monomial.specs.Monomial.{pow, monomialOf}
 use Rattle.monomial.specs.Operations.{result}
-use Rattle.monomial.specs.Order.{order}
-use Rattle.monomial.specs.declared.monomial_ordering.CmpOrd.the-variants.{Greater}
+use Rattle.monomial_ordering.specs.Order.{order}
+use Rattle.monomial_ordering.specs.declared.CmpOrd.the-variants.{Greater}
 use Rattle.monomial.specs.declared.ordered_ops.Op.the-variants.{Ratio}
 use Rattle.fast_compare.specs.Map.{Value, valueOf, State, empty, answer, after, label, rebuild}
 use Rattle.fast_compare.specs.declared.Comparer.the-variants.{New}

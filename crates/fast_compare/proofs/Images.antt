@@ -14,7 +14,7 @@ use Rattle.words.proofs.Tables.{length-part, part-get, part-nil, part-cons, par
 use Rattle.words.proofs.Joined.{joined, Stand, moved, moved-back}
 use Rattle.words.proofs.Joined.{apart as pieces-apart, together as pieces-together}
 use Rattle.monomial.specs.Monomial.{front}
-use Rattle.monomial.specs.declared.monomial_ordering.CmpOrd.the-variants.{Less}
+use Rattle.monomial_ordering.specs.declared.CmpOrd.the-variants.{Less}
 use Rattle.monomial.proofs.Canon.{Canon, IsVar, IsEnd, front-short}
 use Rattle.monomial.proofs.Powers.{canonical-length}
 use Rattle.monomial.proofs.Laws.{front-canonical, canonical-front}

@@ -6,8 +6,8 @@ use Prim.Native.Nat.{ℕ, _≤_, _<_}
 use native.Mathlib.Omega.{arith}
 use lib.ListN.{length, getD}
 use Rattle.words.specs.Words.{pasteW}
-use Rattle.monomial.specs.Order.{compare}
-use Rattle.monomial.specs.declared.monomial_ordering.CmpOrd.the-variants.{Less}
+use Rattle.monomial_ordering.specs.Order.{compare}
+use Rattle.monomial_ordering.specs.declared.CmpOrd.the-variants.{Less}
 use Rattle.fast_compare.specs.Labels.{sorted}
 use Rattle.fast_compare.specs.Map.{Value, cmp, Good, State, value, label, Valid, place, answer, stored, after, rebuild}
 use Rattle.fast_compare.specs.Layout.{encode, Is, Gave}

@@ -11,11 +11,11 @@ use lib.Dec.{ltb}
 use lib.ListN.{length, length-append, List·getD-append}
 use lib.Seq.{getD-at}
 use borrow.Author.Tests.{ltb-true, ltb-false, lt-ltb, le-ltb}
-use Rattle.monomial.specs.Order.{compare, andThen, order}
-use Rattle.monomial.specs.declared.monomial_ordering.CmpOrd.{CmpOrd}
-use Rattle.monomial.specs.declared.monomial_ordering.CmpOrd.the-variants.{Less, Equal, Greater}
-use Rattle.monomial.proofs.Lawful.{Lawful, compare-lawful, by-lawful, then-lawful}
-use Rattle.monomial.proofs.Laws.{order-lawful, order-equal, compare-same}
+use Rattle.monomial_ordering.specs.Order.{compare, andThen, order}
+use Rattle.monomial_ordering.specs.declared.CmpOrd.{CmpOrd}
+use Rattle.monomial_ordering.specs.declared.CmpOrd.the-variants.{Less, Equal, Greater}
+use Rattle.monomial_ordering.proofs.Lawful.{Lawful, compare-lawful, by-lawful, then-lawful}
+use Rattle.monomial_ordering.proofs.Laws.{order-lawful, order-equal, compare-same}
 use Rattle.fast_compare.specs.Labels.{sorted, known, free, half, rebuilt, Labelled}
 use Rattle.fast_compare.specs.Map.{Value, cmp, Good, Row, State, row, value, label, Valid, given, answer, stored, after, relabelled, rebuild}
 use Rattle.fast_compare.specs.declared.Comparer.{Comparer}

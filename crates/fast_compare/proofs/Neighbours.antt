@@ -7,9 +7,9 @@ use Prim.Native.Nat.{ℕ, zero, suc, _+_, _-_, _≤_, _<_}
 use native.Mathlib.Omega.{arith}
 use native.Mathlib.Decide.{ℕ-discrete}
 use lib.ListN.{getD}
-use Rattle.monomial.specs.declared.monomial_ordering.CmpOrd.{CmpOrd}
-use Rattle.monomial.specs.declared.monomial_ordering.CmpOrd.the-variants.{Less, Equal, Greater}
-use Rattle.monomial.proofs.Lawful.{Lawful, reverse-lawful}
+use Rattle.monomial_ordering.specs.declared.CmpOrd.{CmpOrd}
+use Rattle.monomial_ordering.specs.declared.CmpOrd.the-variants.{Less, Equal, Greater}
+use Rattle.monomial_ordering.proofs.Lawful.{Lawful, reverse-lawful}
 use Rattle.fast_compare.specs.Labels.{isLess, isEqual, below, known, greater, nearest}
 use Rattle.words.proofs.Tables.{never}
 use Rattle.fast_compare.proofs.Counts.{pick-none, none-pick, some-pick, pick-only}

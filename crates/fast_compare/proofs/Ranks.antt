@@ -7,9 +7,9 @@ use native.Mathlib.Omega.{arith}
 use native.Mathlib.Decide.{ℕ-discrete, decLt}
 use lib.ListN.{length, getD, take, drop, length-append, length-take, length-drop, List·getD-append}
 use lib.Seq.{ext-getD, getD-take, getD-drop, getD-append-add, length-take-le}
-use Rattle.monomial.specs.declared.monomial_ordering.CmpOrd.{CmpOrd}
-use Rattle.monomial.specs.declared.monomial_ordering.CmpOrd.the-variants.{Less, Equal, Greater}
-use Rattle.monomial.proofs.Lawful.{Lawful, flip, alike-right}
+use Rattle.monomial_ordering.specs.declared.CmpOrd.{CmpOrd}
+use Rattle.monomial_ordering.specs.declared.CmpOrd.the-variants.{Less, Equal, Greater}
+use Rattle.monomial_ordering.proofs.Lawful.{Lawful, flip, alike-right}
 use Rattle.fast_compare.specs.Labels.{isLess, isEqual, oneIf, count, insertAt, below, sorted}
 use Rattle.words.proofs.Tables.{never}
 use Rattle.fast_compare.proofs.Counts.{count-suc, count-ext, count-most, count-le, count-lt, count-two}

@@ -9,8 +9,8 @@ use lib.ListN.{length, getD}
 use Rattle.words.specs.Kinds.{payload}
 use Rattle.words.specs.Words.{words}
 use Rattle.words.proofs.Tables.{row-fits}
-use Rattle.monomial.specs.declared.monomial_ordering.CmpOrd.{CmpOrd}
-use Rattle.monomial.specs.declared.monomial_ordering.CmpOrd.the-variants.{Less, Equal, Greater}
+use Rattle.monomial_ordering.specs.declared.CmpOrd.{CmpOrd}
+use Rattle.monomial_ordering.specs.declared.CmpOrd.the-variants.{Less, Equal, Greater}
 use Rattle.fast_compare.specs.Labels.{below, sorted}
 use Rattle.fast_compare.specs.Map.{Value, cmp, State, value, label, placed, place}
 use Rattle.fast_compare.specs.Layout.{size, Is, Sound, ratioWords, valueAt, HasRatio}

@@ -11,11 +11,11 @@ use native.Mathlib.Decide.{decLt}
 use lib.Dec.{ltb}
 use lib.ListN.{getD}
 use borrow.Author.Tests.{ltb-true, lt-ltb}
-use Rattle.monomial.specs.Order.{compare}
-use Rattle.monomial.specs.declared.monomial_ordering.CmpOrd.{CmpOrd}
-use Rattle.monomial.specs.declared.monomial_ordering.CmpOrd.the-variants.{Less, Equal}
-use Rattle.monomial.proofs.Lawful.{Lawful, reverse-lawful, alike-right}
-use Rattle.monomial.proofs.Orders.{compare-less, compare-equal, compare-greater}
+use Rattle.monomial_ordering.specs.Order.{compare}
+use Rattle.monomial_ordering.specs.declared.CmpOrd.{CmpOrd}
+use Rattle.monomial_ordering.specs.declared.CmpOrd.the-variants.{Less, Equal}
+use Rattle.monomial_ordering.proofs.Lawful.{Lawful, reverse-lawful, alike-right}
+use Rattle.monomial_ordering.proofs.Orders.{compare-less, compare-equal, compare-greater}
 use Rattle.fast_compare.specs.Labels.{top, below, nearest, floor, ceiling, lowest, highest, free, half, spaced, rebuilt, Labelled}
 use Rattle.fast_compare.proofs.Ranks.{less-equal, self, turn-less, by-cases, below-less, below-mono, below-top, Ranked, less-place, place-of}
 use Rattle.fast_compare.proofs.Neighbours.{Near, nearest-near, above-place}

@@ -11,10 +11,10 @@ use Rattle.words.specs.Words.{words}
 use Rattle.words.specs.Tables.{part}
 use Rattle.words.proofs.Laws.{length-words, words-rest}
 use Rattle.monomial.specs.Monomial.{Starts, first}
-use Rattle.monomial.specs.Order.{compare, order, TotalOf}
-use Rattle.monomial.specs.declared.monomial_ordering.CmpOrd.the-variants.{Less, Greater}
-use Rattle.monomial.specs.declared.monomial_ordering.Total.{Total}
-use Rattle.monomial.proofs.Orders.{compare-less, compare-equal, compare-greater}
+use Rattle.monomial_ordering.specs.Order.{compare, order, TotalOf}
+use Rattle.monomial_ordering.specs.declared.CmpOrd.the-variants.{Less, Greater}
+use Rattle.monomial_ordering.specs.declared.Total.{Total}
+use Rattle.monomial_ordering.proofs.Orders.{compare-less, compare-equal, compare-greater}
 use Rattle.monomial.proofs.Firsts.{starts-wide, first-part}
 use Rattle.fast_compare.specs.Map.{Value, valueOf, cmp}
 use Rattle.fast_compare.specs.Layout.{ratioWords, HasRatio, TotalAt, valueAt}

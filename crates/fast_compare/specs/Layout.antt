@@ -7,9 +7,9 @@ use Rattle.words.specs.Kinds.{kind, payload, indexWord}
 use Rattle.words.specs.Words.{words, pasteW}
 use Rattle.words.specs.Tables.{part, zeros, table}
 use Rattle.monomial.specs.Monomial.{front, first}
-use Rattle.monomial.specs.Order.{TotalOf}
-use Rattle.monomial.specs.declared.monomial_ordering.Total.{Total}
-use Rattle.monomial.specs.declared.monomial_ordering.CmpOrd.the-variants.{Less}
+use Rattle.monomial_ordering.specs.Order.{TotalOf}
+use Rattle.monomial_ordering.specs.declared.Total.{Total}
+use Rattle.monomial_ordering.specs.declared.CmpOrd.the-variants.{Less}
 use Rattle.fast_compare.specs.Labels.{sorted}
 use Rattle.fast_compare.specs.Map.{Value, cmp, Row, State, row, value, Valid, answer, after}
 use Rattle.fast_compare.specs.declared.Comparer.{Comparer}

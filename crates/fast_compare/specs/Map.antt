@@ -6,8 +6,8 @@ use Prim.Native.Nat.{ℕ, suc, _+_, _≤_, _<_}
 use lib.Dec.{ltb}
 use lib.ListN.{length, getD}
 use Rattle.monomial.specs.Monomial.{Canonical}
-use Rattle.monomial.specs.Order.{compare, andThen, order}
-use Rattle.monomial.specs.declared.monomial_ordering.CmpOrd.{CmpOrd}
+use Rattle.monomial_ordering.specs.Order.{compare, andThen, order}
+use Rattle.monomial_ordering.specs.declared.CmpOrd.{CmpOrd}
 use Rattle.fast_compare.specs.Labels.{below, known, free, half, rebuilt, Labelled}
 use Rattle.fast_compare.specs.declared.Comparer.{Comparer}
 use Rattle.fast_compare.specs.declared.Comparer.the-variants.{Known, New, Full, NoLabel}

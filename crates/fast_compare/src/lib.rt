@@ -1,15 +1,15 @@
 // From fast_compare.rs: the label map, in words of a lent image. docs/LAYOUT.md has the layout.
 pub mod rows;
 
-use monomial::monomial_ordering::CmpOrd;
-use monomial::monomial_ordering::Total;
+use monomial_ordering::CmpOrd;
+use monomial_ordering::Total;
 ghost use mathlib.Core.Path.{_≡_};
 ghost use Prim.Native.Nat.{ℕ, _+_, _*_, _<_, _≤_};
 ghost use lib.ListN.{length, getD};
 ghost use Rattle.words.specs.Words.{words, pasteW};
 ghost use Rattle.monomial.specs.Monomial.{Canonical};
 ghost use Rattle.monomial.specs.Sizes.{Sizes};
-ghost use Rattle.monomial.specs.Order.{TotalOf};
+ghost use Rattle.monomial_ordering.specs.Order.{TotalOf};
 ghost use Rattle.fast_compare.specs.Labels.{sorted};
 ghost use Rattle.fast_compare.specs.Map as Map;
 ghost use Rattle.fast_compare.specs.Map.{State, valueOf, value, cmp, place};
@@ -89,7 +89,7 @@ pub fn compare(map: &[u8], row: usize, index: u32, ratio: &[u8], t: Total) -> Cm
     let at = 4 + row * (variables + 3);
     let i = words::payload(words::get(map, at));
     if i != index {
-        return monomial::monomial_ordering::cmp(i, index);
+        return monomial_ordering::cmp(i, index);
     }
     let s = rows::total_at(map, at);
     rows::compare_at(map, at, s, index, ratio, t)
@@ -101,7 +101,7 @@ pub fn search(map: &[u8], index: u32, ratio: &[u8]) -> Place
     requires { ⌜ Canonical 2 4096 (words (now ratio)) ⌝ }
     ensures { λ r. ⌜ ((st : State) → Is st (now (map .entry)) → r ≡ place (st .rows) (valueOf index (words (now (ratio .entry))))) ⌝ }
 {
-    let t = monomial::monomial_ordering::total_of(ratio, 2);
+    let t = monomial_ordering::total_of(ratio, 2);
     let mut lo: usize = 0;
     let mut hi = count(map);
     while lo < hi {

@@ -1,6 +1,6 @@
 // Rows of a map at a word of its image: the index, the ratio and zeros in m + 1 words, the label.
-use monomial::monomial_ordering::CmpOrd;
-use monomial::monomial_ordering::Total;
+use monomial_ordering::CmpOrd;
+use monomial_ordering::Total;
 ghost use mathlib.Core.Path.{_≡_};
 ghost use mathlib.Core.Bool.{true};
 ghost use mathlib.Core.Logic.{_↔_};
@@ -10,7 +10,7 @@ ghost use Rattle.words.specs.Words.{words};
 ghost use Rattle.monomial.specs.Monomial.{Starts, first};
 ghost use Rattle.fast_compare.specs.Map.{valueOf, cmp};
 ghost use Rattle.fast_compare.specs.Layout.{TotalAt, ratioWords, HasRatio, valueAt, RowOk, Rises};
-ghost use Rattle.monomial.specs.Order.{TotalOf};
+ghost use Rattle.monomial_ordering.specs.Order.{TotalOf};
 
 // The total of the ratio in the row at word `at`.
 pub fn total_at(map: &[u8], at: usize) -> Total
@@ -18,7 +18,7 @@ pub fn total_at(map: &[u8], at: usize) -> Total
     ensures { λ r. ⌜ TotalAt (words (now (map .entry))) at r ⌝ }
 {
     let a = 4 * (at + 1);
-    monomial::monomial_ordering::total_of(&map[a..], 2)
+    monomial_ordering::total_of(&map[a..], 2)
 }
 
 // The value of the row at word `at`, compared with another, whose ratio stands at the front of a slice. Both ratios come with their totals.
@@ -37,7 +37,7 @@ pub fn compare_at(map: &[u8], at: usize, s: Total, index: u32, ratio: &[u8], t: 
         return CmpOrd::Greater;
     }
     let a = 4 * (at + 1);
-    monomial::monomial_ordering::ord_by_totals(&map[a..], s, ratio, t, 2)
+    monomial_ordering::ord_by_totals(&map[a..], s, ratio, t, 2)
 }
 
 // Whether the row at word a lies below the row at word b, in value and in label. Both ratios come with their totals.

@@ -3,7 +3,7 @@ use mathlib.Core.Path.{_≡_, refl, ap, _∙_}
 use mathlib.Core.Option.{Option, none, some}
 use Prim.Native.Nat.{ℕ, _<_}
 use lib.ListN.{length}
-use Rattle.monomial.specs.declared.monomial_ordering.CmpOrd.the-variants.{Equal}
+use Rattle.monomial_ordering.specs.declared.CmpOrd.the-variants.{Equal}
 use Rattle.fast_compare.specs.Labels.{known}
 use Rattle.fast_compare.specs.Map as map
 use Rattle.fast_compare.proofs.Ranks.{self}

@@ -10,7 +10,7 @@ use lib.ListN.{length}
 use borrow.Author.Tests.{ltb-true, eq-eqb}
 use Rattle.words.specs.Kinds.{kind, payload, answerWord, refusalWord}
 use Rattle.monomial.specs.Operations.{Divides, result}
-use Rattle.monomial.specs.Order.{order}
+use Rattle.monomial_ordering.specs.Order.{order}
 use Rattle.monomial.specs.declared.ordered_ops.Op.the-variants.{Ratio}
 use Rattle.fast_compare.specs.Map as map
 use Rattle.index_theory.specs.Entries.{Entry, entryAt, quotientOf, ratioOf, above}

@@ -10,10 +10,10 @@ use lib.Dec.{leb, ltb, eqb}
 use borrow.Author.Tests.{lt-ltb, le-ltb, le-leb, lt-leb, eq-eqb, ne-eqb}
 use Rattle.monomial.specs.Monomial.{pow}
 use Rattle.monomial.specs.Operations.{divides, result}
-use Rattle.monomial.specs.Order.{compare, andThen, order}
+use Rattle.monomial_ordering.specs.Order.{compare, andThen, order}
 use Rattle.monomial.specs.declared.ordered_ops.Op.the-variants.{Ratio}
-use Rattle.monomial.proofs.Orders as orders
-use Rattle.monomial.proofs.Orders.{Trichotomy, trichotomy}
+use Rattle.monomial_ordering.proofs.Orders as orders
+use Rattle.monomial_ordering.proofs.Orders.{Trichotomy, trichotomy}
 use Rattle.fast_compare.specs.Map as map
 use Rattle.kd_theory.specs.Bag.{Step}
 use Rattle.kd_theory.specs.Prune.{pruneMonomial, pruneRatio}

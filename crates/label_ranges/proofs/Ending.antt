@@ -8,9 +8,9 @@ use native.Mathlib.Omega.{arith}
 use lib.Dec.{leb, ltb}
 use lib.ListN.{length, getD}
 use borrow.Author.Tests.{lt-ltb, le-ltb, le-leb, lt-leb}
-use Rattle.monomial.specs.Order.{compare}
-use Rattle.monomial.specs.declared.monomial_ordering.CmpOrd.the-variants.{Less, Equal, Greater}
-use Rattle.monomial.proofs.Lawful.{flip}
+use Rattle.monomial_ordering.specs.Order.{compare}
+use Rattle.monomial_ordering.specs.declared.CmpOrd.the-variants.{Less, Equal, Greater}
+use Rattle.monomial_ordering.proofs.Lawful.{flip}
 use Rattle.fast_compare.specs.Labels.{sorted}
 use Rattle.fast_compare.specs.Map as map
 use Rattle.fast_compare.specs.Layout as labels

@@ -8,7 +8,7 @@ use native.Mathlib.Omega.{arith}
 use lib.Dec.{leb, ltb}
 use lib.ListN.{length, getD}
 use borrow.Author.Tests.{lt-ltb, le-ltb, le-leb, lt-leb}
-use Rattle.monomial.specs.declared.monomial_ordering.CmpOrd.the-variants.{Less}
+use Rattle.monomial_ordering.specs.declared.CmpOrd.the-variants.{Less}
 use Rattle.fast_compare.specs.Labels.{below, sorted}
 use Rattle.fast_compare.specs.Map as map
 use Rattle.fast_compare.proofs.Images.{ranked}

@@ -3,9 +3,9 @@ use mathlib.Core.Path.{_≡_, refl, sym, ap, _∙_}
 use mathlib.Core.Bool.{true, _&&_}
 use mathlib.Core.List.{List, [], _∷_, _++_}
 use mathlib.Core.Logic.{_⊎_, inl, inr, _↔_}
-use Prim.Native.Nat.{ℕ, zero, suc, _+_, _-_, _*_, _%_, _≤_, _<_}
+use Prim.Native.Nat.{ℕ, suc, _+_, _-_, _*_, _%_, _≤_, _<_}
 use native.Mathlib.Omega.{arith}
-use native.Mathlib.Decide.{ℕ-discrete, decLe}
+use native.Mathlib.Decide.{decLe}
 use lib.Dec.{eqb, ltb}
 use native.Mathlib.Numerals.{add-one}
 use lib.ListN.{length, take}
@@ -15,17 +15,12 @@ use Rattle.words.specs.Words.{words}
 use Rattle.words.proofs.Laws.{length-words, Words}
 use Rattle.monomial.specs.Monomial.{bias, front, Canonical, lent, pow}
 use Rattle.monomial.specs.Operations.{met, kindOf, powers, result, Divides, divides}
-use Rattle.monomial.specs.Order.{compare, andThen, total, revlex, grevlex, order}
 use Rattle.monomial.specs.declared.ordered_ops.Op.{Op}
 use Rattle.monomial.specs.declared.ordered_ops.Op.the-variants.{Gcd, Product, Quotient, Ratio}
-use Rattle.monomial.specs.declared.monomial_ordering.CmpOrd.{CmpOrd}
-use Rattle.monomial.specs.declared.monomial_ordering.CmpOrd.the-variants.{Less, Equal, Greater}
 use Rattle.monomial.proofs.Canon.{IsVar, Canon, both-true, front-none, front-cases, front-end, front-var, var-is, front-of-canon, canon-of, canonical-of, raise}
 use Rattle.monomial.proofs.Powers.{InRange, pow-ids, powers-in-range, absent-above, pow-monomial, canonical-monomial, monomial-length, monomial-small, canonical-unique}
 use Rattle.monomial.proofs.Divisions.{divides-by, at-most, divides-iff}
 use Rattle.monomial.proofs.Sums.{met-zero, met-small, kind-small}
-use Rattle.monomial.proofs.Orders.{Trichotomy, less, equal, greater, trichotomy, revlex-suc}
-use Rattle.monomial.proofs.Lawful.{Lawful, flip, by-lawful, grevlex-lawful}
 
 -- ---- canonical words
 -- what is found at the front is canonical
@@ -151,55 +146,6 @@ module _ (m : ℕ) (few : m ≤ 4096) (a b : List ℕ) (ca : Canonical 1 m a) (c
     where
       minus : (v : ℕ) → pow 1 a v ≡ pow 1 b v + pow 1 c v → pow 1 a v - pow 1 b v ≡ pow 1 c v
       minus v p = omega arith
-
--- ---- the order
-pub order-lawful : (k : ℕ) → Lawful (order k)
-unfolding order
-order-lawful k = by-lawful (pow k) (grevlex-lawful 4096)
-
-both-equal : (c d : CmpOrd) → andThen c d ≡ Equal → (c ≡ Equal) × (d ≡ Equal)
-both-equal Less d e = absurd (let z : _≡_ {A = ℕ} 0 1 = cc in omega arith)
-both-equal Equal d e = (refl, e)
-both-equal Greater d e = absurd (let z : _≡_ {A = ℕ} 0 1 = cc in omega arith)
-
-pub compare-same : (x y : ℕ) → compare x y ≡ Equal → x ≡ y
-compare-same x y e = go (trichotomy x y)
-  where
-    go : Trichotomy x y → x ≡ y
-    go (less h l) = absurd (let z : _≡_ {A = ℕ} 0 1 = cc in omega arith)
-    go (equal h l) = h
-    go (greater h l) = absurd (let z : _≡_ {A = ℕ} 0 1 = cc in omega arith)
-
-revlex-same : (n : ℕ) (p q : ℕ → ℕ) → revlex n p q ≡ Equal → (v : ℕ) → v < n → p v ≡ q v
-revlex-same zero p q e v h = absurd (omega arith)
-revlex-same (suc n) p q e v h =
-    let b = both-equal (revlex n p q) (compare (q n) (p n)) (sym (revlex-suc n p q) ∙ e) in
-    elim (ℕ-discrete v n) [
-      | yes z ↦ rw z (sym (compare-same (q n) (p n) (b .1)))
-      | no z ↦ revlex-same n p q (b .0) v (omega arith)
-    ]
-
--- two compare as equal exactly where they are the same words
-pub order-equal : (k m : ℕ) (a b : List ℕ) → 0 < k → Canonical k m a → Canonical k m b → (order k a b ≡ Equal) ↔ (a ≡ b)
-unfolding order grevlex
-order-equal k m a b pos ca cb = (to, from)
-  where
-    to : order k a b ≡ Equal → a ≡ b
-    to e =
-        let r = both-equal (compare (total 4096 (pow k a)) (total 4096 (pow k b))) (revlex 4096 (pow k a) (pow k b)) e .1 in
-        canonical-unique k m a b pos ca cb (λ v.
-        elim (decLe 4096 v) [
-          | yes h ↦ pow-ids k a v h ∙ sym (pow-ids k b v h)
-          | no h ↦ revlex-same 4096 (pow k a) (pow k b) r v (omega arith)
-        ])
-
-    from : a ≡ b → order k a b ≡ Equal
-    from e = rw e (self (order k b b) (order-lawful k .flips b b))
-      where
-        self : (c : CmpOrd) → c ≡ flip c → c ≡ Equal
-        self Less e = absurd (let z : _≡_ {A = ℕ} 0 1 = cc in omega arith)
-        self Equal e = refl
-        self Greater e = absurd (let z : _≡_ {A = ℕ} 0 1 = cc in omega arith)
 
 -- ---- lent bytes
 pub lent-canonical : (k m : ℕ) (s : List ℕ) → (lent k m s ≡ true) ↔ ((length s % 4 ≡ 0) × Canonical k m (words s))

@@ -4,9 +4,7 @@ pub mod Ends
 pub mod Powers
 pub mod Walks
 pub mod Sums
-pub mod Orders
 pub mod Divisions
-pub mod Lawful
 pub mod Laws
 pub mod Firsts
 pub mod Sizing

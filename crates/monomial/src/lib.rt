@@ -1,6 +1,5 @@
 // From polynomial/mod.rs: monomials and ratios as words in byte slices.
 // Kind 1 is a monomial, kind 2 a ratio, whose powers are held with 32,768 added.
-pub mod monomial_ordering;
 pub mod ordered_ops;
 pub mod sizes;
 

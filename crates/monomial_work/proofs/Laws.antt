@@ -10,8 +10,8 @@ use Rattle.words.specs.Words.{words}
 use Rattle.monomial.specs.Monomial.{Canonical, Starts, first}
 use Rattle.monomial.specs.Operations.{result, divides, divided}
 use Rattle.monomial.specs.declared.Division.the-variants.{Whole, NotDivisible}
-use Rattle.monomial.specs.declared.monomial_ordering.CmpOrd.{CmpOrd}
-use Rattle.monomial.specs.declared.monomial_ordering.CmpOrd.the-variants.{Less, Equal, Greater}
+use Rattle.monomial_ordering.specs.declared.CmpOrd.{CmpOrd}
+use Rattle.monomial_ordering.specs.declared.CmpOrd.the-variants.{Less, Equal, Greater}
 use Rattle.monomial.specs.declared.ordered_ops.Op.{Op}
 use Rattle.monomial.proofs.Laws.{length-result}
 use Rattle.monomial.proofs.Firsts.{starts-wide, starts-whole, first-whole}

@@ -9,12 +9,12 @@ use Rattle.words.specs.Kinds.{answerWord}
 use Rattle.words.specs.Words.{words, pasteW}
 use Rattle.monomial.specs.Monomial.{pow, lent}
 use Rattle.monomial.specs.Operations.{result, allBelow, divides, divided, equal}
-use Rattle.monomial.specs.Order.{order}
+use Rattle.monomial_ordering.specs.Order.{order}
 use Rattle.monomial.specs.Sizes.{variablesFit}
 use Rattle.monomial.specs.declared.Division.{Division}
 use Rattle.monomial.specs.declared.Division.the-variants.{Whole, NotDivisible}
-use Rattle.monomial.specs.declared.monomial_ordering.CmpOrd.{CmpOrd}
-use Rattle.monomial.specs.declared.monomial_ordering.CmpOrd.the-variants.{Less, Equal, Greater}
+use Rattle.monomial_ordering.specs.declared.CmpOrd.{CmpOrd}
+use Rattle.monomial_ordering.specs.declared.CmpOrd.the-variants.{Less, Equal, Greater}
 use Rattle.monomial.specs.declared.ordered_ops.Op.{Op}
 use Rattle.monomial_work.specs.declared.Work.{Work}
 use Rattle.monomial_work.specs.declared.Work.the-variants.{Gcd, Mul, WholeDivision, FractionDivision, Divides, Eq, Cmp, RatioEq, RatioCmp}

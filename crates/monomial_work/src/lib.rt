@@ -1,7 +1,7 @@
 // The monomial work on lent bytes, exported to C. Each door asks its questions in document 01's order and demands nothing.
 use monomial::Division;
-use monomial::monomial_ordering::CmpOrd;
 use monomial::ordered_ops::Op;
+use monomial_ordering::CmpOrd;
 ghost use mathlib.Core.Path.{_≡_};
 ghost use Prim.Native.Nat.{_*_, _<_, _≤_};
 ghost use lib.ListN.{length};
@@ -238,7 +238,7 @@ pub extern "C" fn divisor_index_monomial_cmp(
     if r != 0 {
         return r;
     }
-    tell(out, number(monomial::monomial_ordering::ord(a, b, 1)))
+    tell(out, number(monomial_ordering::ord(a, b, 1)))
 }
 
 // Whether two ratios are equal.
@@ -262,7 +262,7 @@ pub extern "C" fn divisor_index_ratio_cmp(variables: u32, a: &[u8], b: &[u8], ou
     if r != 0 {
         return r;
     }
-    tell(out, number(monomial::monomial_ordering::ord(a, b, 2)))
+    tell(out, number(monomial_ordering::ord(a, b, 2)))
 }
 
 // The door of each work, for programs that run them all.

@@ -17,7 +17,7 @@ use Rattle.fast_compare.proofs.compare.Reads as reads
 use Rattle.fast_compare.proofs.compare.Lts as lts
 use Rattle.fast_compare.proofs.rows.compare_at.Reads as compare-at-reads
 use Rattle.fast_compare.proofs.rows.total_at.Reads as total-at-reads
-use Rattle.monomial.proofs.monomial_ordering.cmp.Reads as cmp-reads
+use Rattle.monomial_ordering.proofs.cmp.Reads as cmp-reads
 use Rattle.words.proofs.get.Reads as get-reads
 use Rattle.words.proofs.payload.Reads as payload-reads
 

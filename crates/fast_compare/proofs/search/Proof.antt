@@ -15,7 +15,7 @@ use Rattle.fast_compare.proofs.search.Lts as lts
 use Rattle.fast_compare.proofs.compare.Reads as compare-reads
 use Rattle.fast_compare.proofs.count.Reads as count-reads
 use Rattle.fast_compare.proofs.row_at.Reads as row-at-reads
-use Rattle.monomial.proofs.monomial_ordering.total_of.Reads as total-of-reads
+use Rattle.monomial_ordering.proofs.total_of.Reads as total-of-reads
 
 abbrev Inv-loop : tie.InvT-loop
 Inv-loop map index ratio t lo₀ hi₀ lo hi = (hi ≤ getD (words map) 3 0) × ((st : State) → Is st map → Seeking st (valueOf index (words ratio)) lo hi)

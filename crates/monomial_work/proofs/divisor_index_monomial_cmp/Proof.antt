@@ -10,7 +10,7 @@ use Rattle.monomial_work.proofs.divisor_index_monomial_cmp.Statement.{s
 use Rattle.monomial_work.proofs.divisor_index_monomial_cmp.Tie as tie
 use Rattle.monomial_work.proofs.divisor_index_monomial_cmp.Reads as reads
 use Rattle.monomial_work.proofs.divisor_index_monomial_cmp.Lts as lts
-use Rattle.monomial.proofs.monomial_ordering.ord.Reads as ord-reads
+use Rattle.monomial_ordering.proofs.ord.Reads as ord-reads
 use Rattle.monomial_work.proofs.number.Reads as number-reads
 use Rattle.monomial_work.proofs.refusal.Reads as refusal-reads
 use Rattle.monomial_work.proofs.tell.Reads as tell-reads

@@ -2,7 +2,7 @@ use native.Mathlib.Omega.{arith}
 use mathlib.Core.Path.{_≡_, sym, ap, _∙_}
 use Prim.Native.Nat.{_+_}
 use Rattle.words.specs.Words.{words}
-use Rattle.monomial.specs.Order.{order}
+use Rattle.monomial_ordering.specs.Order.{order}
 use Rattle.monomial.specs.Monomial.{first}
 use Rattle.fast_compare.specs.Map.{valueOf}
 use Rattle.fast_compare.specs.Layout.{valueAt}
@@ -12,7 +12,7 @@ use Rattle.fast_compare.proofs.rows.compare_at.Statement.{statement}
 use Rattle.fast_compare.proofs.rows.compare_at.Tie as tie
 use Rattle.fast_compare.proofs.rows.compare_at.Reads as reads
 use Rattle.fast_compare.proofs.rows.compare_at.Lts as lts
-use Rattle.monomial.proofs.monomial_ordering.ord_by_totals.Reads as ord-by-totals-reads
+use Rattle.monomial_ordering.proofs.ord_by_totals.Reads as ord-by-totals-reads
 use Rattle.words.proofs.get.Reads as get-reads
 use Rattle.words.proofs.payload.Reads as payload-reads
 

@@ -6,7 +6,7 @@ use Rattle.fast_compare.proofs.rows.total_at.Statement.{statement}
 use Rattle.fast_compare.proofs.rows.total_at.Tie as tie
 use Rattle.fast_compare.proofs.rows.total_at.Reads as reads
 use Rattle.fast_compare.proofs.rows.total_at.Lts as lts
-use Rattle.monomial.proofs.monomial_ordering.total_of.Reads as total-of-reads
+use Rattle.monomial_ordering.proofs.total_of.Reads as total-of-reads
 
 add-a : tie.Need-add-a
 add-a c = omega (arith, row-fits (c .before .args .map .now) (c .before .args .at) (c .before .pre))

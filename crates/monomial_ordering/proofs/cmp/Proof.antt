@@ -1,9 +1,9 @@
 use borrow.Author.Tests.{lt-ltb, le-ltb}
-use Rattle.monomial.specs.Order.{compare}
-use Rattle.monomial.proofs.monomial_ordering.cmp.Statement.{statement}
-use Rattle.monomial.proofs.monomial_ordering.cmp.Tie as tie
-use Rattle.monomial.proofs.monomial_ordering.cmp.Reads as reads
-use Rattle.monomial.proofs.monomial_ordering.cmp.Lts as lts
+use Rattle.monomial_ordering.specs.Order.{compare}
+use Rattle.monomial_ordering.proofs.cmp.Statement.{statement}
+use Rattle.monomial_ordering.proofs.cmp.Tie as tie
+use Rattle.monomial_ordering.proofs.cmp.Reads as reads
+use Rattle.monomial_ordering.proofs.cmp.Lts as lts
 
 returns : tie.Need-returns
 unfolding compare

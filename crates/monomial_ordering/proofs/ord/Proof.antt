@@ -1,11 +1,11 @@
 use native.Mathlib.Omega.{arith}
 use borrow.Author.Needs.{needs}
-use Rattle.monomial.proofs.monomial_ordering.ord.Statement.{statement}
-use Rattle.monomial.proofs.monomial_ordering.ord.Tie as tie
-use Rattle.monomial.proofs.monomial_ordering.ord.Reads as reads
-use Rattle.monomial.proofs.monomial_ordering.ord.Lts as lts
-use Rattle.monomial.proofs.monomial_ordering.ord_by_totals.Reads as ord-by-totals-reads
-use Rattle.monomial.proofs.monomial_ordering.total_of.Reads as total-of-reads
+use Rattle.monomial_ordering.proofs.ord.Statement.{statement}
+use Rattle.monomial_ordering.proofs.ord.Tie as tie
+use Rattle.monomial_ordering.proofs.ord.Reads as reads
+use Rattle.monomial_ordering.proofs.ord.Lts as lts
+use Rattle.monomial_ordering.proofs.ord_by_totals.Reads as ord-by-totals-reads
+use Rattle.monomial_ordering.proofs.total_of.Reads as total-of-reads
 
 total-of-requires : tie.Need-total-of-requires
 total-of-requires c κs = search needs

@@ -2,10 +2,10 @@
 use mathlib.Core.Path.{_≡_, refl, sym, ap, _∙_}
 use Prim.Native.Nat.{ℕ, zero, suc, _<_}
 use native.Mathlib.Omega.{arith}
-use Rattle.monomial.specs.Order.{compare, andThen, total, revlex, grevlex}
-use Rattle.monomial.specs.declared.monomial_ordering.CmpOrd.{CmpOrd}
-use Rattle.monomial.specs.declared.monomial_ordering.CmpOrd.the-variants.{Less, Equal, Greater}
-use Rattle.monomial.proofs.Orders.{Trichotomy, less, equal, greater, trichotomy, compare-less, compare-equal, compare-greater, revlex-zero, revlex-suc}
+use Rattle.monomial_ordering.specs.Order.{compare, andThen, total, revlex, grevlex}
+use Rattle.monomial_ordering.specs.declared.CmpOrd.{CmpOrd}
+use Rattle.monomial_ordering.specs.declared.CmpOrd.the-variants.{Less, Equal, Greater}
+use Rattle.monomial_ordering.proofs.Orders.{Trichotomy, less, equal, greater, trichotomy, compare-less, compare-equal, compare-greater, revlex-zero, revlex-suc}
 
 abbrev pub flip : CmpOrd → CmpOrd
 flip Less = Greater

@@ -1,14 +1,14 @@
 use native.Mathlib.Omega.{arith}
 use borrow.Author.Tests.{lt-ltb, le-ltb}
 use Rattle.words.specs.Kinds.{upperHalf}
-use Rattle.monomial.specs.Walk.{differing}
+use Rattle.monomial_ordering.specs.Order.{differing}
 use mathlib.Core.Path.{_∙_}
 use borrow.Author.Needs.{needs}
-use Rattle.monomial.proofs.monomial_ordering.differ.Statement.{statement}
-use Rattle.monomial.proofs.monomial_ordering.differ.Tie as tie
-use Rattle.monomial.proofs.monomial_ordering.differ.Reads as reads
-use Rattle.monomial.proofs.monomial_ordering.differ.Lts as lts
-use Rattle.monomial.proofs.monomial_ordering.cmp.Reads as cmp-reads
+use Rattle.monomial_ordering.proofs.differ.Statement.{statement}
+use Rattle.monomial_ordering.proofs.differ.Tie as tie
+use Rattle.monomial_ordering.proofs.differ.Reads as reads
+use Rattle.monomial_ordering.proofs.differ.Lts as lts
+use Rattle.monomial_ordering.proofs.cmp.Reads as cmp-reads
 use Rattle.words.proofs.power.Reads as power-reads
 use Rattle.words.proofs.upper_half.Reads as upper-half-reads
 

@@ -3,15 +3,15 @@ use Prim.Native.Nat.{_-_}
 use lib.ListN.{length}
 use Rattle.words.specs.Words.{words}
 use Rattle.words.proofs.Fields.{is-end-true, is-end-false}
 use Rattle.monomial.specs.Monomial.{first}
 use Rattle.monomial.proofs.Walks.{within}
 use Rattle.monomial.proofs.Firsts.{begins, seen, first-bytes, first-canonical}
-use Rattle.monomial.proofs.Orders.{Totalling, total-begin, totalled, counted}
+use Rattle.monomial_ordering.proofs.Orders.{Totalling, total-begin, totalled, counted}
 use borrow.Author.Needs.{needs}
-use Rattle.monomial.proofs.monomial_ordering.total_of.Statement.{statement}
-use Rattle.monomial.proofs.monomial_ordering.total_of.Tie as tie
-use Rattle.monomial.proofs.monomial_ordering.total_of.Reads as reads
-use Rattle.monomial.proofs.monomial_ordering.total_of.Lts as lts
+use Rattle.monomial_ordering.proofs.total_of.Statement.{statement}
+use Rattle.monomial_ordering.proofs.total_of.Tie as tie
+use Rattle.monomial_ordering.proofs.total_of.Reads as reads
+use Rattle.monomial_ordering.proofs.total_of.Lts as lts
 use Rattle.words.proofs.get.Reads as get-reads
 use Rattle.words.proofs.is_end.Reads as is-end-reads
 use Rattle.words.proofs.power.Reads as power-reads

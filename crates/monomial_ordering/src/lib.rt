@@ -3,9 +3,9 @@ ghost use mathlib.Core.Path.{_≡_};
 ghost use Prim.Native.Nat.{_+_, _≤_};
 ghost use lib.ListN.{length};
 ghost use Rattle.words.specs.Words.{words};
 ghost use Rattle.monomial.specs.Monomial.{Starts, first, pow};
-ghost use Rattle.monomial.specs.Order.{compare, TotalOf, revlex, order};
-ghost use Rattle.monomial.specs.Walk.{differing};
+ghost use Rattle.monomial_ordering.specs.Order.{compare, TotalOf, revlex, order};
+ghost use Rattle.monomial_ordering.specs.Order.{differing};
 
 pub enum CmpOrd {
     Less,

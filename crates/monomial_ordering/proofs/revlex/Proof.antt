@@ -3,16 +3,16 @@ use mathlib.Core.Path.{_≡_, sym, ap, _∙_}
 use lib.ListN.{length, getD}
 use Prim.Native.Nat.{ℕ, _<_, _-_}
 use Rattle.words.specs.Words.{words}
 use Rattle.monomial.specs.Monomial.{first}
 use Rattle.monomial.proofs.Firsts.{begins, first-bytes, read}
-use Rattle.monomial.proofs.Orders.{Matching, match-begin, all-equal, right-alone, left-alone, differs, matches}
+use Rattle.monomial_ordering.proofs.Orders.{Matching, match-begin, all-equal, right-alone, left-alone, differs, matches}
 use borrow.Author.Needs.{needs}
-use Rattle.monomial.proofs.monomial_ordering.revlex.Statement.{statement}
-use Rattle.monomial.proofs.monomial_ordering.revlex.Tie as tie
-use Rattle.monomial.proofs.monomial_ordering.revlex.Reads as reads
-use Rattle.monomial.proofs.monomial_ordering.revlex.Lts as lts
-use Rattle.monomial.proofs.monomial_ordering.cmp.Reads as cmp-reads
-use Rattle.monomial.proofs.monomial_ordering.differ.Reads as differ-reads
+use Rattle.monomial_ordering.proofs.revlex.Statement.{statement}
+use Rattle.monomial_ordering.proofs.revlex.Tie as tie
+use Rattle.monomial_ordering.proofs.revlex.Reads as reads
+use Rattle.monomial_ordering.proofs.revlex.Lts as lts
+use Rattle.monomial_ordering.proofs.cmp.Reads as cmp-reads
+use Rattle.monomial_ordering.proofs.differ.Reads as differ-reads
 use Rattle.words.proofs.get.Reads as get-reads
 use Rattle.words.proofs.power.Reads as power-reads
 

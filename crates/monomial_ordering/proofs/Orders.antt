@@ -13,14 +13,14 @@ use lib.ListN.{length, getD, drop, length-drop, drop-of-length-le}
 use borrow.Author.Tests.{eq-eqb, ne-eqb, lt-ltb, le-ltb}
 use Rattle.words.specs.Kinds.{kind, ident, power, upperHalf}
 use Rattle.words.proofs.Laws.{word-and-rest}
 use Rattle.monomial.specs.Monomial.{bias, Canonical, pow}
-use Rattle.monomial.specs.Order.{compare, andThen, total, revlex, grevlex, order}
-use Rattle.monomial.specs.Walk.{differing}
-use Rattle.monomial.specs.declared.monomial_ordering.CmpOrd.{CmpOrd}
-use Rattle.monomial.specs.declared.monomial_ordering.CmpOrd.the-variants.{Less, Equal, Greater}
+use Rattle.monomial_ordering.specs.Order.{compare, andThen, total, revlex, grevlex, order}
+use Rattle.monomial_ordering.specs.Order.{differing}
+use Rattle.monomial_ordering.specs.declared.CmpOrd.{CmpOrd}
+use Rattle.monomial_ordering.specs.declared.CmpOrd.the-variants.{Less, Equal, Greater}
 use Rattle.monomial.proofs.Canon.{IsVar, IsEnd, Canon, canon-of}
 use Rattle.monomial.proofs.Powers.{pow-here, pow-past, pow-end, pow-above}
 use Rattle.monomial.proofs.Walks.{Rest, within, Last, Next, word-at}
 
 -- ---- comparing numbers
 pub compare-less : (x y : ℕ) → x < y → compare x y ≡ Less

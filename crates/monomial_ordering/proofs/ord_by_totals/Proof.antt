@@ -1,14 +1,14 @@
 use native.Mathlib.Omega.{arith}
 use mathlib.Core.Path.{_≡_, sym, ap, _∙_}
 use Rattle.words.specs.Words.{words}
 use Rattle.monomial.specs.Monomial.{first}
-use Rattle.monomial.proofs.Orders.{by-less, by-greater, by-revlex}
+use Rattle.monomial_ordering.proofs.Orders.{by-less, by-greater, by-revlex}
 use borrow.Author.Needs.{needs}
-use Rattle.monomial.proofs.monomial_ordering.ord_by_totals.Statement.{statement}
-use Rattle.monomial.proofs.monomial_ordering.ord_by_totals.Tie as tie
-use Rattle.monomial.proofs.monomial_ordering.ord_by_totals.Reads as reads
-use Rattle.monomial.proofs.monomial_ordering.ord_by_totals.Lts as lts
-use Rattle.monomial.proofs.monomial_ordering.revlex.Reads as revlex-reads
+use Rattle.monomial_ordering.proofs.ord_by_totals.Statement.{statement}
+use Rattle.monomial_ordering.proofs.ord_by_totals.Tie as tie
+use Rattle.monomial_ordering.proofs.ord_by_totals.Reads as reads
+use Rattle.monomial_ordering.proofs.ord_by_totals.Lts as lts
+use Rattle.monomial_ordering.proofs.revlex.Reads as revlex-reads
 
 returns : tie.Need-returns
 returns c =

@@ -5,10 +5,11 @@ use mathlib.Core.List.{List}
 use Prim.Native.Nat.{ℕ, zero, suc, _+_}
 use lib.Dec.{ltb}
 use lib.ListN.{length}
+use Rattle.words.specs.Kinds.{power, upperHalf}
 use Rattle.monomial.specs.Monomial.{pow}
-use Rattle.monomial.specs.declared.monomial_ordering.CmpOrd.{CmpOrd}
-use Rattle.monomial.specs.declared.monomial_ordering.CmpOrd.the-variants.{Less, Equal, Greater}
-use Rattle.monomial.specs.declared.monomial_ordering.Total.{Total}
+use Rattle.monomial_ordering.specs.declared.CmpOrd.{CmpOrd}
+use Rattle.monomial_ordering.specs.declared.CmpOrd.the-variants.{Less, Equal, Greater}
+use Rattle.monomial_ordering.specs.declared.Total.{Total}
 
 unfoldable pub compare : ℕ → ℕ → CmpOrd
 compare x y = cond (ltb x y) Less (cond (ltb y x) Greater Equal)
@@ -36,6 +37,11 @@ grevlex n p q = andThen (compare (total n p) (total n q)) (revlex n p q)
 -- the order on words of kind k. An id has 12 bits.
 unfoldable pub order : ℕ → List ℕ → List ℕ → CmpOrd
 order k a b = grevlex 4096 (pow k a) (pow k b)
+
+-- what two words say of their monomials where they differ, and all variables of smaller ids have the same powers
+unfoldable pub differing : ℕ → ℕ → ℕ → CmpOrd
+differing x y absent =
+    cond (ltb (upperHalf x) (upperHalf y)) (compare absent (power x)) (cond (ltb (upperHalf y) (upperHalf x)) (compare (power y) absent) (compare (power y) (power x)))
 
 -- the total of the words m of kind k, and their number of variables
 pub record TotalOf (k : ℕ) (m : List ℕ) (t : Total) : Type 0 where
