@@ -8,8 +8,11 @@ ghost use Rattle.monomial.specs.Monomial.{Canonical, Starts, first};
 ghost use Rattle.monomial.specs.Operations as ops;
 ghost use Rattle.power_table.specs.Tabled.{Powers};
 
-// Lays the powers of m out in a table of 64 words.
-pub fn lay(table: &mut [u8; 256], m: &[u8])
+// One word a variable.
+pub type Table = [u8; 256];
+
+// Lays the powers of m out in a table.
+pub fn lay(table: &mut Table, m: &[u8])
     requires { ⌜ Canonical 1 64 (words (now m)) ⌝ }
     ensures { λ _. ⌜ (length (now (table .exit)) ≡ 256) × Powers (words (now (table .exit))) (words (now (m .entry))) ⌝ }
 {

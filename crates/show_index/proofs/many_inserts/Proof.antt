@@ -4,8 +4,7 @@ use Rattle.show_index.proofs.many_inserts.Statement.{statement}
 use Rattle.show_index.proofs.many_inserts.Tie as tie
 use Rattle.show_index.proofs.many_inserts.Reads as reads
 use Rattle.show_index.proofs.many_inserts.Lts as lts
-use Rattle.show_index.proofs.calls.put_call.Reads as put-call-reads
-use Rattle.show_index.proofs.element.Reads as element-reads
+use Rattle.show_index.proofs.put_call.Reads as put-call-reads
 
 abbrev Inv-loop : tie.InvT-loop
 Inv-loop list₀ at₀ i₀ list at i = (at ≤ 4096) × (i ≤ 240)
@@ -15,9 +14,6 @@ abbrev μ-loop : tie.MeasureT-loop
 
 loop-holds : tie.Need-loop-holds Inv-loop μ-loop
 loop-holds c = search needs
-
-element-requires : tie.Need-element-requires Inv-loop μ-loop
-element-requires c κs = search needs
 
 put-call-requires : tie.Need-put-call-requires Inv-loop μ-loop
 put-call-requires c κs = search needs
@@ -41,7 +37,6 @@ many-inserts-spec =
     Inv-loop
     μ-loop
     loop-holds
-    element-requires
     put-call-requires
     add-i
     loop-less

@@ -5,8 +5,8 @@ use Rattle.show_index.proofs.show_labels.Tie as tie
 use Rattle.show_index.proofs.show_labels.Reads as reads
 use Rattle.show_index.proofs.show_labels.Lts as lts
 use Rattle.index_image.proofs.head.read.Reads as read-reads
-use Rattle.show_index.proofs.notation.text.Reads as text-reads
-use Rattle.show_index.proofs.tree.labels.Reads as labels-reads
+use Rattle.show_index.proofs.text.Reads as text-reads
+use Rattle.show_index.proofs.labels.Reads as labels-reads
 
 slice-aggregate-text : tie.Need-slice-aggregate-text
 slice-aggregate-text c = search needs
