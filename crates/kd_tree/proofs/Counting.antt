@@ -38,7 +38,8 @@ use Rattle.monomial.proofs.Firsts.{starts-wide, starts-whole, first-whole}
 use Rattle.index_image.proofs.Bounds.{ratio-width, size-small, width-least}
 use Rattle.index_image.proofs.EntryWords.{no-ratio}
 use Rattle.kd_split.specs.HasTree.{Holds}
-use Rattle.kd_split.proofs.Reading.{entry-fits, entry-is, kind-one, ratios, label-of-entry, holds-ready, lm-of, mask-of, rest-starts, rest-first}
+use Rattle.kd_split.proofs.Reading.{entry-fits, entry-is, kind-one, ratios, label-of-entry, holds-ready, lm-of, mask-of}
+use Rattle.kd_dimension.proofs.Reading.{rest-starts, rest-first}
 use Rattle.kd_tree.specs.Asked.{maskIn, vectorIn, fromIn, toIn, floorIn, slotIn, maskAtIn, optionOf, searchOf, labelAt, slotAt, lowered, Range, Asks}
 use Rattle.kd_tree.specs.Counted.{Entered, mayAt, divisorAt, counted, leastAbove}
 
