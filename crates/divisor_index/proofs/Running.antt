@@ -13,7 +13,7 @@ use Rattle.words.specs.Kinds.{kind}
 use Rattle.words.specs.Words.{words, putW, pasteW}
 use Rattle.words.specs.Tables.{zeros}
 use Rattle.words.proofs.Laws.{Bytes, length-pasteW, pasteW-nil, putW-paste}
-use Rattle.words.proofs.Tables.{length-zeros}
+use Rattle.words.proofs.Tables.{length-zeros, paste-again}
 use Rattle.index_theory.specs.State.{State, Valid}
 use Rattle.index_theory.specs.Calls.{Call, bodyOf, calls, listed, step, after, answers}
 use Rattle.index_theory.proofs.Lists.{answers-many, answers-two, after-two, lists-exact}
@@ -25,7 +25,6 @@ use Rattle.index_image.proofs.Encoding.{image-length}
 use Rattle.index_image.proofs.Lengths.{valid-fits}
 use Rattle.index_image.proofs.Pasted.{pasted}
 use Rattle.listing.proofs.Monomials.{behind}
-use Rattle.kd_labelling.proofs.Settling.{paste-again}
 use Rattle.call_list.proofs.Parting.{past-end, calls-nil}
 use Rattle.indices.specs.Replied.{Replied}
 use Rattle.indices.proofs.Inserts.{itself}
@@ -170,7 +169,7 @@ module _ (W bs₀ out₀ : List ℕ) (S : Sound bs₀) where
               let l : length (encode u) ≡ length (encode (after u (callAt W i ∷ []))) =
               encode-long u (now-is .valid) ∙ sym (size-same u (after u (callAt W i ∷ [])) sz) ∙ sym (encode-long (after u (callAt W i ∷ [])) (after-valid (callAt W i ∷ []) u (now-is .valid))) in
               let eb : bs′ ≡ pasteW bs 0 (encode (after u (callAt W i ∷ []))) = d .image u now-is ∙ ap (λ x. pasteW bs 0 (encode x)) (sym one) in
-              rw (after-two st (R .done) (callAt W i ∷ [])) (paste-again bs₀ bs bs′ [] (encode u) (encode (after u (callAt W i ∷ []))) l
+              rw (after-two st (R .done) (callAt W i ∷ [])) (paste-again bs₀ bs bs′ (encode u) (encode (after u (callAt W i ∷ []))) l
               (omega (arith, I .room, encode-long u (now-is .valid), size-same st u (same-after (R .done) st))) (R .ran .image st I) eb)
 
           out-next : putMid (4 * n) k out ys ≡ pasteW out₀ 0 (answers st (R .done ++ (callAt W i ∷ [])))

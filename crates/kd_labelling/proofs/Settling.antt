@@ -1,12 +1,12 @@
 -- A value gets its label and its row. Assumes nothing.
 use mathlib.Core.Path.{_≡_, refl, sym, ap, _∙_}
 use mathlib.Core.Bool.{Bool, true, false, not}
-use mathlib.Core.List.{List, []}
-use Prim.Native.Nat.{ℕ, _*_, _≤_, _<_}
+use mathlib.Core.List.{List}
+use Prim.Native.Nat.{ℕ, _<_}
 use native.Mathlib.Omega.{arith}
 use lib.ListN.{length, getD}
 use Rattle.words.specs.Words.{words, pasteW}
-use Rattle.words.proofs.Tables.{paste-over, over-all, never}
+use Rattle.words.proofs.Tables.{never, paste-again}
 use Rattle.fast_compare.specs.Labels.{sorted}
 use Rattle.fast_compare.specs.Map.{Value, Good, State, Valid, cmp, value, place, answer, stored, after, rebuild}
 use Rattle.fast_compare.specs.Layout.{size, encode, Is, Gave}
@@ -23,10 +23,6 @@ use Rattle.index_image.specs.Shape as at
 use Rattle.index_theory.specs.State.{rowOr, rowOf}
 use Rattle.index_image.proofs.Rows.{row-of}
 use Rattle.kd_labelling.specs.Labelling.{isNoLabel, settled}
-
--- ---- an image pasted over an image
-pub paste-again : (bs a b d E F : List ℕ) → length E ≡ length F → 4 * length E ≤ length bs → a ≡ pasteW bs 0 E → b ≡ pasteW a 0 F → b ≡ pasteW bs 0 F
-paste-again bs a b d E F l h ea eb = eb ∙ rw ea (paste-over bs E 0 F (omega arith) h ∙ ap (pasteW bs 0) (over-all E F (sym l)))
 
 -- a call keeps the numbers of a map
 pub after-shape : (l : State) (v : Value) → (after l v .variables ≡ l .variables) × (after l v .capacity ≡ l .capacity)
@@ -103,9 +99,9 @@ module _ (bs a : List ℕ) (l : State) (v : Value) (r : Comparer) (I : Is l bs) 
         let l1 = encode-length (rebuild l) rv in
         let l2 : length (encode (after (rebuild l) v)) ≡ size (l .variables) (l .capacity) = after-long in
         let ea : a ≡ pasteW bs 0 (encode l) = g .bytes ∙ rw same in
-        let to : b ≡ pasteW bs 0 (encode (rebuild l)) = paste-again bs a b [] (encode l) (encode (rebuild l)) (l0 ∙ sym l1) (omega (arith, I .room)) ea eb in
+        let to : b ≡ pasteW bs 0 (encode (rebuild l)) = paste-again bs a b (encode l) (encode (rebuild l)) (l0 ∙ sym l1) (omega (arith, I .room)) ea eb in
         rw (relabel-second (answer l v) l v (ap isNoLabel (sym (g .answers)) ∙ none-free))
-        (paste-again bs b d [] (encode (rebuild l)) (encode (after (rebuild l) v)) (l1 ∙ sym l2) (omega (arith, I .room)) to (h .bytes))
+        (paste-again bs b d (encode (rebuild l)) (encode (after (rebuild l) v)) (l1 ∙ sym l2) (omega (arith, I .room)) to (h .bytes))
       where
         after-long : length (encode (after (rebuild l) v)) ≡ size (l .variables) (l .capacity)
         after-long =

@@ -19,13 +19,18 @@ use Rattle.index_image.specs.Walk.{power, mapMaxima}
 use Rattle.index_image.specs.Rows.{entriesFrom}
 use Rattle.index_image.specs.declared.Shape.{Shape}
 use Rattle.kd_split.specs.HasTree.{Holds, HasTree, Became}
-use Rattle.kd_split.specs.Split.{keyIn, markIn, onSide, lesses, others, leafWords, Splittable, SplitAt}
+use Rattle.kd_dimension.specs.Choice.{keyIn, markIn}
+use Rattle.kd_sides.specs.Sides.{onSide, lesses, others}
+use Rattle.kd_rows.specs.Leaves.{leafWords}
+use Rattle.kd_split.specs.Split.{Splittable, SplitAt}
 use Rattle.kd_split.proofs.Standing.{based, leaf-row, length-row}
 use Rattle.index_image.proofs.Bounds.{size-small}
 use Rattle.index_image.proofs.Trees.{nodes-leaf}
 use Rattle.kd_split.proofs.Reading.{holds-ready}
-use Rattle.kd_split.proofs.Splitting.{Wrote, wrote, leaf-words, sides-length, Rooms, rooms, small-less, small-other, holds₁, holds₃, holds₄, less-entries, other-entries, split-became}
-use Rattle.kd_split.proofs.Writing.{parts-small, leaf-small}
+use Rattle.kd_split.proofs.Splitting.{Wrote, wrote, leaf-words, Rooms, rooms, small-less, small-other, holds₁, holds₃, holds₄, less-entries, other-entries, split-became}
+use Rattle.kd_sides.proofs.Writing.{sides-length}
+use Rattle.kd_sides.proofs.Writing.{parts-small}
+use Rattle.kd_rows.proofs.Writing.{leaf-small}
 
 part-small : (bs : List ℕ) (a n : ℕ) → Bytes bs → a + n ≤ length (words bs) → Words (part (words bs) a n)
 part-small bs a n by h = small-each (part (words bs) a n) (λ i l. rw (part-get (words bs) a n i (omega (arith, length-part (words bs) a n h))) (words-small bs by (a + i))) .each

@@ -2,17 +2,13 @@
 use mathlib.Core.Path.{_≡_, refl, sym, ap, _∙_}
 use mathlib.Core.Option.{some}
 use mathlib.Core.List.{List}
-use Prim.Native.Nat.{ℕ, _+_, _*_, _≤_, _<_}
+use Prim.Native.Nat.{ℕ, _+_, _≤_, _<_}
 use native.Mathlib.Omega.{arith}
-use lib.ListN.{length, getD, take, drop, length-drop}
+use lib.ListN.{length, getD, drop, length-drop}
 use Rattle.fast_compare.specs.Map as map
-use Rattle.words.specs.Words.{words}
 use Rattle.words.specs.Tables.{part}
-use Rattle.words.proofs.Laws.{length-words, words-rest}
 use Rattle.words.proofs.Tables.{row-fits}
-use Rattle.monomial.specs.Monomial.{front, Starts, first, pow}
-use Rattle.monomial.proofs.Firsts.{starts-wide, first-part}
-use Rattle.index_image.specs.Rows.{monomialIn}
+use Rattle.monomial.specs.Monomial.{pow}
 use Rattle.divmask.specs.Mask.{mask}
 use Rattle.index_theory.specs.Entries.{entryAt, ratioOf}
 use Rattle.index_theory.specs.State.{Kind, ratioed, State, powerIn, labelOf, LabelsOf}
@@ -121,17 +117,3 @@ module _ (st : State) (W : List ℕ) (s : Shape) (H : Holds st W s) where
   pub mask-of : (e : ℕ) → e < s .entries → getD W (at.entryAt s e + (s .variables + 1)) 0 ≡ mask (st .variables) (st .mapMaxima) (pow 1 (entryAt (st .entries) e .lm))
   unfolding lmIn slotIn
   mask-of e h = entry-is e h .lm-slot .masked ∙ rw (lm-of e h, H .map, H .vars)
-
--- what the reader of an entry's label asks
-pub label-asked : (bs : List ℕ) (s : Shape) → walk.Ready (words bs) s → (e : ℕ) → s .kind ≡ 1 → e < s .entries
-    → at.InRange s × ((4 * at.size s ≤ length bs) × (((s .kind ≡ 1) × (e < s .capacity)) × (walk.rowIn (words bs) s e < s .capacity)))
-label-asked bs s R e k h = (R .range, (omega (arith, R .room, length-words bs), ((k, omega (arith, R .range .few)), R .rows k e h)))
-
--- the monomial at the front of the image's rest from word p on
-module _ (bs : List ℕ) (m p k : ℕ) (h : length bs ≤ 4 * p + k) (t : front 1 m 0 (drop p (words bs)) ≡ 0 → ⊥) where
-  pub rest-starts : Starts 1 4096 (words (take k (drop (4 * p) bs)))
-  rest-starts = rw (words-rest bs p k h) (starts-wide (record { some = t }))
-
-  pub rest-first : first 1 (words (take k (drop (4 * p) bs))) ≡ monomialIn (words bs) m p
-  unfolding monomialIn
-  rest-first = rw (words-rest bs p k h) (first-part (words bs) p (record { some = t }))

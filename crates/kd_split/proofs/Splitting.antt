@@ -1,22 +1,21 @@
 -- A leaf is split: what its writes come to. Assumes nothing.
 use mathlib.Core.Path.{_≡_, refl, sym, ap, _∙_}
-use mathlib.Core.Bool.{Bool, true, false, not, cond}
+use mathlib.Core.Bool.{true, false}
 use mathlib.Core.List.{List, [], _∷_, _++_}
-use Prim.Native.Nat.{ℕ, zero, suc, _+_, _-_, _*_, _^_, _≤_, _<_}
-use native.Mathlib.Nat.{add-mul, one-mul}
+use Prim.Native.Nat.{ℕ, suc, _+_, _-_, _*_, _≤_, _<_}
+use native.Mathlib.Nat.{one-mul}
 use native.Mathlib.Decide.{decLe}
 use native.Mathlib.Omega.{arith}
-use lib.Dec.{ltb}
 use lib.ListN.{length, getD, take, drop, length-append, List·getD-append}
 use lib.Seq.{length-take-le, getD-take, getD-drop, getD-append-add}
 use Rattle.words.specs.Words.{words, pasteW}
 use Rattle.words.specs.Tables.{part}
 use Rattle.words.proofs.Laws.{Words, length-words, length-pasteW, words-pasteW}
 use Rattle.words.proofs.Tables.{part-get, part-mid, part-append, length-part, row-fits}
-use Rattle.kd_theory.specs.Bag.{occurs, _∈_, Same, keep}
-use Rattle.kd_theory.specs.Tree.{Tree, leaf, branch, inorder, count, nodes}
-use Rattle.kd_theory.proofs.BagLaws.{keep-length, keep-same, keep-holds, occurs-append, in-both}
-use Rattle.index_theory.specs.State.{State, keys, powerIn}
+use Rattle.kd_theory.specs.Bag.{_∈_, keep}
+use Rattle.kd_theory.specs.Tree.{leaf, branch, nodes}
+use Rattle.kd_theory.proofs.BagLaws.{keep-holds, in-both}
+use Rattle.index_theory.specs.State.{State, powerIn}
 use Rattle.index_image.specs.Layout.{nodeWords, treeWords}
 use Rattle.index_image.specs.Shape as at
 use Rattle.index_image.specs.Walk.{power, mapMaxima}
@@ -25,9 +24,11 @@ use Rattle.index_image.specs.declared.Shape.{Shape}
 use Rattle.index_image.proofs.Trees.{nodes-branch, nodes-leaf}
 use Rattle.index_image.proofs.Keys.{tree-words-ext}
 use Rattle.index_image.proofs.Once.{get-in}
-use Rattle.kd_split.specs.HasTree.{Holds, Stands, HasTree, Became}
-use Rattle.kd_split.specs.Split.{onSide, leafWords}
-use Rattle.kd_split.proofs.Standing.{Based, based, part-same, part-kept, node-add, node-next, node-le, Row, row-of, row-same, row-inside, length-row, leaf-row, uncut, ordered-small}
+use Rattle.kd_split.specs.HasTree.{Holds, HasTree, Became}
+use Rattle.kd_sides.specs.Sides.{onSide}
+use Rattle.kd_rows.specs.Leaves.{leafWords}
+use Rattle.kd_sides.proofs.Writing.{sides-length, sides-same}
+use Rattle.kd_split.proofs.Standing.{Based, based, part-kept, node-add, node-next, node-le, Row, row-same, row-inside, length-row, leaf-row, uncut, ordered-small}
 use Rattle.kd_split.proofs.Becoming.{paste-rest}
 use Rattle.kd_split.proofs.Reading.{power-of}
 
@@ -99,16 +100,6 @@ leaf-words st W s lo c es H e small =
     ap (λ (l : List ℕ). nodeWords (s .variables) (mapMaxima W s) (power W s) 0 0 0 l) e
     ∙ ap (λ (l : List ℕ). nodeWords (s .variables) l (power W s) 0 0 0 es) (H .map)
     ∙ tree-words-ext (s .variables) (st .mapMaxima) (power W s) (powerIn (st .entries)) (leaf es) (λ v e i. power-of st W s H v e (small e i))
-
--- ---- the two sides
-module _ (pw : ℕ → ℕ → ℕ) (d x : ℕ) (es : List ℕ) where
-  pub sides-length : length es ≡ length (keep (onSide pw d x true) es) + length (keep (onSide pw d x false) es)
-  unfolding onSide
-  sides-length = keep-length (onSide pw d x true) es
-
-  pub sides-same : Same es (keep (onSide pw d x true) es ++ keep (onSide pw d x false) es)
-  unfolding onSide
-  sides-same n = keep-same (onSide pw d x true) n es ∙ sym (occurs-append n (keep (onSide pw d x true) es) (keep (onSide pw d x false) es))
 
 module _ (st : State) (s : Shape) (bs : List ℕ) (k lo rows c d x key : ℕ) (es : List ℕ) (h : HasTree st (words bs) s k lo rows (leaf es)) (ec : c ≡ length es) (many : 64 < c) (pw₀ : ℕ → ℕ → ℕ) where
   abbrev A : ℕ

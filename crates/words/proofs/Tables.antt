@@ -249,6 +249,10 @@ paste-over bs E at ws h k =
     let wl : bytes (a ++ (ws ++ r)) ≡ bytes a ++ (bytes ws ++ bytes r) = bytes-append a (ws ++ r) ∙ rw (bytes-append ws r) in
     rw (front, back, lo, wl) (simp append-assoc)
 
+-- an image pasted over an image
+pub paste-again : (bs a b E F : List ℕ) → length E ≡ length F → 4 * length E ≤ length bs → a ≡ pasteW bs 0 E → b ≡ pasteW a 0 F → b ≡ pasteW bs 0 F
+paste-again bs a b E F l h ea eb = eb ∙ rw ea (paste-over bs E 0 F (omega arith) h ∙ ap (pasteW bs 0) (over-all E F (sym l)))
+
 -- ---- words that fit 32 bits; a record, so that the list is inferred
 pub record Small (l : List ℕ) : Type 0 where
   pub each : Words l

@@ -7,10 +7,10 @@ use Rattle.kd_split.proofs.split_leaf.Tie as tie
 use Rattle.kd_split.proofs.split_leaf.Reads as reads
 use Rattle.kd_split.proofs.split_leaf.Lts as lts
 use Rattle.index_image.proofs.Shape.node_at.Reads as node-at-reads
-use Rattle.kd_split.proofs.mark.Reads as mark-reads
-use Rattle.kd_split.proofs.part_entries.Reads as part-entries-reads
-use Rattle.kd_split.proofs.row_head.Reads as row-head-reads
-use Rattle.kd_split.proofs.write_leaf.Reads as write-leaf-reads
+use Rattle.kd_sides.proofs.mark.Reads as mark-reads
+use Rattle.kd_sides.proofs.part_entries.Reads as part-entries-reads
+use Rattle.kd_rows.proofs.row_head.Reads as row-head-reads
+use Rattle.kd_rows.proofs.write_leaf.Reads as write-leaf-reads
 use Rattle.words.proofs.get.Reads as get-reads
 use Rattle.words.proofs.runs.move_up.Reads as move-up-reads
 

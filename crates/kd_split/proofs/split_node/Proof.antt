@@ -7,7 +7,7 @@ use Rattle.kd_split.proofs.split_node.Tie as tie
 use Rattle.kd_split.proofs.split_node.Reads as reads
 use Rattle.kd_split.proofs.split_node.Lts as lts
 use Rattle.index_image.proofs.Shape.node_at.Reads as node-at-reads
-use Rattle.kd_split.proofs.choose.Reads as choose-reads
+use Rattle.kd_dimension.proofs.choose.Reads as choose-reads
 use Rattle.kd_split.proofs.split_leaf.Reads as split-leaf-reads
 use Rattle.words.proofs.get.Reads as get-reads
 
