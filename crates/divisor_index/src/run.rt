@@ -10,22 +10,15 @@ ghost use Rattle.word_reader.specs.Places.{callAt, callEnd};
 ghost use Rattle.divisor_index.specs.Ran.{Called, Ran};
 
 // Serves the call at word `at`, where the reader reads it, writes its answer word at the front of `out` and returns the word behind the call.
-fn call_at(
-    image: &mut [u8],
-    q: &mut [u8],
-    scratch: &mut [u8],
-    list: &[u8],
-    at: usize,
-    out: &mut [u8],
-) -> usize
+fn call_at(image: &mut [u8], q: &mut [u8], list: &[u8], at: usize, out: &mut [u8]) -> usize
     requires { ⌜ Sound (now image) ⌝ }
-    requires { ⌜ (368 ≤ length (now q)) × (260 ≤ length (now scratch)) ⌝ }
+    requires { ⌜ 368 ≤ length (now q) ⌝ }
     requires { ⌜ (at < length (words (now list))) × (4 ≤ length (now out)) ⌝ }
     ensures { λ r. ⌜ r ≡ callEnd (words (now (list .entry))) at ⌝ }
     ensures { λ _. ⌜ Called (callAt (words (now (list .entry))) at) (now (image .entry)) (now (image .exit)) (now (out .entry)) (now (out .exit)) ⌝ }
 {
     let c = word_reader::read_call(list, at);
-    let w = indices::call(image, q, scratch, list, c.number, at + 1, c.next);
+    let w = indices::call(image, q, list, c.number, at + 1, c.next);
     words::put(out, 0, w);
     c.next
 }
@@ -38,13 +31,12 @@ pub fn run(image: &mut [u8], list: &[u8], out: &mut [u8])
     ensures { λ _. ⌜ Ran (calls (words (now (list .entry)))) (now (image .entry)) (now (image .exit)) (now (out .entry)) (now (out .exit)) ⌝ }
 {
     let mut q = [0u8; 368];
-    let mut scratch = [0u8; 260];
     let end = list.len() / 4;
     let mut n: usize = 0;
     let mut at: usize = 0;
     while at < end {
         let o = 4 * n;
-        at = call_at(image, &mut q, &mut scratch, list, at, &mut out[o..]);
+        at = call_at(image, &mut q, list, at, &mut out[o..]);
         n += 1;
     }
 }

@@ -28,17 +28,9 @@ pub fn shape(image: &[u8]) -> Shape
 }
 
 // A call of a list: its number, and its body from word `at` up to `end`. The answer word, or a refusal in its place.
-pub fn call(
-    image: &mut [u8],
-    q: &mut [u8],
-    scratch: &mut [u8],
-    list: &[u8],
-    number: u32,
-    at: usize,
-    end: usize,
-) -> u32
+pub fn call(image: &mut [u8], q: &mut [u8], list: &[u8], number: u32, at: usize, end: usize) -> u32
     requires { ⌜ Sound (now image) ⌝ }
-    requires { ⌜ (368 ≤ length (now q)) × (260 ≤ length (now scratch)) ⌝ }
+    requires { ⌜ 368 ≤ length (now q) ⌝ }
     requires { ⌜ (at ≤ length (words (now list))) × (end ≡ at + length (bodyOf (drop at (words (now list))))) ⌝ }
     ensures { λ r. ⌜ Replied (λ st. step st (record { number = number; body = bodyOf (drop at (words (now (list .entry)))) })) (now (image .entry)) (now (image .exit)) r ⌝ }
 {
@@ -46,5 +38,5 @@ pub fn call(
     if s.kind == 0 {
         return monomial_index::call(image, s, q, list, number, at, end);
     }
-    ratio_monomial_index::call(image, s, q, scratch, list, number, at, end)
+    ratio_monomial_index::call(image, s, q, list, number, at, end)
 }

@@ -103,20 +103,19 @@ pub fn test_singular_criterion(
     image: &mut [u8],
     s: Shape,
     q: &mut [u8],
-    scratch: &mut [u8],
     index: u32,
     sign: &[u8],
     lm: &[u8],
 ) -> u32
     requires { ⌜ Root (now image) s ⌝ }
     requires { ⌜ s .kind ≡ 1 ⌝ }
-    requires { ⌜ (368 ≤ length (now q)) × (260 ≤ length (now scratch)) ⌝ }
+    requires { ⌜ 368 ≤ length (now q) ⌝ }
     requires { ⌜ index < 268435456 ⌝ }
     requires { ⌜ Canonical 1 (s .variables) (words (now sign)) ⌝ }
     requires { ⌜ Canonical 1 (s .variables) (words (now lm)) ⌝ }
     ensures { λ r. ⌜ Replied (λ st. serve st (query (singular index (words (now (sign .entry))) (words (now (lm .entry)))))) (now (image .entry)) (now (image .exit)) r ⌝ }
 {
-    kd_query::singular(image, s, q, scratch, index, sign, lm);
+    kd_query::singular(image, s, q, index, sign, lm);
     if kd_tree::find(image, q, sign) == 0 {
         return words::answer_word(0);
     }
@@ -174,7 +173,6 @@ fn signed_call(
     image: &mut [u8],
     s: Shape,
     q: &mut [u8],
-    scratch: &mut [u8],
     list: &[u8],
     number: u32,
     at: usize,
@@ -182,7 +180,7 @@ fn signed_call(
 ) -> u32
     requires { ⌜ Root (now image) s ⌝ }
     requires { ⌜ s .kind ≡ 1 ⌝ }
-    requires { ⌜ (368 ≤ length (now q)) × (260 ≤ length (now scratch)) ⌝ }
+    requires { ⌜ 368 ≤ length (now q) ⌝ }
     requires { ⌜ (number ≡ 2) ⊎ (number ≡ 6) ⌝ }
     requires { ⌜ (at ≤ length (words (now list))) × (end ≡ at + length (bodyOf (drop at (words (now list))))) ⌝ }
     ensures { λ r. ⌜ Replied (λ st. step st (record { number = number; body = bodyOf (drop at (words (now (list .entry)))) })) (now (image .entry)) (now (image .exit)) r ⌝ }
@@ -197,7 +195,7 @@ fn signed_call(
     if number == 2 {
         return insert(image, s, b.index, x, y);
     }
-    test_singular_criterion(image, s, q, scratch, b.index, x, y)
+    test_singular_criterion(image, s, q, b.index, x, y)
 }
 
 // A call to a ratio index: its number, and its body from word `at` of the list up to `end`.
@@ -205,7 +203,6 @@ pub fn call(
     image: &mut [u8],
     s: Shape,
     q: &mut [u8],
-    scratch: &mut [u8],
     list: &[u8],
     number: u32,
     at: usize,
@@ -213,7 +210,7 @@ pub fn call(
 ) -> u32
     requires { ⌜ Root (now image) s ⌝ }
     requires { ⌜ s .kind ≡ 1 ⌝ }
-    requires { ⌜ (368 ≤ length (now q)) × (260 ≤ length (now scratch)) ⌝ }
+    requires { ⌜ 368 ≤ length (now q) ⌝ }
     requires { ⌜ (at ≤ length (words (now list))) × (end ≡ at + length (bodyOf (drop at (words (now list))))) ⌝ }
     ensures { λ r. ⌜ Replied (λ st. step st (record { number = number; body = bodyOf (drop at (words (now (list .entry)))) })) (now (image .entry)) (now (image .exit)) r ⌝ }
 {
@@ -232,5 +229,5 @@ pub fn call(
     if number == 4 {
         return ratio_call(image, s, q, list, number, at, end);
     }
-    signed_call(image, s, q, scratch, list, number, at, end)
+    signed_call(image, s, q, list, number, at, end)
 }

@@ -33,9 +33,8 @@ use Rattle.label_ranges.proofs.Lending.{shape-is, kind-of}
 
 -- ---- a ratio made in a scratch
 module _ (m : ℕ) (few : m ≤ 64) (a b : List ℕ) (ca : Canonical 1 m a) (cb : Canonical 1 m b) where
-  pub ratio-fits : (space : List ℕ) → 4 * (m + 1) ≤ length space
-      → (Starts 1 4096 a) × ((Starts 1 4096 b) × (4 * length (result Op.Ratio (first 1 a) (first 1 b)) ≤ length space))
-  ratio-fits space room =
+  pub ratio-fits : (Starts 1 4096 a) × ((Starts 1 4096 b) × (length (result Op.Ratio (first 1 a) (first 1 b)) ≤ m + 1))
+  ratio-fits =
       (starts-wide (starts-whole ca), (starts-wide (starts-whole cb), rw (first-whole ca, first-whole cb) (omega (arith, length-result m a b ca cb Op.Ratio (omega arith)))))
 
   pub ratio-canonical : (ws : List ℕ) → ws ≡ result Op.Ratio a b → Canonical 2 4096 ws
@@ -54,6 +53,11 @@ module _ (m : ℕ) (few : m ≤ 64) (a b : List ℕ) (ca : Canonical 1 m a) (cb 
         size = length-take-le (4 * n) made (omega arith);
         are = ap (λ (l : List ℕ). words (take (4 * n) l)) em ∙ front-pasted space (result Op.Ratio a b) n (result-small m a b ca cb Op.Ratio) en;
       }
+
+pub quotient-ends : (bs : List ℕ) (i : ℕ) (a b rs : List ℕ) (up down : ℕ) → rs ≡ result Op.Ratio a b → ((st : State) → Is st bs → Ends (st .labels) (map.valueOf i rs) up down)
+    → (st : State) → Is st bs → Ends (st .labels) (quotientOf i a b) up down
+unfolding quotientOf
+quotient-ends bs i a b rs up down e E st I = rw e at (E st I)
 
 module _ (bs : List ℕ) (s : Shape) (h : HeadOk (words bs) (length bs) s) where
   plain-of : (st : State) → Is st bs → s .kind ≡ 0 → st .kind ≡ monomials
@@ -87,9 +91,9 @@ module _ (bs : List ℕ) (s : Shape) (h : HeadOk (words bs) (length bs) s) where
           let r = kind-of bs s h st I k in
           P st (low i (words ms)) I r refl refl (λ _. low-range st (I .valid) r (words ms) i from to floor (F st I) (T st I))
 
-      pub singular-posed : (i : ℕ) (rs l : List ℕ) (up down to floor : ℕ) → rs ≡ result Op.Ratio (words ms) l → ((st : State) → Is st bs → Ends (st .labels) (map.valueOf i rs) up down)
+      pub singular-posed : (i : ℕ) (l : List ℕ) (up down to floor : ℕ) → ((st : State) → Is st bs → Ends (st .labels) (quotientOf i (words ms) l) up down)
           → ((st : State) → Is st bs → From (st .labels) (i + 1) to) → Poses bs ms (searchNumber Singular) up to floor Q → PosedFor bs ms (singular i (words ms) l) Q
-      unfolding PosedFor Poses searchNumber dividend quotientOf
-      singular-posed i rs l up down to floor e E T P st I =
+      unfolding PosedFor Poses searchNumber dividend
+      singular-posed i l up down to floor E T P st I =
           let r = kind-of bs s h st I k in
-          P st (singular i (words ms) l) I r refl refl (λ _. singular-range st (I .valid) r i (words ms) l up down to floor (rw e at (E st I)) (T st I))
+          P st (singular i (words ms) l) I r refl refl (λ _. singular-range st (I .valid) r i (words ms) l up down to floor (E st I) (T st I))

@@ -1,6 +1,7 @@
 // From the parts of a call to the words of a query, which `kd_tree::find` reads.
 use index_image::Shape;
 use index_image::stored;
+use label_ranges::LabelEnds;
 use query_words as query;
 use query_words::Search;
 ghost use mathlib.Core.Path.{_≡_};
@@ -11,12 +12,15 @@ ghost use Rattle.monomial.specs.Monomial.{Canonical, pow};
 ghost use Rattle.divmask.specs.Mask.{mask, vector};
 ghost use Rattle.divmask.specs.Tracker.{Maxima};
 ghost use Rattle.fast_compare.specs.Map.{valueOf};
+ghost use Rattle.index_theory.specs.Entries.{quotientOf};
+ghost use Rattle.index_theory.specs.State.{State};
 ghost use Rattle.index_theory.specs.Searches.{containment, reducing, high, low, singular};
 ghost use Rattle.index_image.specs.Head.{HeadOk};
-ghost use Rattle.index_image.specs.Layout.{Sound};
+ghost use Rattle.index_image.specs.Layout.{Is, Sound};
 ghost use Rattle.index_image.specs.Shape as at;
 ghost use Rattle.index_image.specs.Walk.{mapMaxima};
 ghost use Rattle.query_words.specs.Asked.{searchNumber};
+ghost use Rattle.label_ranges.specs.Ended.{Ends};
 ghost use Rattle.kd_query.specs.Posed.{lmDivides, Poses, PosedFor};
 
 // Whether lms are to divide, or else signature monomials.
@@ -113,29 +117,33 @@ pub fn low(image: &[u8], s: Shape, q: &mut [u8], index: u32, m: &[u8])
     pose(image, s, q, m, Search::Low, from, to, 0);
 }
 
-// The query of call 6: a signature monomial of this index divides m, and its ratio is above that of m and lm, which is made in the scratch.
-pub fn singular(
-    image: &[u8],
-    s: Shape,
-    q: &mut [u8],
-    scratch: &mut [u8],
-    index: u32,
-    m: &[u8],
-    lm: &[u8],
-)
+// The ends of the ratio of m and lm, which is made here.
+fn ends_of_quotient(image: &[u8], s: Shape, index: u32, m: &[u8], lm: &[u8]) -> LabelEnds
+    requires { ⌜ Sound (now image) ⌝ }
+    requires { ⌜ HeadOk (words (now image)) (length (now image)) s ⌝ }
+    requires { ⌜ s .kind ≡ 1 ⌝ }
+    requires { ⌜ Canonical 1 (s .variables) (words (now m)) ⌝ }
+    requires { ⌜ Canonical 1 (s .variables) (words (now lm)) ⌝ }
+    ensures { λ r. ⌜ ((st : State) → Is st (now (image .entry)) → Ends (st .labels) (quotientOf index (words (now (m .entry))) (words (now (lm .entry)))) (r .above) (r .below)) ⌝ }
+{
+    let mut scratch = [0u8; 260];
+    let n = monomial::fraction_division(m, lm, &mut scratch);
+    let e = 4 * n;
+    label_ranges::ends_of(image, s, index, &scratch[..e])
+}
+
+// The query of call 6: a signature monomial of this index divides m, and its ratio is above that of m and lm.
+pub fn singular(image: &[u8], s: Shape, q: &mut [u8], index: u32, m: &[u8], lm: &[u8])
     requires { ⌜ Sound (now image) ⌝ }
     requires { ⌜ HeadOk (words (now image)) (length (now image)) s ⌝ }
     requires { ⌜ s .kind ≡ 1 ⌝ }
     requires { ⌜ 368 ≤ length (now q) ⌝ }
-    requires { ⌜ 4 * (s .variables + 1) ≤ length (now scratch) ⌝ }
     requires { ⌜ index < 268435456 ⌝ }
     requires { ⌜ Canonical 1 (s .variables) (words (now m)) ⌝ }
     requires { ⌜ Canonical 1 (s .variables) (words (now lm)) ⌝ }
     ensures { λ _. ⌜ PosedFor (now (image .entry)) (now (m .entry)) (singular index (words (now (m .entry))) (words (now (lm .entry)))) (words (now (q .exit))) ⌝ }
 {
-    let n = monomial::fraction_division(m, lm, scratch);
-    let e = 4 * n;
-    let ends = label_ranges::ends_of(image, s, index, &scratch[..e]);
+    let ends = ends_of_quotient(image, s, index, m, lm);
     let next = label_ranges::from_of(image, s, index + 1);
     pose(image, s, q, m, Search::Singular, ends.above, next, 0);
 }

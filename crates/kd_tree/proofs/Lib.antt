@@ -1,4 +1,3 @@
 pub mod Leaves
-pub mod Choosing
 pub mod Visiting
 pub mod Rooting

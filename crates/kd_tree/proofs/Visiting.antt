@@ -4,7 +4,6 @@ use mathlib.Core.Bool.{Bool, true, false, not}
 use mathlib.Core.Option.{Option, none, some}
 use mathlib.Core.List.{List, [], _∷_, _++_}
 use Prim.Native.Nat.{ℕ, zero, suc, _+_, _-_, _*_, _≤_, _<_}
-use native.Mathlib.Nat.{add-mul}
 use native.Mathlib.Omega.{arith}
 use lib.ListN.{length, getD, length-append}
 use Rattle.words.specs.Words.{words, putW}
@@ -21,7 +20,8 @@ use Rattle.index_image.specs.declared.Shape.{Shape}
 use Rattle.index_image.proofs.Trees.{some-node, nodes-branch, nodes-leaf}
 use Rattle.kd_split.specs.HasTree.{HasTree, Became}
 use Rattle.query_words.specs.Asked.{optionOf, Asks}
-use Rattle.kd_tree.specs.Searched.{searchFrom, visitOf, Ready, ReadyLeaf, ReadyBranch, Found, Searched, Branched, Scanned, SidesAre, Chosen, Grew}
+use Rattle.kd_node.specs.Branch.{ReadyBranch, Chosen, Grew}
+use Rattle.kd_tree.specs.Searched.{searchFrom, visitOf, Ready, ReadyLeaf, Found, Searched, Branched, Scanned}
 use Rattle.kd_split.specs.Split.{Standing, Stays, RootBranch, RootSplitAs, RootSplit}
 use Rattle.kd_split.proofs.Standing.{based, node-add, node-next, node-le, row-inside, Cut, count-at}
 use Rattle.kd_split.proofs.Becoming.{became-refl, became-trans, tree-became, parts, some-one, some-two, tree-less, tree-other, other-became, less-became}
@@ -452,11 +452,3 @@ as-branch bs bs′ ms s Q dim k lo rows best best′ on rows′ c st r d key a b
     let v : searchFrom st r dim (branch d key a b) (optionOf best) ≡ visitOf st r (branch d key a b) (optionOf best) = step st (h .holds .valid) r dim (branch d key a b)
     (optionOf best) (h .ordered) in
     rw v at (c st r (branch d key a b) asks h)
-
--- a skip that has grown
-pub grew : (bs bs′ : List ℕ) (s : Shape) (k added i w skip less : ℕ) → i ≡ at.nodeAt s k → w ≡ at.nodeWidth (s .variables) → skip ≡ getD (words bs) (i + 3) 0 → less ≡ getD (words bs) (i + w + 2) 0
-    → bs′ ≡ putW bs (i + 3) (skip + added) → Grew bs bs′ s k added (k + 1 + (skip + added)) less
-grew bs bs′ s k added i w skip less ei ew es el eb =
-    let n : i + w + 2 ≡ at.nodeAt s (k + 1) + 2 = omega (arith, ei, ew, add-mul k 1 (s .variables + 6)) in
-    let z : skip ≡ getD (words bs) (at.nodeAt s k + 3) 0 = es ∙ ap (λ (j : ℕ). getD (words bs) (j + 3) 0) ei in
-    record { bytes = eb ∙ rw (ei, z) refl; row-is = rw z refl; less-is = el ∙ ap (λ (j : ℕ). getD (words bs) j 0) n }

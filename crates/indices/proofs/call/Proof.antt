@@ -14,8 +14,8 @@ shape-requires c κs = search needs
 call-requires : tie.Need-call-requires
 call-requires c κs =
     let b = c .before .before .before .before in
-    let a = b .before .before .before .before .before .before in
-    (b .shape .ensures, (c .before .before .if1 .taken, (a .pre .1 .0 .0, a .pre .1 .1)))
+    let a = b .before .before .before .before .before in
+    (b .shape .ensures, (c .before .before .if1 .taken, a .pre .1))
 
 same-length : tie.Need-same-length
 same-length c = search needs
@@ -28,9 +28,9 @@ returns c = search needs
 
 call-requires-2 : tie.Need-call-requires-2
 call-requires-2 c κs =
-    let b = c .before .before .before in
+    let b = c .before .before in
     let d = b .before .before in
-    let a = d .before .before .before .before .before .before in
+    let a = d .before .before .before .before .before in
     (d .shape .ensures, (two-kinds _ _ (d .shape .ensures) (b .if1 .left), a .pre .1))
 
 same-length-3 : tie.Need-same-length-3
@@ -38,9 +38,6 @@ same-length-3 c = search needs
 
 same-length-4 : tie.Need-same-length-4
 same-length-4 c = search needs
-
-same-length-5 : tie.Need-same-length-5
-same-length-5 c = search needs
 
 returns-2 : tie.Need-returns-2
 returns-2 c = search needs
@@ -57,5 +54,4 @@ call-spec =
     call-requires-2
     same-length-3
     same-length-4
-    same-length-5
     returns-2)

@@ -15,9 +15,9 @@ use Rattle.kd_tree.proofs.+branch_search+search.Lts-branch_search as br
 use Rattle.kd_tree.proofs.search.Reads as search′
 use Rattle.kd_tree.proofs.search.Kinds as search-kinds
 use Rattle.kd_tree.proofs.+branch_search+search.Lts-search as search-lts
-use Rattle.kd_tree.proofs.grow.Reads as grow-reads
-use Rattle.kd_tree.proofs.open_node.Reads as open-node-reads
-use Rattle.kd_tree.proofs.path_at.Reads as path-at-reads
+use Rattle.kd_node.proofs.grow.Reads as grow-reads
+use Rattle.kd_node.proofs.open_node.Reads as open-node-reads
+use Rattle.kd_node.proofs.path_at.Reads as path-at-reads
 use Rattle.kd_tree.proofs.scan.Reads as scan-reads
 use Rattle.kd_leaf.proofs.step.goes_on.Reads as goes-on-reads
 use Rattle.kd_leaf.proofs.step.rows.Reads as rows-reads

@@ -19,13 +19,13 @@ read-call-requires c κs = search needs
 
 add-call : tie.Need-add-call
 add-call c =
-    let a = c .before .before .before .before .before .before .before .before .before in
+    let a = c .before .before .before .before .before .before .before in
     omega (arith, a .good, a .pre .1 .1 .0, length-words (a .args .list .now))
 
 call-requires : tie.Need-call-requires
 call-requires c κs =
-    let a = c .before .before .before .before .before .before .before .before .before in
-    let r = c .before .before .before .read-call .ensures in
+    let a = c .before .before .before .before .before .before .before in
+    let r = c .before .before .read-call .ensures in
     let ends = ap (λ (x : Step). x .next) r ∙ end-of-call (words (a .args .list .now)) (a .args .at) (a .pre .1 .1 .0) in
     (a .pre .0, (a .pre .1 .0, (omega (arith, a .pre .1 .1 .0), ends)))
 
@@ -41,14 +41,11 @@ same-length-2 c = search needs
 same-length-3 : tie.Need-same-length-3
 same-length-3 c = search needs
 
-same-length-4 : tie.Need-same-length-4
-same-length-4 c = search needs
-
 returns : tie.Need-returns
 returns c =
-    let d = c .before .before .before .before .before .before .before .before .before .before in
-    let b = d .before .before .before .before in
-    let a = b .before .before .before .before .before .before in
+    let d = c .before .before .before .before .before .before .before .before in
+    let b = d .before .before .before in
+    let a = b .before .before .before .before .before in
     let r = b .read-call .ensures in (
       ap (λ (x : Step). x .next) r,
       called (words (a .args .list .now)) (a .args .at) _ _ _ _ _ _ (ap (λ (x : Step). x .number) r) (d .call .ensures) (a .pre .1 .1 .1) (c .before .before .put .ensures),
@@ -65,5 +62,4 @@ call-at-spec =
     same-length
     same-length-2
     same-length-3
-    same-length-4
     returns)

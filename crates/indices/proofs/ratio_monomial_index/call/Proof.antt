@@ -15,7 +15,7 @@ refusal-word-requires c κs = search needs
 
 returns : tie.Need-returns
 returns c =
-    let b = c .before .before .before .before .before in
+    let b = c .before .before .before .before in
     let a = b .before in
     refuses _ _ 6 _ (of-ratioed _ _ _ (a .pre .0) _ (a .pre .1 .0) (six-below _ _ _ (c .before .if1 .taken))) (λ j. (b .slice-known .given) j .fits) (c .refusal-word .ensures)
 
@@ -24,7 +24,7 @@ refusal-word-requires-2 c κs = search needs
 
 returns-2 : tie.Need-returns-2
 returns-2 c =
-    let b = c .before .before .before .before .before .before in
+    let b = c .before .before .before .before .before in
     let a = b .before in
     refuses _ _ 6 _ (of-ratioed _ _ _ (a .pre .0) _ (a .pre .1 .0) (six-above _ _ _ (c .before .if2 .taken))) (λ j. (b .slice-known .given) j .fits) (c .refusal-word2 .ensures)
 
@@ -42,8 +42,8 @@ returns-3 c = rw (c .before .before .before .before .before .before .before .if3
 
 ratio-call-requires : tie.Need-ratio-call-requires
 ratio-call-requires c κs =
-    let a = c .before .before .before .before .before .before .before .before .before .before in
-    (a .pre .0, (a .pre .1 .0, (a .pre .1 .1 .0 .0, (inl (c .before .before .if4 .taken), a .pre .1 .1 .1))))
+    let a = c .before .before .before .before .before .before .before .before .before in
+    (a .pre .0, (a .pre .1 .0, (a .pre .1 .1 .0, (inl (c .before .before .if4 .taken), a .pre .1 .1 .1))))
 
 same-length-3 : tie.Need-same-length-3
 same-length-3 c = search needs
@@ -56,8 +56,8 @@ returns-4 c = search needs
 
 ratio-call-requires-2 : tie.Need-ratio-call-requires-2
 ratio-call-requires-2 c κs =
-    let a = c .before .before .before .before .before .before .before .before .before .before .before in
-    (a .pre .0, (a .pre .1 .0, (a .pre .1 .1 .0 .0, (inr (c .before .before .if5 .taken), a .pre .1 .1 .1))))
+    let a = c .before .before .before .before .before .before .before .before .before .before in
+    (a .pre .0, (a .pre .1 .0, (a .pre .1 .1 .0, (inr (c .before .before .if5 .taken), a .pre .1 .1 .1))))
 
 same-length-5 : tie.Need-same-length-5
 same-length-5 c = search needs
@@ -70,12 +70,12 @@ returns-5 c = search needs
 
 signed-call-requires : tie.Need-signed-call-requires
 signed-call-requires c κs =
-    let b = c .before .before .before in
+    let b = c .before .before in
     let d = b .before in
     let f = d .before in
     let g = f .before in
     let h = g .before in
-    let a = h .before .before .before .before .before in
+    let a = h .before .before .before .before in
     (a .pre .0, (a .pre .1 .0, (a .pre .1 .1 .0, (two-or-six _ (h .if1 .left) (g .if2 .left) (f .if3 .left) (d .if4 .left) (b .if5 .left), a .pre .1 .1 .1))))
 
 same-length-7 : tie.Need-same-length-7
@@ -83,9 +83,6 @@ same-length-7 c = search needs
 
 same-length-8 : tie.Need-same-length-8
 same-length-8 c = search needs
-
-same-length-9 : tie.Need-same-length-9
-same-length-9 c = search needs
 
 returns-6 : tie.Need-returns-6
 returns-6 c = search needs
@@ -113,5 +110,4 @@ call-spec =
     signed-call-requires
     same-length-7
     same-length-8
-    same-length-9
     returns-6)

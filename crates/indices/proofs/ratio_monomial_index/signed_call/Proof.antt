@@ -16,11 +16,11 @@ use Rattle.monomial.proofs.monomial_at.Reads as monomial-at-reads
 use Rattle.words.proofs.refusal_word.Reads as refusal-word-reads
 
 cast-v : tie.Need-cast-v
-cast-v c = omega (arith, few-variables _ _ (c .before .before .before .before .before .pre .0))
+cast-v c = omega (arith, few-variables _ _ (c .before .before .before .before .pre .0))
 
 add-monomial-at : tie.Need-add-monomial-at
 add-monomial-at c =
-    let a = c .before .before .before .before .before in
+    let a = c .before .before .before .before in
     omega (arith, a .good, a .pre .1 .1 .1 .1 .0, length-words (a .args .list .now))
 
 monomial-at-requires : tie.Need-monomial-at-requires
@@ -28,12 +28,12 @@ monomial-at-requires c κs = search needs
 
 add-monomial-at-2 : tie.Need-add-monomial-at-2
 add-monomial-at-2 c =
-    let a = c .before .before .before .before .before .before in
+    let a = c .before .before .before .before .before in
     omega (arith, a .good, a .pre .1 .1 .1 .1 .0, length-words (a .args .list .now))
 
 add-monomial-at-3 : tie.Need-add-monomial-at-3
 add-monomial-at-3 c =
-    let a = c .before .before .before .before .before .before in
+    let a = c .before .before .before .before .before in
     omega (arith, a .good, a .pre .1 .1 .1 .1 .0, length-words (a .args .list .now), c .monomial-at .ok)
 
 monomial-at-requires-2 : tie.Need-monomial-at-requires-2
@@ -50,7 +50,7 @@ returns c =
     let b = c .before .before .before in
     let d = b .before in
     let f = d .before in
-    let g = f .before .before .before .before .before in
+    let g = f .before .before .before .before in
     let a = g .before in
     refuses _ _ 7 _ (of-ratioed _ _ _ (a .pre .0) _ (a .pre .1 .0)
     (bad-signed _ _ _ _ _ _ (b .triple .ensures 1 _ (omega arith) (omega arith) (f .monomial-at .ensures) (d .monomial-at2 .ensures)) (a .pre .1 .1 .1 .0)
@@ -62,7 +62,7 @@ insert-requires c κs =
     let d = b .before in
     let f = d .before in
     let p = b .triple .ensures 1 _ (omega arith) (omega arith) (f .monomial-at .ensures) (d .monomial-at2 .ensures) in
-    let a = f .before .before .before .before .before .before in (
+    let a = f .before .before .before .before .before in (
       a .pre .0,
       (
         a .pre .1 .0,
@@ -86,19 +86,19 @@ returns-2 c =
     let f = d .before .before in
     let g = f .before in
     let h = g .before in
-    let a = h .before .before .before .before .before .before in
+    let a = h .before .before .before .before .before in
     serves _ _ _ _ _ (of-ratioed _ _ _ (a .pre .0) _ (a .pre .1 .0)
     (inserts-signed _ _ _ _ _ _ (f .triple .ensures 1 _ (omega arith) (omega arith) (h .monomial-at .ensures) (g .monomial-at2 .ensures)) (b .if2 .taken)
     (not-false _ (d .if1 .left)))) (c .before .before .insert .ensures)
 
 test-singular-criterion-requires : tie.Need-test-singular-criterion-requires
 test-singular-criterion-requires c κs =
-    let b = c .before .before .before .before in
+    let b = c .before .before .before in
     let d = b .before .before in
     let f = d .before in
     let g = f .before in
     let p = d .triple .ensures 1 _ (omega arith) (omega arith) (g .monomial-at .ensures) (f .monomial-at2 .ensures) in
-    let a = g .before .before .before .before .before .before in
+    let a = g .before .before .before .before .before in
     (a .pre .0, (a .pre .1 .0, (a .pre .1 .1 .0, (p .index-small, (p .first-canonical (not-false _ (b .if1 .left)), p .second-canonical (not-false _ (b .if1 .left)))))))
 
 same-length-2 : tie.Need-same-length-2
@@ -107,18 +107,15 @@ same-length-2 c = search needs
 same-length-3 : tie.Need-same-length-3
 same-length-3 c = search needs
 
-same-length-4 : tie.Need-same-length-4
-same-length-4 c = search needs
-
 returns-3 : tie.Need-returns-3
 returns-3 c =
-    let b = c .before .before .before .before .before .before in
-    let d = b .before .before .before .before in
+    let b = c .before .before .before .before in
+    let d = b .before .before .before in
     let f = d .before in
     let g = f .before .before in
     let h = g .before in
     let i = h .before in
-    let a = i .before .before .before .before .before .before in
+    let a = i .before .before .before .before .before in
     serves _ _ _ _ _ (of-ratioed _ _ _ (a .pre .0) _ (a .pre .1 .0)
     (asks-singular _ _ _ _ _ _ (g .triple .ensures 1 _ (omega arith) (omega arith) (i .monomial-at .ensures) (h .monomial-at2 .ensures)) (a .pre .1 .1 .1 .0)
     (d .if2 .left) (not-false _ (f .if1 .left)))) (b .test-singular-criterion .ensures)
@@ -142,5 +139,4 @@ signed-call-spec =
     test-singular-criterion-requires
     same-length-2
     same-length-3
-    same-length-4
     returns-3)

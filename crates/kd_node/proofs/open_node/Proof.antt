@@ -3,10 +3,10 @@ use mathlib.Core.Path.{_≡_, refl, sym, ap, _∙_}
 use Rattle.kd_split.proofs.Opening.{node-numbers, node-branch, node-short}
 use Rattle.query_words.proofs.Laying.{query-long}
 use borrow.Author.Needs.{needs}
-use Rattle.kd_tree.proofs.open_node.Statement.{statement}
-use Rattle.kd_tree.proofs.open_node.Tie as tie
-use Rattle.kd_tree.proofs.open_node.Reads as reads
-use Rattle.kd_tree.proofs.open_node.Lts as lts
+use Rattle.kd_node.proofs.open_node.Statement.{statement}
+use Rattle.kd_node.proofs.open_node.Tie as tie
+use Rattle.kd_node.proofs.open_node.Reads as reads
+use Rattle.kd_node.proofs.open_node.Lts as lts
 use Rattle.kd_split.proofs.split_node.Reads as split-node-reads
 use Rattle.query_words.proofs.node_at.Reads as node-at-reads
 use Rattle.query_words.proofs.shape.Reads as shape-reads

@@ -35,7 +35,7 @@ use Rattle.kd_split.proofs.Standing.{based, node-next, row-inside}
 use Rattle.kd_split.proofs.Becoming.{parts}
 use Rattle.kd_split.proofs.Reading.{kind-one, label-of-entry, holds-ready}
 use Rattle.query_words.specs.Asked.{nodeMaskIn, maskIn, limitIn, fromIn, toIn, labelAt, Asks}
-use Rattle.kd_tree.specs.Searched.{ReadyBranch, SidesAre, Chosen}
+use Rattle.kd_node.specs.Branch.{ReadyBranch, SidesAre, Chosen}
 
 -- ---- masks
 pub not-within : (a b : ℕ) → NotDivisible ≡ tested a b → within a b ≡ false

@@ -3,13 +3,13 @@ use mathlib.Core.Path.{_≡_, refl, sym, ap, _∙_}
 use borrow.Author.Tests.{not-true, not-false}
 use Rattle.words.proofs.Laws.{words-small}
 use Rattle.query_words.proofs.Laying.{query-long, kind-is}
-use Rattle.kd_tree.proofs.Choosing.{branch-numbers, path-stop, path-label, path-limit}
+use Rattle.kd_node.proofs.Choosing.{branch-numbers, path-stop, path-label, path-limit}
 use borrow.Author.Needs.{needs}
-use Rattle.kd_tree.proofs.path_at.Statement.{statement}
-use Rattle.kd_tree.proofs.path_at.Tie as tie
-use Rattle.kd_tree.proofs.path_at.Reads as reads
-use Rattle.kd_tree.proofs.path_at.Lts as lts
-use Rattle.kd_tree.proofs.may.Reads as may-reads
+use Rattle.kd_node.proofs.path_at.Statement.{statement}
+use Rattle.kd_node.proofs.path_at.Tie as tie
+use Rattle.kd_node.proofs.path_at.Reads as reads
+use Rattle.kd_node.proofs.path_at.Lts as lts
+use Rattle.kd_node.proofs.may.Reads as may-reads
 use Rattle.query_words.proofs.label.Reads as label-reads
 use Rattle.query_words.proofs.node_at.Reads as node-at-reads
 use Rattle.query_words.proofs.num.Reads as num-reads

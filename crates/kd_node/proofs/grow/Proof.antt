@@ -1,12 +1,12 @@
 use native.Mathlib.Omega.{arith}
 use mathlib.Core.Path.{_≡_, refl, sym, ap, _∙_}
 use Rattle.query_words.proofs.Laying.{query-long, node-word}
-use Rattle.kd_tree.proofs.Visiting.{grew}
+use Rattle.kd_node.proofs.Growing.{grew}
 use borrow.Author.Needs.{needs}
-use Rattle.kd_tree.proofs.grow.Statement.{statement}
-use Rattle.kd_tree.proofs.grow.Tie as tie
-use Rattle.kd_tree.proofs.grow.Reads as reads
-use Rattle.kd_tree.proofs.grow.Lts as lts
+use Rattle.kd_node.proofs.grow.Statement.{statement}
+use Rattle.kd_node.proofs.grow.Tie as tie
+use Rattle.kd_node.proofs.grow.Reads as reads
+use Rattle.kd_node.proofs.grow.Lts as lts
 use Rattle.query_words.proofs.node_at.Reads as node-at-reads
 use Rattle.query_words.proofs.num.Reads as num-reads
 use Rattle.words.proofs.get.Reads as get-reads

@@ -1,10 +1,10 @@
 use mathlib.Core.Path.{_≡_, refl, sym, ap, _∙_}
-use Rattle.kd_tree.proofs.Choosing.{not-within, is-within}
+use Rattle.kd_node.proofs.Choosing.{not-within, is-within}
 use borrow.Author.Needs.{needs}
-use Rattle.kd_tree.proofs.may.Statement.{statement}
-use Rattle.kd_tree.proofs.may.Tie as tie
-use Rattle.kd_tree.proofs.may.Reads as reads
-use Rattle.kd_tree.proofs.may.Lts as lts
+use Rattle.kd_node.proofs.may.Statement.{statement}
+use Rattle.kd_node.proofs.may.Tie as tie
+use Rattle.kd_node.proofs.may.Reads as reads
+use Rattle.kd_node.proofs.may.Lts as lts
 use Rattle.divmask.proofs.divides.Reads as divides-reads
 use Rattle.words.proofs.get.Reads as get-reads
 
