@@ -24,7 +24,7 @@ use Rattle.index_image.proofs.Bounds.{size-small}
 use Rattle.index_image.proofs.Shapes.{empty-range}
 use Rattle.call_list.specs.Bodies.{IsList}
 use Rattle.listing.specs.Listed.{Root, Each}
-use Rattle.indices.proofs.Inserts.{shaped}
+use Rattle.index_replies.proofs.Inserts.{shaped}
 use Rattle.index_opening.specs.Kinds.{indexKind}
 use Rattle.divisor_index.specs.Ran.{Ran}
 use Rattle.divisor_index.specs.Doors.{openingGood, lengthNumber, openNumber, openBytes, RunIs, ListingIs}

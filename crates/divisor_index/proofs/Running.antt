@@ -26,8 +26,8 @@ use Rattle.index_image.proofs.Lengths.{valid-fits}
 use Rattle.index_image.proofs.Pasted.{pasted}
 use Rattle.listing.proofs.Monomials.{behind}
 use Rattle.call_list.proofs.Parting.{past-end, calls-nil}
-use Rattle.indices.specs.Replied.{Replied}
-use Rattle.indices.proofs.Inserts.{itself}
+use Rattle.index_replies.specs.Replied.{Replied}
+use Rattle.index_replies.proofs.Inserts.{itself}
 use Rattle.call_list.specs.Bodies.{IsList}
 use Rattle.word_reader.specs.Places.{callAt, callEnd}
 use Rattle.word_reader.proofs.Places.{end-inside, calls-here, starts-next}

@@ -1,7 +1,4 @@
 // Both indexes on an image: each call over a canonical request, and over the words of a list.
-pub mod monomial_index;
-pub mod ratio_monomial_index;
-
 use index_image::Shape;
 use index_image::fields;
 ghost use mathlib.Core.Path.{_≡_};
@@ -11,7 +8,7 @@ ghost use Rattle.words.specs.Words.{words};
 ghost use Rattle.index_theory.specs.Calls.{bodyOf, Call, step};
 ghost use Rattle.index_image.specs.Layout.{Sound};
 ghost use Rattle.listing.specs.Listed.{Root};
-ghost use Rattle.indices.specs.Replied.{Replied};
+ghost use Rattle.index_replies.specs.Replied.{Replied};
 
 // The numbers of a sound image's header.
 pub fn shape(image: &[u8]) -> Shape

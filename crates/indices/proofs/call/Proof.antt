@@ -1,11 +1,11 @@
-use Rattle.indices.proofs.Queries.{two-kinds}
+use Rattle.index_replies.proofs.Queries.{two-kinds}
 use borrow.Author.Needs.{needs}
 use Rattle.indices.proofs.call.Statement.{statement}
 use Rattle.indices.proofs.call.Tie as tie
 use Rattle.indices.proofs.call.Reads as reads
 use Rattle.indices.proofs.call.Lts as lts
-use Rattle.indices.proofs.monomial_index.call.Reads as monomial-index-call-reads
-use Rattle.indices.proofs.ratio_monomial_index.call.Reads as ratio-monomial-index-call-reads
+use Rattle.monomial_index.proofs.call.Reads as monomial-index-call-reads
+use Rattle.ratio_monomial_index.proofs.call.Reads as ratio-monomial-index-call-reads
 use Rattle.indices.proofs.shape.Reads as shape-reads
 
 shape-requires : tie.Need-shape-requires

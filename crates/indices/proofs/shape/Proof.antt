@@ -1,4 +1,4 @@
-use Rattle.indices.proofs.Queries.{root-of, head-room}
+use Rattle.index_replies.proofs.Queries.{root-of, head-room}
 use native.Mathlib.Omega.{arith}
 use borrow.Author.Needs.{needs}
 use Rattle.indices.proofs.shape.Statement.{statement}
