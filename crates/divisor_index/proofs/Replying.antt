@@ -26,9 +26,9 @@ use Rattle.call_list.specs.Bodies.{IsList}
 use Rattle.listing.specs.Listed.{Root, Each}
 use Rattle.index_replies.proofs.Inserts.{shaped}
 use Rattle.index_opening.specs.Kinds.{indexKind}
-use Rattle.divisor_index.specs.Ran.{Ran}
+use Rattle.index_run.specs.Ran.{Ran}
 use Rattle.divisor_index.specs.Doors.{openingGood, lengthNumber, openNumber, openBytes, RunIs, ListingIs}
-use Rattle.divisor_index.proofs.Running.{list-calls}
+use Rattle.index_run.proofs.Running.{list-calls}
 
 -- ---- question 1
 module _ (k m c : ℕ) (xs : List ℕ) where

@@ -14,7 +14,7 @@ use Rattle.index_image.specs.Layout.{encode, Is, Sound}
 use Rattle.index_image.specs.Size.{bytes}
 use Rattle.call_list.specs.Bodies.{IsList}
 use Rattle.index_opening.specs.Kinds.{indexKind}
-use Rattle.divisor_index.specs.Ran.{Ran}
+use Rattle.index_run.specs.Ran.{Ran}
 
 -- ---- opening
 -- question 1: index kind 0 or 1, variables 1 to 64, capacity 1 to 4,096, one maximum a variable, each 1 to 32,767

@@ -1,7 +1,5 @@
 // The divisor index: opening, call lists and the listing, exported to C. A door asks document 01's questions in their order and returns 0,
 // or the number of the first whose reply is no, which changes no byte.
-pub mod run;
-
 use index_image::Shape;
 ghost use mathlib.Core.Path.{_≡_};
 ghost use Rattle.divisor_index.specs.Doors.{openingGood, lengthNumber, openNumber, openBytes, RunIs, ListingIs};
@@ -78,7 +76,7 @@ pub extern "C" fn divisor_index_run(image: &mut [u8], list: &[u8], answers: &mut
     if answers.len() / 4 < call_list::count(list) {
         return 5;
     }
-    run::run(image, list, answers);
+    index_run::run(image, list, answers);
     0
 }
 

@@ -39,10 +39,10 @@ use Rattle.index_image.proofs.Pasted.{pasted}
 use Rattle.index_image.proofs.Unique.{state-unique}
 use Rattle.call_list.specs.Bodies.{IsList}
 use Rattle.index_opening.specs.Kinds.{indexKind}
-use Rattle.divisor_index.specs.Ran.{Ran}
+use Rattle.index_run.specs.Ran.{Ran}
 use Rattle.divisor_index.specs.Doors.{openingGood, RunIs}
 use Rattle.index_claims.specs.Claims.{OpeningLeaves, OpeningServed, ranCalls, RunLeaves, SoundKept, Right, EveryAnswer, Queried, Demand3Bytes}
-use Rattle.divisor_index.proofs.Running.{after-is, list-calls}
+use Rattle.index_run.proofs.Running.{after-is, list-calls}
 use Rattle.divisor_index.proofs.Replying as replying
 
 -- ---- an opening

@@ -8,7 +8,7 @@ use Rattle.divisor_index.proofs.divisor_index_run.Reads as reads
 use Rattle.divisor_index.proofs.divisor_index_run.Lts as lts
 use Rattle.call_list.proofs.count.Reads as count-reads
 use Rattle.call_list.proofs.is_list.Reads as is-list-reads
-use Rattle.divisor_index.proofs.run.run.Reads as run-reads
+use Rattle.index_run.proofs.run.Reads as run-reads
 use Rattle.index_sound.proofs.sound.Reads as sound-reads
 
 sound-requires : tie.Need-sound-requires

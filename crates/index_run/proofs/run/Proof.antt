@@ -6,12 +6,12 @@ use lib.ListN.{length}
 use Rattle.words.specs.Words.{words}
 use Rattle.words.proofs.Laws.{length-words}
 use Rattle.word_reader.proofs.Places.{end-inside}
-use Rattle.divisor_index.proofs.Running.{Running, running-none, running-sound, place-small, running-next, running-all, list-first, part-room}
-use Rattle.divisor_index.proofs.run.run.Statement.{statement}
-use Rattle.divisor_index.proofs.run.run.Tie as tie
-use Rattle.divisor_index.proofs.run.run.Reads as reads
-use Rattle.divisor_index.proofs.run.run.Lts as lts
-use Rattle.divisor_index.proofs.run.call_at.Reads as call-at-reads
+use Rattle.index_run.proofs.Running.{Running, running-none, running-sound, place-small, running-next, running-all, list-first, part-room}
+use Rattle.index_run.proofs.run.Statement.{statement}
+use Rattle.index_run.proofs.run.Tie as tie
+use Rattle.index_run.proofs.run.Reads as reads
+use Rattle.index_run.proofs.run.Lts as lts
+use Rattle.index_run.proofs.call_at.Reads as call-at-reads
 
 abbrev Inv-loop : tie.InvT-loop
 Inv-loop image₀ list out₀ q₀ end n₀ at₀ image out q n at =

@@ -31,7 +31,7 @@ use Rattle.index_replies.proofs.Inserts.{itself}
 use Rattle.call_list.specs.Bodies.{IsList}
 use Rattle.word_reader.specs.Places.{callAt, callEnd}
 use Rattle.word_reader.proofs.Places.{end-inside, calls-here, starts-next}
-use Rattle.divisor_index.specs.Ran.{Called, Ran}
+use Rattle.index_run.specs.Ran.{Called, Ran}
 
 -- ---- what a state keeps over calls
 pub record SameSize (st u : State) : Type 0 where

@@ -1,4 +1,4 @@
-use Rattle.divisor_index.proofs.Running.{called}
+use Rattle.index_run.proofs.Running.{called}
 use Rattle.words.proofs.Laws.{length-words}
 use Rattle.words.specs.Words.{words}
 use Rattle.word_reader.specs.declared.Step.{Step}
@@ -6,10 +6,10 @@ use Rattle.word_reader.proofs.Places.{end-of-call}
 use mathlib.Core.Path.{ap, _∙_}
 use native.Mathlib.Omega.{arith}
 use borrow.Author.Needs.{needs}
-use Rattle.divisor_index.proofs.run.call_at.Statement.{statement}
-use Rattle.divisor_index.proofs.run.call_at.Tie as tie
-use Rattle.divisor_index.proofs.run.call_at.Reads as reads
-use Rattle.divisor_index.proofs.run.call_at.Lts as lts
+use Rattle.index_run.proofs.call_at.Statement.{statement}
+use Rattle.index_run.proofs.call_at.Tie as tie
+use Rattle.index_run.proofs.call_at.Reads as reads
+use Rattle.index_run.proofs.call_at.Lts as lts
 use Rattle.indices.proofs.call.Reads as call-reads
 use Rattle.word_reader.proofs.read_call.Reads as read-call-reads
 use Rattle.words.proofs.put.Reads as put-reads

@@ -7,7 +7,7 @@ ghost use Rattle.index_theory.specs.Calls.{calls};
 ghost use Rattle.index_image.specs.Layout.{Sound};
 ghost use Rattle.call_list.specs.Bodies.{IsList};
 ghost use Rattle.word_reader.specs.Places.{callAt, callEnd};
-ghost use Rattle.divisor_index.specs.Ran.{Called, Ran};
+ghost use Rattle.index_run.specs.Ran.{Called, Ran};
 
 // Serves the call at word `at`, where the reader reads it, writes its answer word at the front of `out` and returns the word behind the call.
 fn call_at(image: &mut [u8], q: &mut [u8], list: &[u8], at: usize, out: &mut [u8]) -> usize
