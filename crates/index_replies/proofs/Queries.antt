@@ -21,7 +21,7 @@ use Rattle.index_image.specs.declared.Shape.{Shape}
 use Rattle.index_image.proofs.Images as image
 use Rattle.query_words.specs.Asked.{shapeIn, floorIn, optionOf, lowered, labelAt, Laid}
 use Rattle.kd_query.specs.Posed.{PosedFor}
-use Rattle.kd_tree.specs.Rooted.{Rooted, RootReady, Answer, Answered}
+use Rattle.query_words.specs.Rooted.{Rooted, RootReady, Answer, Answered}
 use Rattle.listing.specs.Listed.{Root}
 use Rattle.listing.proofs.Wholes as whole
 use Rattle.index_replies.specs.Replied.{Replied}

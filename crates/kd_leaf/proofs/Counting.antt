@@ -35,8 +35,8 @@ use Rattle.index_image.specs.declared.Shape.{Shape}
 use Rattle.monomial.proofs.Firsts.{starts-wide, starts-whole, first-whole}
 use Rattle.index_image.proofs.Bounds.{ratio-width, size-small, width-least}
 use Rattle.index_image.proofs.EntryWords.{no-ratio}
-use Rattle.kd_split.specs.HasTree.{Holds}
-use Rattle.kd_split.proofs.Reading.{entry-fits, entry-is, kind-one, ratios, label-of-entry, holds-ready, lm-of, mask-of}
+use Rattle.kd_image.specs.HasTree.{Holds}
+use Rattle.kd_image.proofs.Reading.{entry-fits, entry-is, kind-one, ratios, label-of-entry, holds-ready, lm-of, mask-of}
 use Rattle.index_image.proofs.Asking.{rest-starts, rest-first}
 use Rattle.query_words.specs.Asked.{fromIn, toIn, floorIn, slotIn, maskAtIn, optionOf, searchOf, labelAt, slotAt, lowered, Asks}
 use Rattle.kd_leaf.specs.Counted.{Entered, mayAt, divisorAt, counted, leastAbove}

@@ -22,8 +22,8 @@ use Rattle.index_image.specs.Walk as walk
 use Rattle.index_image.specs.Walk.{label}
 use Rattle.index_image.specs.declared.Shape.{Shape}
 use Rattle.index_image.proofs.Places.{place-fits}
-use Rattle.kd_split.specs.HasTree.{Holds}
-use Rattle.kd_split.proofs.Reading.{holds-ready, kind-one}
+use Rattle.kd_image.specs.HasTree.{Holds}
+use Rattle.kd_image.proofs.Reading.{holds-ready, kind-one}
 use Rattle.query_words.specs.Asked.{searchIn, fromIn, floorIn, optionOf, searchOf, Asks}
 use Rattle.kd_leaf.specs.Counted.{Entered, divisorAt, counted, leastAbove}
 use Rattle.kd_leaf.specs.Visited.{ReadyEntries, Visited}

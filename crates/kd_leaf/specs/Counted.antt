@@ -14,7 +14,7 @@ use Rattle.index_image.specs.Shape as at
 use Rattle.index_image.specs.Rows.{monomialIn}
 use Rattle.index_image.specs.Walk.{label}
 use Rattle.index_image.specs.declared.Shape.{Shape}
-use Rattle.kd_split.specs.HasTree.{Holds}
+use Rattle.kd_image.specs.HasTree.{Holds}
 use Rattle.query_words.specs.Asked.{maskIn, vectorIn, slotIn, maskAtIn, entryWidthIn, toIn, Asks}
 
 -- entry e is one of those that the query is asked of

@@ -10,7 +10,7 @@ use Rattle.index_theory.specs.State.{State}
 use Rattle.index_theory.specs.Searches.{Query, process}
 use Rattle.index_image.specs.Rows.{entriesFrom}
 use Rattle.index_image.specs.declared.Shape.{Shape}
-use Rattle.kd_split.specs.HasTree.{Holds}
+use Rattle.kd_image.specs.HasTree.{Holds}
 use Rattle.query_words.specs.Asked.{optionOf, Asks}
 
 -- the tables stand, and c entries from place lo on

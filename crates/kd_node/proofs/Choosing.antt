@@ -30,10 +30,10 @@ use Rattle.index_image.specs.Walk.{label, dims}
 use Rattle.index_image.specs.declared.Shape.{Shape}
 use Rattle.index_image.proofs.Shapes.{code-ratio}
 use Rattle.index_image.proofs.Trees.{some-node, nodes-branch}
-use Rattle.kd_split.specs.HasTree.{HasTree}
-use Rattle.kd_split.proofs.Standing.{based, node-next, row-inside}
-use Rattle.kd_split.proofs.Becoming.{parts}
-use Rattle.kd_split.proofs.Reading.{kind-one, label-of-entry, holds-ready}
+use Rattle.kd_image.specs.HasTree.{HasTree}
+use Rattle.kd_image.proofs.Standing.{based, node-next, row-inside}
+use Rattle.kd_image.proofs.Becoming.{parts}
+use Rattle.kd_image.proofs.Reading.{kind-one, label-of-entry, holds-ready}
 use Rattle.query_words.specs.Asked.{nodeMaskIn, maskIn, limitIn, fromIn, toIn, labelAt, Asks}
 use Rattle.kd_node.specs.Branch.{ReadyBranch, SidesAre, Chosen}
 

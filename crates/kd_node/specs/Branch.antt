@@ -10,7 +10,7 @@ use Rattle.index_theory.specs.State.{State}
 use Rattle.index_theory.specs.Searches.{Query, path}
 use Rattle.index_image.specs.Shape as at
 use Rattle.index_image.specs.declared.Shape.{Shape}
-use Rattle.kd_split.specs.HasTree.{HasTree}
+use Rattle.kd_image.specs.HasTree.{HasTree}
 use Rattle.query_words.specs.Asked.{Asks}
 
 -- some branch of some state stands there

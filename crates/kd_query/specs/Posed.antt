@@ -9,7 +9,7 @@ use Rattle.index_theory.specs.Searches.{Query, kindFor}
 use Rattle.index_theory.specs.State.{ratioed, State}
 use Rattle.index_image.specs.Layout.{Is}
 use Rattle.query_words.specs.Asked.{searchOf, Range}
-use Rattle.kd_tree.specs.Rooted.{Rooted}
+use Rattle.query_words.specs.Rooted.{Rooted}
 use Rattle.query_words.specs.declared.Search.{Search}
 use Rattle.query_words.specs.declared.Search.the-variants.{Contained, Reducer, High, Low, Singular}
 

@@ -18,15 +18,15 @@ use Rattle.index_image.specs.Walk as walk
 use Rattle.index_image.specs.Walk.{power, mapMaxima}
 use Rattle.index_image.specs.Rows.{entriesFrom}
 use Rattle.index_image.specs.declared.Shape.{Shape}
-use Rattle.kd_split.specs.HasTree.{Holds, HasTree, Became}
+use Rattle.kd_image.specs.HasTree.{Holds, HasTree, Became}
 use Rattle.kd_dimension.specs.Choice.{keyIn, markIn}
 use Rattle.kd_sides.specs.Sides.{onSide, lesses, others}
 use Rattle.kd_rows.specs.Leaves.{leafWords}
 use Rattle.kd_split.specs.Split.{Splittable, SplitAt}
-use Rattle.kd_split.proofs.Standing.{based, leaf-row, length-row}
+use Rattle.kd_image.proofs.Standing.{based, leaf-row, length-row}
 use Rattle.index_image.proofs.Bounds.{size-small}
 use Rattle.index_image.proofs.Trees.{nodes-leaf}
-use Rattle.kd_split.proofs.Reading.{holds-ready}
+use Rattle.kd_image.proofs.Reading.{holds-ready}
 use Rattle.kd_split.proofs.Splitting.{Wrote, wrote, leaf-words, Rooms, rooms, small-less, small-other, holds₁, holds₃, holds₄, less-entries, other-entries, split-became}
 use Rattle.kd_sides.proofs.Writing.{sides-length}
 use Rattle.kd_sides.proofs.Writing.{parts-small}

@@ -29,16 +29,16 @@ use Rattle.index_image.proofs.EntryWords.{no-ratio}
 use Rattle.kd_dimension.specs.declared.Average.{Average}
 use Rattle.kd_dimension.specs.declared.Dimension.{Dimension}
 use Rattle.kd_dimension.specs.declared.Dimension.the-variants.{At, Flat}
-use Rattle.kd_split.specs.HasTree.{Holds, Stands, HasTree, Became}
+use Rattle.kd_image.specs.HasTree.{Holds, Stands, HasTree, Became}
 use Rattle.kd_split.specs.Split.{Stays, RootBranch, RootSplitAs, RootSplit}
 use Rattle.kd_dimension.specs.Choice.{keyBy, leastPlace, markBy, keyIn, markIn, Chose}
 use Rattle.kd_split.specs.Split.{Standing, Splittable, SplitAt}
 use Rattle.kd_sides.specs.Sides.{onSide}
-use Rattle.kd_split.proofs.Standing.{based, node-next, row-inside, Row, leaf-row, ordered-small}
-use Rattle.kd_split.proofs.Becoming.{became-refl, parts}
+use Rattle.kd_image.proofs.Standing.{based, node-next, row-inside, Row, leaf-row, ordered-small}
+use Rattle.kd_image.proofs.Becoming.{became-refl, parts}
 use Rattle.kd_dimension.proofs.Choosing.{by-plain}
 use Rattle.kd_sides.proofs.Parting.{mark-by-plain, mark-by-power, mark-by-entry}
-use Rattle.kd_split.proofs.Reading.{holds-ready, power-of, kind-one, label-of-entry}
+use Rattle.kd_image.proofs.Reading.{holds-ready, power-of, kind-one, label-of-entry}
 
 -- ---- what a split depends on: the keys of the leaf's entries, and the marks
 leastOf-ext : (f g : ℕ → ℕ) (x : ℕ) (xs : List ℕ) → ((e : ℕ) → e ∈ (x ∷ xs) → f e ≡ g e) → leastOf f x xs ≡ leastOf g x xs

@@ -24,13 +24,13 @@ use Rattle.index_image.specs.declared.Shape.{Shape}
 use Rattle.index_image.proofs.Trees.{nodes-branch, nodes-leaf}
 use Rattle.index_image.proofs.Keys.{tree-words-ext}
 use Rattle.index_image.proofs.Once.{get-in}
-use Rattle.kd_split.specs.HasTree.{Holds, HasTree, Became}
+use Rattle.kd_image.specs.HasTree.{Holds, HasTree, Became}
 use Rattle.kd_sides.specs.Sides.{onSide}
 use Rattle.kd_rows.specs.Leaves.{leafWords}
 use Rattle.kd_sides.proofs.Writing.{sides-length, sides-same}
-use Rattle.kd_split.proofs.Standing.{Based, based, part-kept, node-add, node-next, node-le, Row, row-same, row-inside, length-row, leaf-row, uncut, ordered-small}
-use Rattle.kd_split.proofs.Becoming.{paste-rest}
-use Rattle.kd_split.proofs.Reading.{power-of}
+use Rattle.kd_image.proofs.Standing.{Based, based, part-kept, node-add, node-next, node-le, Row, row-same, row-inside, length-row, leaf-row, uncut, ordered-small}
+use Rattle.kd_image.proofs.Becoming.{paste-rest}
+use Rattle.kd_image.proofs.Reading.{power-of}
 
 -- ---- a run of words is written
 pub record Wrote (bs bs′ : List ℕ) (i : ℕ) (ws : List ℕ) : Type 0 where

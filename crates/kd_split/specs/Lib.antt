@@ -1,2 +1,1 @@
-pub mod HasTree
 pub mod Split

@@ -13,7 +13,7 @@ use Rattle.index_theory.specs.State.{State}
 use Rattle.index_theory.specs.Searches.{split}
 use Rattle.kd_dimension.specs.Choice.{keyIn, markIn}
 use Rattle.kd_sides.specs.Sides.{onSide}
-use Rattle.kd_split.specs.HasTree.{HasTree, Became}
+use Rattle.kd_image.specs.HasTree.{HasTree, Became}
 
 -- some tree of some state stands there
 pub record Standing (bs : List ℕ) (s : Shape) (k lo rows : ℕ) : Type 0 where

@@ -14,8 +14,8 @@ use Rattle.index_image.specs.Shape as at
 use Rattle.index_image.specs.Rows.{entriesFrom}
 use Rattle.index_image.specs.declared.Shape.{Shape}
 use Rattle.index_image.proofs.Trees.{nodes-leaf}
-use Rattle.kd_split.specs.HasTree.{HasTree}
-use Rattle.kd_split.proofs.Standing.{based, node-next, row-inside, leaf-row}
+use Rattle.kd_image.specs.HasTree.{HasTree}
+use Rattle.kd_image.proofs.Standing.{based, node-next, row-inside, leaf-row}
 use Rattle.kd_leaf.specs.Visited.{ReadyEntries, Visited}
 use Rattle.kd_tree.specs.Searched.{ReadyLeaf, Scanned}
 

@@ -26,12 +26,12 @@ use Rattle.index_image.proofs.Encoding.{Pieces, Fits, entry-length, of-pieces, 
 use Rattle.index_image.proofs.Heads.{words-of-head}
 use Rattle.index_image.proofs.Images as image
 use Rattle.index_image.proofs.Lengths.{valid-fits}
-use Rattle.kd_split.specs.HasTree.{HasTree, Became}
-use Rattle.kd_split.proofs.Standing.{part-same, part-kept}
-use Rattle.kd_split.proofs.Becoming.{put-rest, tree-became}
+use Rattle.kd_image.specs.HasTree.{HasTree, Became}
+use Rattle.kd_image.proofs.Standing.{part-same, part-kept}
+use Rattle.kd_image.proofs.Becoming.{put-rest, tree-became}
 use Rattle.query_words.specs.Asked.{shapeIn, optionOf, Asks}
 use Rattle.kd_tree.specs.Searched.{searchFrom, Ready, Found, Searched}
-use Rattle.kd_tree.specs.Rooted.{Rooted, RootReady, Answer, Answered}
+use Rattle.query_words.specs.Rooted.{Rooted, RootReady, Answer, Answered}
 use Rattle.kd_tree.proofs.Visiting.{search-kept}
 
 all-of : (l : List ℕ) (n : ℕ) → length l ≡ n → part l 0 n ≡ l

@@ -18,13 +18,13 @@ use Rattle.index_theory.proofs.Prunes.{splits-kind}
 use Rattle.index_image.specs.Shape as at
 use Rattle.index_image.specs.declared.Shape.{Shape}
 use Rattle.index_image.proofs.Trees.{some-node, nodes-branch, nodes-leaf}
-use Rattle.kd_split.specs.HasTree.{HasTree, Became}
+use Rattle.kd_image.specs.HasTree.{HasTree, Became}
 use Rattle.query_words.specs.Asked.{optionOf, Asks}
 use Rattle.kd_node.specs.Branch.{ReadyBranch, Chosen, Grew}
 use Rattle.kd_tree.specs.Searched.{searchFrom, visitOf, Ready, ReadyLeaf, Found, Searched, Branched, Scanned}
 use Rattle.kd_split.specs.Split.{Standing, Stays, RootBranch, RootSplitAs, RootSplit}
-use Rattle.kd_split.proofs.Standing.{based, node-add, node-next, node-le, row-inside, Cut, count-at}
-use Rattle.kd_split.proofs.Becoming.{became-refl, became-trans, tree-became, parts, some-one, some-two, tree-less, tree-other, other-became, less-became}
+use Rattle.kd_image.proofs.Standing.{based, node-add, node-next, node-le, row-inside, Cut, count-at}
+use Rattle.kd_image.proofs.Becoming.{became-refl, became-trans, tree-became, parts, some-one, some-two, tree-less, tree-other, other-became, less-became}
 
 -- what a test `!b` decides
 pub taken : (b : Bool) → not b ≡ true → b ≡ false

@@ -1,2 +1,1 @@
 pub mod Searched
-pub mod Rooted

@@ -10,7 +10,7 @@ use Rattle.kd_theory.specs.Tree as tree
 use Rattle.index_theory.specs.State.{State}
 use Rattle.index_theory.specs.Searches.{Query, path, process, split}
 use Rattle.index_image.specs.declared.Shape.{Shape}
-use Rattle.kd_split.specs.HasTree.{HasTree, Became}
+use Rattle.kd_image.specs.HasTree.{HasTree, Became}
 use Rattle.query_words.specs.Asked.{optionOf, Asks}
 use Rattle.kd_leaf.specs.Visited.{Stepped}
 

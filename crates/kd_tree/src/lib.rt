@@ -10,7 +10,7 @@ ghost use Rattle.query_words.specs.Asked.{shapeIn};
 ghost use Rattle.kd_leaf.specs.Packed.{rowsOf, bestOf, onOf};
 ghost use Rattle.kd_node.specs.Branch.{ReadyBranch};
 ghost use Rattle.kd_tree.specs.Searched.{Ready, ReadyLeaf, Searched, Branched, Scanned};
-ghost use Rattle.kd_tree.specs.Rooted.{RootReady, Answered};
+ghost use Rattle.query_words.specs.Rooted.{RootReady, Answered};
 
 // Visits the entries of the leaf at row k.
 fn scan(image: &[u8], q: &[u8], m: &[u8], k: usize, lo: usize, acc: u64) -> u64

@@ -27,7 +27,7 @@ use Rattle.index_image.proofs.Shapes.{ratio-code, code-ratio}
 use Rattle.index_image.proofs.Images.{labels-of-ratios}
 use Rattle.index_image.proofs.Rows.{row-of, label-of}
 use lib.Seq.{getD-drop}
-use Rattle.kd_split.specs.HasTree.{Holds}
+use Rattle.kd_image.specs.HasTree.{Holds}
 
 label-words : (k : Kind) (l : map.State) → k ≡ ratioed → labelWords k l ≡ labels.encode l
 unfolding labelWords

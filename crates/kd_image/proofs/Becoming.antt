@@ -20,8 +20,8 @@ use Rattle.index_image.specs.Shape as at
 use Rattle.index_image.specs.declared.Shape.{Shape}
 use Rattle.index_image.proofs.Trees.{some-node, nodes-branch, nodes-leaf}
 use Rattle.index_image.proofs.Once.{get-in}
-use Rattle.kd_split.specs.HasTree.{Holds, Stands, HasTree, Became}
-use Rattle.kd_split.proofs.Standing.{Based, based, part-same, part-kept, node-add, node-next, node-le, Row, row-same, ordered-small, row-inside, Cut, cut, uncut, leaf-row, count-at}
+use Rattle.kd_image.specs.HasTree.{Holds, Stands, HasTree, Became}
+use Rattle.kd_image.proofs.Standing.{Based, based, part-same, part-kept, node-add, node-next, node-le, Row, row-same, ordered-small, row-inside, Cut, cut, uncut, leaf-row, count-at}
 
 -- words written in the image leave the bytes past it
 pub paste-rest : (bs : List ℕ) (i : ℕ) (ws : List ℕ) (n : ℕ) → i + length ws ≤ n → 4 * n ≤ length bs → drop (4 * n) (pasteW bs i ws) ≡ drop (4 * n) bs

@@ -25,7 +25,7 @@ use Rattle.index_image.specs.declared.Shape.{Shape}
 use Rattle.index_image.proofs.Encoding as lengths
 use Rattle.index_image.proofs.Lengths.{valid-fits}
 use Rattle.index_image.proofs.Trees.{some-node, nodes-branch, nodes-leaf}
-use Rattle.kd_split.specs.HasTree.{Holds, Stands, HasTree}
+use Rattle.kd_image.specs.HasTree.{Holds, Stands, HasTree}
 
 -- ---- parts that agree word by word
 pub part-same : (W U : List ℕ) (a b n : ℕ) → a + n ≤ length W → b + n ≤ length U → ((i : ℕ) → i < n → getD U (b + i) 0 ≡ getD W (a + i) 0) → part U b n ≡ part W a n
