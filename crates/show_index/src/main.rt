@@ -580,17 +580,12 @@ fn open(capacity: u32, image: &mut [u8; 65536]) {
     divisor_index::divisor_index_open(1, 4, capacity, ones, image);
 }
 
-// The door alone: what it ensures of a part of a list would make the proof of `run` slow.
-fn run_list(image: &mut [u8], list: &[u8], answers: &mut [u8]) {
-    divisor_index::divisor_index_run(image, list, answers);
-}
-
 // Runs the list, which has n words.
 fn run(image: &mut [u8], list: &[u8], n: usize, answers: &mut [u8])
     requires { ⌜ (n ≤ 4096) × (4 * n ≤ length (now list)) ⌝ }
 {
     let e = 4 * n;
-    run_list(image, &list[..e], answers);
+    divisor_index::divisor_index_run(image, &list[..e], answers);
 }
 
 fn quiet_run(image: &mut [u8; 65536], list: &[u8; 16384], n: usize)

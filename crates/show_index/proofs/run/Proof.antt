@@ -6,16 +6,16 @@ use Rattle.show_index.proofs.run.Statement.{statement}
 use Rattle.show_index.proofs.run.Tie as tie
 use Rattle.show_index.proofs.run.Reads as reads
 use Rattle.show_index.proofs.run.Lts as lts
-use Rattle.show_index.proofs.run_list.Reads as run-list-reads
+use Rattle.divisor_index.proofs.divisor_index_run.Reads as divisor-index-run-reads
 
 mul-e : tie.Need-mul-e
 mul-e c = search needs
 
-slice-aggregate-run-list : tie.Need-slice-aggregate-run-list
-slice-aggregate-run-list c = sym (length-take-le _ _ (omega arith))
+slice-aggregate-divisor-index-run : tie.Need-slice-aggregate-divisor-index-run
+slice-aggregate-divisor-index-run c = sym (length-take-le _ _ (omega arith))
 
-run-list-requires : tie.Need-run-list-requires
-run-list-requires c κs = search needs
+divisor-index-run-requires : tie.Need-divisor-index-run-requires
+divisor-index-run-requires c κs = search needs
 
 same-length : tie.Need-same-length
 same-length c = search needs
@@ -31,8 +31,8 @@ run-spec =
     tie.close
     (tie.spec
     mul-e
-    slice-aggregate-run-list
-    run-list-requires
+    slice-aggregate-divisor-index-run
+    divisor-index-run-requires
     same-length
     same-length-2
     returns)
