@@ -1,4 +1,4 @@
-// Both indexes on an image: each call over a canonical request, and over the words of a list.
+// A call of a list on the image of an index, whichever kind it is.
 use index_image::Shape;
 use index_image::fields;
 ghost use mathlib.Core.Path.{_≡_};
