@@ -1,4 +1,6 @@
 // The row of a branch: whether it has a dimension and a key, what bounds these give its sides, and whether it stands over the rows of both.
+#![tactic(auto)]
+
 ghost use Rattle.std.specs.Prelude.{◌≡◌, true, ◌↔◌, min, max, ◌+◌, ◌*◌, ◌≤◌, length};
 ghost use Rattle.words.specs.Words.{words};
 ghost use Rattle.monomial.specs.Operations.{result_words};
@@ -13,7 +15,7 @@ use index_image::{Shape, fields, stored};
 
 // The bounds of a branch's sides: on the less side variable `variable` is below `power` and labels are below `less`,
 // on the other side labels are from `other` on.
-#[derive(Drop)]
+#[derive(Clone, Copy)]
 pub struct Limits {
     pub variable: usize,
     pub power: u32,

@@ -1,4 +1,6 @@
 // The calls of a list: where each ends, and the parts of its body.
+#![tactic(auto)]
+
 ghost use Rattle.std.specs.Prelude.{◌≡◌, true, cond, List, ◌↔◌, ℕ, ◌+◌, ◌/◌, ◌≤◌, ◌<◌, eqb, length, drop};
 ghost use Rattle.words.specs.Kinds.{kind};
 ghost use Rattle.words.specs.Words.{words};
@@ -7,7 +9,7 @@ ghost use Rattle.index_theory.specs.Calls.{body_of, calls, Request};
 ghost use Rattle.call_list.specs.Bodies.{none, IsList, Leads, Single, Paired, Tripled};
 
 // Whether a body is an index word and the parts found behind it, and nothing else; and that index.
-#[derive(Drop)]
+#[derive(Clone, Copy)]
 pub struct Body {
     pub good: bool,
     pub index: u32,

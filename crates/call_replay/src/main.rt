@@ -4,9 +4,11 @@
 //
 // A record is words: its own length, mode, index kind, variables, capacity, the image's checksum at the end, the maxima, and the
 // lists. A list is the length of its calls, the length of its answers, the calls and the answers. Lengths are in words.
+#![tactic(auto)]
+
 ghost use Rattle.std.specs.Prelude.{◌+◌, ◌*◌, ◌≤◌, length};
 
-#[derive(Drop)]
+#[derive(Clone, Copy)]
 struct Tally {
     jobs: u32,
     calls: u32,

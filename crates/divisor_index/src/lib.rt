@@ -1,5 +1,7 @@
 // The divisor index: opening, call lists and the listing, exported to C. A door asks document 01's questions in their order and returns 0,
 // or the number of the first whose reply is no, which changes no byte.
+#![tactic(auto)]
+
 ghost use Rattle.std.specs.Prelude.{◌≡◌};
 ghost use Rattle.divisor_index.specs.Doors.{opening_good, length_number, open_number, open_bytes, RunIs, ListingIs};
 

@@ -1,5 +1,7 @@
 // From divmask.rs: masks of monomials and the mask test.
 // Maxima are lent as one word a variable. Cutoffs are never stored: how many of a variable's bits its power sets is one division.
+#![tactic(auto)]
+
 pub mod pairs;
 pub mod tracker;
 
@@ -10,7 +12,7 @@ ghost use Rattle.divmask.specs.Mask.{parts, mask, tested};
 ghost use Rattle.divmask.specs.Tracker.{Maxima};
 
 // What two masks say of divisibility.
-#[derive(Drop)]
+#[derive(Clone, Copy)]
 pub enum DivMaskTestResult {
     NotDivisible,
     Unsure,

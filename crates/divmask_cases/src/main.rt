@@ -1,5 +1,7 @@
 // Runs masks and maxima through the doors, document 01's cases and the limits of each question, and writes a line for each:
 // its name, the number returned, and the words after, in hex. Bytes that a refusal left alone are aa.
+#![tactic(auto)]
+
 ghost use Rattle.std.specs.Prelude.{◌≡◌, ◌<◌, ◌≤◌, length};
 
 fn begin(name: &[u8], number: u32) {

@@ -1,4 +1,6 @@
 // A table of the bits that small powers set, so that the masks of many monomials are made without divisions.
+#![tactic(auto)]
+
 ghost use Rattle.std.specs.Prelude.{◌≡◌, ◌+◌, ◌*◌, ◌/◌, ◌%◌, ◌<◌, ◌≤◌, length};
 ghost use Rattle.words.specs.Words.{words, put_w};
 ghost use Rattle.divmask_table.specs.Table.{both, Tabled, Judged};
@@ -76,7 +78,7 @@ fn look_up(maxima: &[u8], variables: u32, table: &[u8], limit: u32, v: u32, powe
 }
 
 // A monomial in a longer list: how many words it has, 0 where none is canonical, and its mask, with its short exponent vector in the upper half.
-#[derive(Drop)]
+#[derive(Clone, Copy)]
 pub struct Slot {
     pub words: usize,
     pub masks: u64,

@@ -1,5 +1,7 @@
 // The mask and growth work, exported to C. A door asks its questions in document 01's order and returns 0 or the number of the first
 // whose reply is no, which changes no byte.
+#![tactic(auto)]
+
 ghost use Rattle.std.specs.Prelude.{◌≡◌};
 ghost use Rattle.divmask.specs.Mask.{tested};
 ghost use Rattle.divmask_work.specs.Doors as spec;

@@ -1,4 +1,6 @@
 // From fast_compare.rs: the label map, in words of a lent image. docs/LAYOUT.md has the layout.
+#![tactic(auto)]
+
 pub mod rows;
 
 ghost use Rattle.std.specs.Prelude.{◌≡◌, ℕ, ◌+◌, ◌*◌, ◌<◌, ◌≤◌, length, get_or};
@@ -14,7 +16,7 @@ ghost use Rattle.fast_compare.specs.Layout.{size, encode, Is, Sound};
 use monomial_ordering::{CmpOrd, Total};
 
 // What a value gets: its label, or why it gets none.
-#[derive(Drop)]
+#[derive(Clone, Copy)]
 pub enum Comparer {
     Known(u32),
     New(u32),
@@ -23,7 +25,7 @@ pub enum Comparer {
 }
 
 // How many values lie below a value that is known, or that is not.
-#[derive(Drop)]
+#[derive(Clone, Copy)]
 pub enum Place {
     At(usize),
     Before(usize),

@@ -2,10 +2,12 @@
 // every shorter length, and writes a line for each image. docs/DIFFERENCES.md says how images and expected lines were made.
 //
 // A record is words: how many words the image has, at most 1,000, and the image.
+#![tactic(auto)]
+
 ghost use Rattle.std.specs.Prelude.{◌+◌, ◌*◌, ◌≤◌, length};
 
 // What was answered for the changes of an image. The checksum is of all answers in their order.
-#[derive(Drop)]
+#[derive(Clone, Copy)]
 struct Tally {
     sound: u32,
     refused: u32,

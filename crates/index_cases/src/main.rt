@@ -1,5 +1,7 @@
 // Cases of the index's other doors, and of its labels: openings and lengths at the limits of their questions, the listing with each of its
 // refusals, and ratios that fall or rise from insert to insert until the labels are dealt afresh. Writes a line a case.
+#![tactic(auto)]
+
 ghost use Rattle.std.specs.Prelude.{◌≡◌, ◌+◌, ◌*◌, ◌≤◌, ◌<◌, length};
 ghost use Rattle.index_image.specs.Shape as at;
 

@@ -6,7 +6,7 @@ ghost use Rattle.index_image.specs.Head.{HeadIs};
 
 use crate::{Shape, fields};
 
-#[derive(Drop)]
+#[derive(Clone, Copy)]
 pub enum Head {
     Image(Shape),
     Bad,

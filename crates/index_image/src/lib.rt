@@ -1,4 +1,6 @@
 // The image of an index: where its tables are, and the door's question whether it is sound. docs/LAYOUT.md has the tables.
+#![tactic(auto)]
+
 pub mod fields;
 pub mod head;
 pub mod stored;
@@ -9,7 +11,7 @@ ghost use Rattle.index_image.specs.Shape as at;
 ghost use Rattle.index_image.specs.Size.{IsLength};
 
 // The numbers of an image's header. They say where its tables begin, in words.
-#[derive(Drop)]
+#[derive(Clone, Copy)]
 pub struct Shape {
     pub kind: usize,
     pub variables: usize,

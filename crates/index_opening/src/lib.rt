@@ -1,4 +1,6 @@
 // The opening: an index that holds nothing, written from the front of the image to its end, each word once.
+#![tactic(auto)]
+
 ghost use Rattle.std.specs.Prelude.{◌≡◌, [], ◌∷◌, ◌*◌, ◌≤◌, length};
 ghost use Rattle.words.specs.Words.{words, paste_w};
 ghost use Rattle.words.specs.Tables.{zeros};

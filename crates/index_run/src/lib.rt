@@ -1,4 +1,6 @@
 // The calls of a list, each on the image as the last left it.
+#![tactic(auto)]
+
 ghost use Rattle.std.specs.Prelude.{◌≡◌, ◌*◌, ◌≤◌, ◌<◌, length};
 ghost use Rattle.words.specs.Words.{words};
 ghost use Rattle.index_theory.specs.Calls.{calls};

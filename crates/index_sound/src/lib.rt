@@ -1,5 +1,7 @@
 // The door's question 3: whether the bytes lent begin with the image of a valid index.
 // Each table is judged by the ones before it, and what follows from other words is made again and compared.
+#![tactic(auto)]
+
 ghost use Rattle.std.specs.Prelude.{◌≡◌, true, ◌↔◌, ℕ, ◌+◌, ◌*◌, ◌≤◌, ◌<◌, length, get_or};
 ghost use Rattle.words.specs.Words.{words};
 ghost use Rattle.words.specs.Tables.{part};

@@ -1,5 +1,7 @@
 // The walk over the node rows: whether one tree stands there, in preorder, with its entries in the permutation.
 // Upper bounds of powers go down in `hi`, one word a variable, and the range of labels in two numbers; so each word is read a few times only.
+#![tactic(auto)]
+
 ghost use Rattle.std.specs.Prelude.{◌≡◌, true, ◌↔◌, ◌+◌, ◌*◌, ◌<◌, ◌≤◌, length, get_or};
 ghost use Rattle.words.specs.Words.{words, put_w};
 ghost use Rattle.index_image.specs.Shape as shape;

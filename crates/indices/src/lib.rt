@@ -1,4 +1,6 @@
 // A call of a list on the image of an index, whichever kind it is.
+#![tactic(auto)]
+
 ghost use Rattle.std.specs.Prelude.{◌≡◌, ◌+◌, ◌≤◌, length, drop};
 ghost use Rattle.words.specs.Words.{words};
 ghost use Rattle.index_theory.specs.Calls.{body_of, Call, step};

@@ -1,8 +1,8 @@
 -- The way down: the rows above are grown, the tree at hand is still to grow. Assumes nothing.
 use mathlib.Core.Path.{◌≡◌, refl, sym, ap, ◌∙◌}
 use mathlib.Core.Bool.{Bool, true, false, cond}
-use mathlib.Core.List.{List, [], ◌∷◌, ◌++◌, append_assoc, append-nil}
-use Prim.Native.Nat.{ℕ, zero, suc, ◌+◌, ◌-◌, ◌*◌, ◌≤◌, ◌<◌}
+use mathlib.Core.List.{List, [], ◌++◌, append_assoc, append-nil}
+use Prim.Native.Nat.{ℕ, suc, ◌+◌, ◌-◌, ◌*◌, ◌≤◌, ◌<◌}
 use native.Mathlib.Omega.{arith}
 use native.Mathlib.Nat.{add-mul, zero-mul, suc-mul, mul-le-mul_right}
 use lib.ListN.{length, get_or, drop, length-append}
@@ -20,16 +20,16 @@ use Rattle.index_image.specs.declared.Shape.{Shape}
 use Rattle.index_image.proofs.Bounds.{entry-inside, ratio-width, ratio-labels}
 use Rattle.index_image.proofs.Places.{row-behind}
 use Rattle.index_image.proofs.Encoding.{node-length, tree-length}
-use Rattle.index_image.proofs.Trees.{some-node, nodes-branch, nodes-leaf}
+use Rattle.index_image.proofs.Trees.{nodes-branch}
 use Rattle.index_image.specs.Rows.{monomial_in}
 use Rattle.kd_slots.specs.Slots.{gcd_words}
 use Rattle.kd_descent.specs.Growing.{Keyed, way_of, grown, Growth, keys, grown_rows, place}
 use Rattle.kd_descent.specs.declared.Way.{Way}
-use Rattle.words.proofs.Pasting.{part-before, part-after, paste-same}
+use Rattle.words.proofs.Pasting.{part-before, paste-same}
 use Rattle.kd_theory.proofs.PlaceLaws.{insert-less, insert-other, insert-inorder, place_inside}
 use Rattle.kd_descent.proofs.Ways.{insert-nodes}
 use Rattle.kd_descent.proofs.Grown.{row-grown, kept-behind}
-use Rattle.kd_descent.proofs.Ways.{tag_of, key_of, skip_of, rest_of, tree-row, rest-branch, Spot, spot, in_rows, Here, here}
+use Rattle.kd_descent.proofs.Ways.{tag_of, key_of, skip_of, rest_of, tree-row, spot, in_rows, Here, here}
 
 -- ---- the rows of a tree with one entry more
 module _ (m : ℕ) (xs : List ℕ) (pw : ℕ → ℕ → ℕ) (K : Keys) (e : ℕ) where

@@ -1,12 +1,10 @@
 -- A row with one entry more: its count, gcd and mask. Assumes nothing.
 use mathlib.Core.Path.{◌≡◌, refl, sym, ap, ◌∙◌}
-use mathlib.Core.Bool.{Bool, true, false, cond}
 use mathlib.Core.List.{List, [], ◌∷◌, ◌++◌, append_assoc, append-nil}
-use Prim.Native.Nat.{ℕ, zero, suc, min, ◌+◌, ◌-◌, ◌*◌, ◌≤◌, ◌<◌}
+use Prim.Native.Nat.{ℕ, min, ◌+◌, ◌-◌, ◌*◌, ◌≤◌, ◌<◌}
 use native.Mathlib.Omega.{arith}
 use native.Mathlib.Decide.{dec_le, ℕ_discrete}
-use lib.Dec.{eqb}
-use lib.ListN.{length, get_or, take, drop, length-append, take-append-drop}
+use lib.ListN.{length, get_or, drop, length-append, take-append-drop}
 use lib.Seq.{take_at}
 use borrow.Author.Tests.{eq-eqb, ne_eqb}
 use Rattle.words.specs.Words.{words, paste_w}
@@ -20,7 +18,7 @@ use Rattle.monomial.proofs.Powers.{pow-ids, pow-monomial, canonical-monomial, mo
 use Rattle.monomial.proofs.Laws.{canonical-front}
 use Rattle.divmask.specs.Mask.{mask}
 use Rattle.divmask.proofs.Masks.{mask-ext}
-use Rattle.kd_theory.specs.Bifurcate.{least_of, least}
+use Rattle.kd_theory.specs.Bifurcate.{least}
 use Rattle.kd_theory.proofs.BifurcateLaws.{least-most}
 use Rattle.index_image.specs.Layout.{slot, gcd_powers, node_words}
 use Rattle.index_image.specs.Shape as shape

@@ -1,10 +1,10 @@
 -- One step of the way: what the row at hand tells. Assumes nothing.
 use mathlib.Core.Path.{◌≡◌, refl, sym, ap, ◌∙◌}
-use mathlib.Core.Bool.{Bool, true, false, cond}
-use mathlib.Core.List.{List, [], ◌∷◌, ◌++◌, append-nil}
+use mathlib.Core.Bool.{true, false, cond}
+use mathlib.Core.List.{List, [], ◌++◌, append-nil}
 use Prim.Native.Nat.{ℕ, zero, suc, ◌+◌, ◌-◌, ◌*◌, ◌≤◌, ◌<◌}
 use native.Mathlib.Omega.{arith}
-use native.Mathlib.Nat.{suc-mul, add-mul, one-mul}
+use native.Mathlib.Nat.{suc-mul}
 use lib.Dec.{ltb, eqb}
 use lib.ListN.{length, get_or, get_or-append, length-append}
 use borrow.Author.Tests.{eq-eqb, ne_eqb}

@@ -1,4 +1,6 @@
 // The way of a new entry from the root to its leaf. Every row on it gets one entry more.
+#![tactic(auto)]
+
 ghost use Rattle.std.specs.Prelude.{◌≡◌, ◌+◌, ◌*◌, ◌%◌, ◌≤◌, ◌<◌, length, get_or, drop};
 ghost use Rattle.words.specs.Words.{words, paste_w};
 ghost use Rattle.words.specs.Tables.{part};
@@ -17,7 +19,7 @@ ghost use Rattle.kd_descent.specs.Growing.{below_key, grown_gcd, grown, Growth, 
 use index_image::{Shape, fields, stored};
 
 // One step of the way: it stops at a leaf; else so many rows on, passing over so many entries.
-#[derive(Drop)]
+#[derive(Clone, Copy)]
 pub struct Way {
     pub stop: bool,
     pub rows: usize,

@@ -1,4 +1,6 @@
 // The dimension that a leaf of the k-d tree is split in, and the average of its least and greatest number there.
+#![tactic(auto)]
+
 ghost use Rattle.std.specs.Prelude.{◌≡◌, ◌+◌, ◌<◌, ◌≤◌};
 ghost use Rattle.words.specs.Words.{words};
 ghost use Rattle.index_image.specs.Walk as walk;
@@ -8,20 +10,20 @@ ghost use Rattle.kd_dimension.specs.Choice.{key_in, mark_in, Chose};
 
 use index_image::Shape;
 
-#[derive(Drop)]
+#[derive(Clone, Copy)]
 pub struct Spread {
     pub least: u64,
     pub greatest: u64,
 }
 
-#[derive(Drop)]
+#[derive(Clone, Copy)]
 pub struct Average {
     pub dim: usize,
     pub value: u32,
 }
 
 // Where a leaf is split, if its entries are not the same in every dimension.
-#[derive(Drop)]
+#[derive(Clone, Copy)]
 pub enum Dimension {
     At(Average),
     Flat,

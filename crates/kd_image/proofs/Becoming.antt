@@ -1,27 +1,26 @@
 -- A tree that became another, step by step and side by side. Assumes nothing.
 use mathlib.Core.Path.{◌≡◌, refl, sym, ap, ◌∙◌}
 use mathlib.Core.List.{List, [], ◌∷◌, ◌++◌}
-use Prim.Native.Nat.{ℕ, zero, suc, ◌+◌, ◌-◌, ◌*◌, ◌^◌, ◌≤◌, ◌<◌}
-use native.Mathlib.Nat.{mul-le-mul_right, suc-mul, add-mul, one-mul}
+use Prim.Native.Nat.{ℕ, suc, ◌+◌, ◌-◌, ◌*◌, ◌^◌, ◌≤◌, ◌<◌}
+use native.Mathlib.Nat.{add-mul}
 use native.Mathlib.Decide.{dec_le}
 use native.Mathlib.Omega.{arith}
 use lib.ListN.{length, get_or, set, take, drop, length-append, length-set}
 use lib.Seq.{get_or-set_same, get_or-set_other, length-take-le, drop-append-add, drop-drop}
 use Rattle.words.specs.Words.{words, bytes, put_w, paste_w}
-use Rattle.words.specs.Tables.{part}
 use Rattle.words.proofs.Laws.{length-words, length-bytes, length-put_w, words-put_w, put_w-paste}
 use Rattle.words.proofs.Tables.{part-get, row_fits}
-use Rattle.kd_theory.specs.Bag.{occurs, ◌∈◌, Same}
+use Rattle.kd_theory.specs.Bag.{Same}
 use Rattle.kd_theory.specs.Tree.{Tree, leaf, branch, inorder, count, nodes, Keys, Ordered, Kept}
 use Rattle.kd_theory.proofs.BagLaws.{occurs-append}
-use Rattle.kd_theory.proofs.TreeLaws.{some-length, few-nodes, kept-branch, kept_refl}
+use Rattle.kd_theory.proofs.TreeLaws.{some-length, few-nodes}
 use Rattle.index_theory.specs.State.{State, keys, power_in}
 use Rattle.index_image.specs.Shape as at
 use Rattle.index_image.specs.declared.Shape.{Shape}
 use Rattle.index_image.proofs.Trees.{some-node, nodes-branch, nodes-leaf}
 use Rattle.index_image.proofs.Once.{get_in}
-use Rattle.kd_image.specs.HasTree.{Holds, Stands, HasTree, Became}
-use Rattle.kd_image.proofs.Standing.{Based, based, part_same, part-kept, node-add, node-next, node-le, Row, row_same, ordered-small, row_inside, Cut, cut, uncut, leaf-row, count_at}
+use Rattle.kd_image.specs.HasTree.{Holds, HasTree, Became}
+use Rattle.kd_image.proofs.Standing.{Based, based, part_same, part-kept, node-add, node-next, node-le, Row, row_same, ordered-small, row_inside, Cut, cut, uncut}
 
 -- words written in the image leave the bytes past it
 pub paste-rest : (bs : List ℕ) (i : ℕ) (ws : List ℕ) (n : ℕ) → i + length ws ≤ n → 4 * n ≤ length bs → drop (4 * n) (paste_w bs i ws) ≡ drop (4 * n) bs

@@ -1,19 +1,19 @@
 -- A tree's rows and places in the words of an image, cut into those of its sides and put together again. Assumes nothing.
 use mathlib.Core.Path.{◌≡◌, refl, sym, ap, ◌∙◌}
-use mathlib.Core.List.{List, [], ◌∷◌, ◌++◌}
+use mathlib.Core.List.{List, ◌∷◌, ◌++◌}
 use Prim.Native.Nat.{ℕ, zero, suc, ◌+◌, ◌-◌, ◌*◌, ◌≤◌, ◌<◌}
 use native.Mathlib.Nat.{mul-le-mul_right, suc-mul, add-mul, one-mul}
 use native.Mathlib.Omega.{arith}
 use lib.ListN.{length, get_or, length-append}
 use Rattle.words.specs.Tables.{part}
-use Rattle.words.proofs.Tables.{length_part, part-get, part-nil, part-cons, part-append}
+use Rattle.words.proofs.Tables.{part-nil, part-cons, part-append}
 use Rattle.monomial.specs.Monomial.{monomial_of}
 use Rattle.monomial.proofs.Powers.{monomial-ext}
 use Rattle.divmask.specs.Mask.{mask}
 use Rattle.divmask.proofs.Masks.{mask-ext}
 use Rattle.kd_theory.specs.Bag.{◌∈◌, Same}
 use Rattle.kd_theory.specs.Bifurcate.{least}
-use Rattle.kd_theory.specs.Tree.{Tree, leaf, branch, inorder, count, nodes, Keys, All, Ordered}
+use Rattle.kd_theory.specs.Tree.{Tree, leaf, branch, inorder, count, nodes, Ordered}
 use Rattle.kd_theory.proofs.TreeLaws.{ordered-good}
 use Rattle.kd_theory.proofs.BifurcateLaws.{least-le, least-from}
 use Rattle.index_theory.specs.Entries.{Entry}
@@ -24,8 +24,8 @@ use Rattle.index_image.specs.Shape as at
 use Rattle.index_image.specs.declared.Shape.{Shape}
 use Rattle.index_image.proofs.Encoding as lengths
 use Rattle.index_image.proofs.Lengths.{valid-fits}
-use Rattle.index_image.proofs.Trees.{some-node, nodes-branch, nodes-leaf}
-use Rattle.kd_image.specs.HasTree.{Holds, Stands, HasTree}
+use Rattle.index_image.proofs.Trees.{nodes-branch, nodes-leaf}
+use Rattle.kd_image.specs.HasTree.{Holds, Stands}
 
 -- ---- parts that agree word by word
 pub part_same : (W U : List ℕ) (a b n : ℕ) → a + n ≤ length W → b + n ≤ length U → ((i : ℕ) → i < n → get_or U (b + i) 0 ≡ get_or W (a + i) 0) → part U b n ≡ part W a n

@@ -1,27 +1,24 @@
 -- The first half of an insert: labels, maxima and the entry's row. Assumes nothing.
 use mathlib.Core.Path.{◌≡◌, refl, sym, ap, ◌∙◌}
-use mathlib.Core.List.{List, [], ◌∷◌, ◌++◌, append_assoc, append-nil}
-use Prim.Native.Nat.{ℕ, zero, suc, ◌+◌, ◌-◌, ◌*◌, ◌≤◌, ◌<◌}
+use mathlib.Core.List.{List, [], ◌∷◌, ◌++◌, append_assoc}
+use Prim.Native.Nat.{ℕ, suc, ◌+◌, ◌-◌, ◌*◌, ◌<◌}
 use native.Mathlib.Omega.{arith}
 use native.Mathlib.Nat.{add-mul, suc-mul}
-use lib.ListN.{length, get_or, length-append}
+use lib.ListN.{length, length-append}
 use Rattle.words.specs.Words.{words, paste_w}
-use Rattle.words.specs.Tables.{part, zeros, table, over}
+use Rattle.words.specs.Tables.{zeros, table, over}
 use Rattle.words.proofs.Laws.{Bytes, length-words}
 use Rattle.words.proofs.Tables.{length-zeros, zeros-add, length-table, table-agree, table-suc, split_rows, over-mid, over-all}
-use Rattle.words.proofs.Joined.{joined}
-use Rattle.monomial.specs.Monomial.{pow}
-use Rattle.monomial.specs.Operations.{result_words}
 use Rattle.monomial.specs.declared.ordered_ops.Op.{Op}
 use Rattle.monomial.proofs.Laws.{canonical-result}
 use Rattle.fast_compare.specs.Map as map
 use Rattle.kd_theory.specs.Tree.{Tree, inorder, nodes}
 use Rattle.index_theory.specs.Entries.{Entry, entry_at, quotient_of, ratio_of}
-use Rattle.index_theory.specs.State.{Kind, monomials, ratioed, State, Valid, GoodEntry, OfKind, LabelsOf, power_in}
-use Rattle.index_theory.specs.Calls.{relabel, labelled, tracked, numbered, inserted}
-use Rattle.index_theory.proofs.Places.{entry_old, entry_new, length_more}
+use Rattle.index_theory.specs.State.{Kind, monomials, ratioed, State, GoodEntry, OfKind, LabelsOf, power_in}
+use Rattle.index_theory.specs.Calls.{labelled, tracked, numbered}
+use Rattle.index_theory.proofs.Places.{entry_old, entry_new}
 use Rattle.index_theory.proofs.Labels.{Settled, relabelled, rows_few}
-use Rattle.index_image.specs.Layout.{header, sign_words, entry_words, label_words, tree_words, encode, Is, shape_of}
+use Rattle.index_image.specs.Layout.{header, sign_words, entry_words, label_words, tree_words, Is, shape_of}
 use Rattle.index_theory.specs.State.{row_of}
 use Rattle.index_image.specs.Shape as at
 use Rattle.index_image.specs.declared.Shape.{Shape}
@@ -29,7 +26,7 @@ use Rattle.index_image.proofs.Encoding.{Fits, coarse, coarse-whole, image-length
 use Rattle.index_image.proofs.Lengths.{valid-fits}
 use Rattle.index_image.proofs.Rows.{row-of}
 use Rattle.words.proofs.Drafts.{Draft, draft-start, draft-step}
-use Rattle.kd_insert.proofs.Inserts.{half, Lengths, lengths, val'}
+use Rattle.kd_insert.proofs.Inserts.{half, Lengths, lengths}
 
 -- one row more in a table with zeros behind it
 pub row_more : (n c w : ℕ) (f g : ℕ → List ℕ) → n < c → ((i : ℕ) → i < n → length (f i) ≡ w) → length (g n) ≡ w → ((i : ℕ) → i < n → f i ≡ g i)

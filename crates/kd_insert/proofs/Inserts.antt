@@ -1,27 +1,23 @@
 -- From the image of a state to that of the state after an insert. Assumes nothing.
 use mathlib.Core.Path.{◌≡◌, refl, sym, ap, ◌∙◌}
-use mathlib.Core.Bool.{Bool, true, false}
-use mathlib.Core.List.{List, [], ◌∷◌, ◌++◌, append_assoc, append-nil}
+use mathlib.Core.List.{List, [], ◌∷◌, ◌++◌, append_assoc}
 use Prim.Native.Nat.{ℕ, zero, suc, ◌+◌, ◌-◌, ◌*◌, ◌≤◌, ◌<◌}
 use native.Mathlib.Omega.{arith}
-use native.Mathlib.Nat.{add-mul, suc-mul, zero-mul}
-use native.Mathlib.Decide.{dec_lt}
-use lib.Dec.{ltb}
-use lib.ListN.{length, get_or, set, take, drop, length-append, length-take, length-drop, take-append-drop, get_or-eq_default}
+use native.Mathlib.Nat.{zero-mul}
+use lib.ListN.{length, take, drop, length-append, length-drop, take-append-drop}
 use lib.Seq.{length-take-le, drop_at}
 use Rattle.words.specs.Words.{words, put_w, paste_w}
 use Rattle.words.specs.Tables.{part, zeros, table, over}
-use Rattle.words.proofs.Laws.{Bytes, length-words, length-paste_w, put_w-paste}
-use Rattle.words.proofs.Tables.{length-zeros, zeros-add, length-table, table-agree, table-suc, split_rows, part-append, over-mid, over-all, over-inside, length_part, part-add}
-use Rattle.words.proofs.Joined.{joined, before, moved, rows_replaced}
-use Rattle.monomial.specs.Monomial.{pow, power_of, find, Canonical}
-use Rattle.monomial.proofs.Powers.{absent-above, powers-in-range}
+use Rattle.words.proofs.Laws.{length-words, put_w-paste}
+use Rattle.words.proofs.Tables.{length-zeros, length-table, split_rows, over-mid, length_part, part-add}
+use Rattle.words.proofs.Joined.{joined, rows_replaced}
+use Rattle.monomial.specs.Monomial.{pow}
 use Rattle.fast_compare.specs.Map as map
 use Rattle.kd_theory.specs.Bag.{◌∈◌}
 use Rattle.kd_theory.specs.Bifurcate.{below_ratio, Labelled}
-use Rattle.kd_theory.specs.Tree.{Tree, leaf, branch, inorder, nodes, count, Keys, Ordered, insert, place_of, put_at}
-use Rattle.index_theory.specs.Entries.{Entry, entry_at, one, ratio_of, above}
-use Rattle.index_theory.specs.State.{Kind, monomials, ratioed, State, Valid, GoodEntry, OfKind, power_in, label_of, ratios_of, keys_of, keys, LabelsOf}
+use Rattle.kd_theory.specs.Tree.{Tree, leaf, branch, inorder, nodes, count, Keys, insert, place_of, put_at}
+use Rattle.index_theory.specs.Entries.{Entry, entry_at, ratio_of}
+use Rattle.index_theory.specs.State.{Kind, monomials, ratioed, State, Valid, GoodEntry, OfKind, power_in, label_of, ratios_of, keys_of, keys}
 use Rattle.index_theory.specs.Calls.{inserted, labelled, tracked, numbered}
 use Rattle.index_theory.proofs.Places.{entry_old, entry_new, length_more}
 use Rattle.index_theory.proofs.Orders.{labels-agree}
@@ -33,7 +29,6 @@ use Rattle.index_image.specs.Walk.{map_maxima, row_in, KeyOk}
 use Rattle.index_image.specs.declared.Shape.{Shape}
 use Rattle.index_image.proofs.Encoding.{Fits, coarse, coarse-whole, entry_length, tree-length, header-length}
 use Rattle.index_image.proofs.Lengths.{valid-fits, state-powers}
-use Rattle.index_image.proofs.Shapes.{code-ratio, ratio-code}
 use Rattle.index_image.proofs.Images as of
 use Rattle.index_image.proofs.Images.{labels-of-ratios}
 use Rattle.index_image.proofs.Keys.{tree-words-ext, by-numbers}
@@ -43,8 +38,8 @@ use Rattle.kd_descent.specs.Growing as growing
 use Rattle.kd_insert.specs.Inserting.{Hangs, hung}
 use Rattle.kd_theory.proofs.PlaceLaws.{insert-inorder, place_inside, insert-agree}
 use Rattle.kd_descent.proofs.Ways.{insert-nodes}
-use Rattle.words.proofs.Pasting.{part-before, part-after}
-use Rattle.words.proofs.Drafts.{Draft, draft-start, draft-step}
+use Rattle.words.proofs.Pasting.{part-before}
+use Rattle.words.proofs.Drafts.{Draft, draft-step}
 
 -- ---- trees
 pub keyed-of : (s : Shape) (pw : ℕ → ℕ → ℕ) (lb : ℕ → ℕ) (t : Tree) → walk.Ordered s pw lb t → Keyed s t

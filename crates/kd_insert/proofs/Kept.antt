@@ -1,9 +1,9 @@
 -- An insert keeps an image sound. The bytes of a slice are bytes, so what was pasted into it are words. Assumes nothing.
-use mathlib.Core.Path.{◌≡◌, refl, sym, ap, ◌∙◌, subst}
+use mathlib.Core.Path.{◌≡◌, sym, ap, ◌∙◌, subst}
 use mathlib.Core.List.{List, [], ◌∷◌, ◌++◌}
-use Prim.Native.Nat.{ℕ, zero, suc, ◌+◌, ◌*◌, ◌/◌, ◌%◌, ◌^◌, ◌≤◌, ◌<◌}
+use Prim.Native.Nat.{ℕ, zero, suc, ◌+◌, ◌*◌, ◌≤◌, ◌<◌}
 use native.Mathlib.Omega.{arith}
-use lib.ListN.{length, get_or, drop}
+use lib.ListN.{length, drop}
 use Rattle.words.specs.Words.{words, bytes, paste_w}
 use Rattle.words.specs.Tables.{part}
 use Rattle.words.proofs.Laws.{Bytes, Words, length-words, length-paste_w, paste_w-front}

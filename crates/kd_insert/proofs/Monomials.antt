@@ -1,26 +1,25 @@
 -- The insert of a monomial index. Assumes nothing.
 use mathlib.Core.Path.{◌≡◌, refl, sym, ap, ◌∙◌, subst}
-use mathlib.Core.List.{List, [], ◌∷◌, ◌++◌}
-use Prim.Native.Nat.{ℕ, ◌+◌, ◌-◌, ◌*◌, ◌≤◌, ◌<◌}
+use mathlib.Core.List.{List, []}
+use Prim.Native.Nat.{ℕ, ◌+◌, ◌*◌, ◌≤◌, ◌<◌}
 use native.Mathlib.Omega.{arith}
 use native.Mathlib.Nat.{zero-mul}
-use lib.ListN.{length, length-append}
+use lib.ListN.{length}
 use Rattle.words.specs.Words.{words, paste_w}
 use Rattle.words.specs.Tables.{part}
-use Rattle.words.proofs.Laws.{Bytes, length-words, length-paste_w}
+use Rattle.words.proofs.Laws.{Bytes, length-paste_w}
 use Rattle.words.proofs.Joined.{moved}
-use Rattle.words.proofs.Tables.{length_part}
 use Rattle.monomial.specs.Monomial.{Canonical}
 use Rattle.monomial.proofs.Canon.{front-end}
 use Rattle.monomial.proofs.Powers.{canonical-length}
 use Rattle.divmask.specs.Tracker.{Maxima, updated}
 use Rattle.divmask.proofs.Growth.{updated-length}
 use Rattle.fast_compare.specs.Map as map
-use Rattle.kd_theory.specs.Tree.{Tree, inorder, nodes, count}
+use Rattle.kd_theory.specs.Tree.{inorder, nodes}
 use Rattle.index_theory.specs.Entries.{Entry, one}
-use Rattle.index_theory.specs.State.{Kind, monomials, ratioed, State, Valid, GoodEntry, OfKind, power_in}
+use Rattle.index_theory.specs.State.{Kind, monomials, State, GoodEntry, OfKind, power_in}
 use Rattle.index_theory.specs.Calls.{plain, labelled, tracked, inserted}
-use Rattle.index_image.specs.Layout.{code, masked, entry_words, sign_words, label_words, tree_words, encode, Is, shape_of}
+use Rattle.index_image.specs.Layout.{code, masked, entry_words, sign_words, tree_words, encode, Is, shape_of}
 use Rattle.index_image.specs.Shape as at
 use Rattle.index_image.specs.Walk.{map_maxima}
 use Rattle.index_image.specs.Head.{HeadOk}
@@ -33,8 +32,8 @@ use Rattle.index_image.proofs.Images as of
 use Rattle.kd_insert.specs.Inserting.{Room, Inserted, Hangs, hung}
 use Rattle.words.proofs.Pasting.{part-before, part-after}
 use Rattle.words.proofs.Drafts.{Draft}
-use Rattle.kd_insert.proofs.Inserts.{half, hangs, growth, finish}
-use Rattle.kd_insert.proofs.Halves.{start, with_labels, half-made}
+use Rattle.kd_insert.proofs.Inserts.{half, hangs, finish}
+use Rattle.kd_insert.proofs.Halves.{start, half-made}
 
 -- ---- what an image with room tells
 pub record Basics (bs : List ℕ) (s : Shape) : Type 0 where

@@ -1,29 +1,29 @@
 -- The insert of a ratio index. Assumes nothing.
 use mathlib.Core.Path.{◌≡◌, refl, sym, ap, ◌∙◌, subst}
 use mathlib.Core.List.{List, [], ◌∷◌, ◌++◌}
-use Prim.Native.Nat.{ℕ, ◌+◌, ◌-◌, ◌*◌, ◌^◌, ◌≤◌, ◌<◌}
+use Prim.Native.Nat.{ℕ, ◌+◌, ◌*◌, ◌≤◌, ◌<◌}
 use native.Mathlib.Omega.{arith}
 use native.Mathlib.Nat.{zero-mul}
-use lib.ListN.{length, get_or, length-append}
+use lib.ListN.{length, get_or}
 use Rattle.words.specs.Words.{words, paste_w}
 use Rattle.words.specs.Tables.{part, over}
-use Rattle.words.proofs.Laws.{Bytes, Words, length-words, length-paste_w, paste_w-before}
+use Rattle.words.proofs.Laws.{Bytes, Words, length-paste_w, paste_w-before}
 use Rattle.words.proofs.Joined.{moved}
-use Rattle.words.proofs.Tables.{length_part, row_fits, over-all, Small, small-each}
-use Rattle.monomial.specs.Monomial.{Canonical, pow}
+use Rattle.words.proofs.Tables.{row_fits, over-all, small-each}
+use Rattle.monomial.specs.Monomial.{Canonical}
 use Rattle.divmask.specs.Tracker.{Maxima, updated}
 use Rattle.divmask.proofs.Growth.{updated-length, updated-good}
 use Rattle.fast_compare.specs.Map as map
 use Rattle.fast_compare.specs.Layout as labels
 use Rattle.fast_compare.proofs.Exact.{encode-small}
 use Rattle.fast_compare.proofs.Images.{encode-length}
-use Rattle.kd_theory.specs.Tree.{Tree, inorder, nodes, count}
+use Rattle.kd_theory.specs.Tree.{inorder, nodes}
 use Rattle.index_theory.specs.Entries.{Entry, entry_at, quotient_of, ratio_of}
-use Rattle.index_theory.specs.State.{Kind, monomials, ratioed, State, Valid, GoodEntry, OfKind, LabelsOf, power_in, label_of}
+use Rattle.index_theory.specs.State.{Kind, ratioed, State, GoodEntry, OfKind, LabelsOf, power_in, label_of}
 use Rattle.index_theory.specs.Calls.{labelled, tracked, numbered, inserted}
 use Rattle.index_theory.proofs.Places.{entry_old, entry_new}
 use Rattle.index_theory.proofs.Labels.{Settled}
-use Rattle.index_image.specs.Layout.{code, entry_words, sign_words, label_words, tree_words, encode, Is, shape_of}
+use Rattle.index_image.specs.Layout.{entry_words, sign_words, label_words, tree_words, encode, Is, shape_of}
 use Rattle.index_theory.specs.State.{row_of}
 use Rattle.index_image.specs.Shape as at
 use Rattle.index_image.specs.Walk as walk
@@ -41,7 +41,7 @@ use Rattle.kd_labelling.specs.Labelling.{settled, Labels}
 use Rattle.kd_slots.specs.Slots.{ratio_row}
 use Rattle.words.proofs.Pasting.{part-before, part-after, get_after, part-pasted, paste-in}
 use Rattle.words.proofs.Drafts.{Draft, draft-step}
-use Rattle.kd_insert.proofs.Inserts.{half, Lengths, lengths, hangs, growth, finish, val'}
+use Rattle.kd_insert.proofs.Inserts.{half, lengths, hangs, finish}
 use Rattle.kd_insert.proofs.Halves as halves
 use Rattle.kd_insert.proofs.Halves.{start, with_labels, half-made}
 use Rattle.kd_insert.proofs.Monomials.{Basics, basics-of, shape_is}

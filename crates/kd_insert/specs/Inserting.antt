@@ -1,6 +1,6 @@
 -- What an insert is asked, and what it leaves of an image. Assumes nothing.
-use Rattle.std.specs.Prelude.{◌≡◌, List, [], ◌∷◌, ℕ, ◌+◌, ◌-◌, ◌≤◌, ◌<◌, length}
-use Rattle.words.specs.Words.{words, put_w, paste_w}
+use Rattle.std.specs.Prelude.{◌≡◌, List, [], ◌∷◌, ℕ, ◌+◌, ◌-◌, ◌<◌, length}
+use Rattle.words.specs.Words.{words, paste_w}
 use Rattle.words.specs.Tables.{part}
 use Rattle.kd_theory.specs.Tree.{count}
 use Rattle.index_theory.specs.Entries.{Entry}

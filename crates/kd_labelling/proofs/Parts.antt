@@ -1,6 +1,6 @@
 -- The label map as a part of the image: lent, changed and read again. Assumes nothing.
-use mathlib.Core.Path.{◌≡◌, refl, sym, ap, ◌∙◌}
-use mathlib.Core.List.{List, [], ◌∷◌, ◌++◌}
+use mathlib.Core.Path.{◌≡◌, sym, ap, ◌∙◌}
+use mathlib.Core.List.{List, ◌++◌}
 use Prim.Native.Nat.{ℕ, ◌+◌, ◌-◌, ◌*◌, ◌≤◌, ◌<◌}
 use native.Mathlib.Omega.{arith}
 use lib.ListN.{length, get_or, take, drop, length-take, length-drop}
@@ -11,7 +11,7 @@ use Rattle.words.proofs.Laws.{length-paste_w}
 use Rattle.monomial.specs.Monomial.{Canonical}
 use Rattle.monomial.specs.Operations.{result_words}
 use Rattle.monomial.specs.declared.ordered_ops.Op.{Op}
-use Rattle.monomial.proofs.Laws.{canonical-more, canonical-result}
+use Rattle.monomial.proofs.Laws.{canonical-result}
 use Rattle.fast_compare.specs.Map as map
 use Rattle.fast_compare.specs.Layout as labels
 use Rattle.fast_compare.specs.declared.Comparer.{Comparer}

@@ -1,6 +1,6 @@
 -- A value gets its label and its row. Assumes nothing.
 use mathlib.Core.Path.{◌≡◌, refl, sym, ap, ◌∙◌}
-use mathlib.Core.Bool.{Bool, true, false, not}
+use mathlib.Core.Bool.{Bool, true, false}
 use mathlib.Core.List.{List}
 use Prim.Native.Nat.{ℕ, ◌<◌}
 use native.Mathlib.Omega.{arith}
@@ -19,7 +19,6 @@ use Rattle.fast_compare.proofs.Kept.{gave-sound, rebuild-is, after_is}
 use Rattle.fast_compare.proofs.Reading.{vars-of}
 use Rattle.fast_compare.proofs.Giving.{at_place, before-place, known-row}
 use Rattle.index_theory.specs.Calls.{relabel}
-use Rattle.index_image.specs.Shape as at
 use Rattle.index_theory.specs.State.{row_or, row_of}
 use Rattle.index_image.proofs.Rows.{row-of}
 use Rattle.kd_labelling.specs.Labelling.{is_no_label, settled}
@@ -34,14 +33,6 @@ after-shape l v = go (answer l v)
     go (New x) = (refl, refl)
     go Full = (refl, refl)
     go NoLabel = (refl, refl)
-
-pub not-true : (b : Bool) → not b ≡ true → b ≡ false
-not-true true h = never h
-not-true false h = refl
-
-pub not-false : (b : Bool) → not b ≡ false → b ≡ true
-not-false true h = refl
-not-false false h = never (sym h)
 
 -- ---- a label at once
 relabel-first : (c : Comparer) (l : State) (v : Value) → is_no_label c ≡ false → relabel c l v ≡ after l v

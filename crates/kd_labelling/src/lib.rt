@@ -1,4 +1,6 @@
 // The label of a new entry's ratio, in the label map that is a part of the image.
+#![tactic(auto)]
+
 ghost use Rattle.std.specs.Prelude.{◌≡◌, ℕ, ◌+◌, ◌*◌, ◌%◌, ◌≤◌, ◌<◌, length, get_or};
 ghost use Rattle.words.specs.Words.{words, paste_w};
 ghost use Rattle.monomial.specs.Monomial.{Canonical};

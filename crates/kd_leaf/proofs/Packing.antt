@@ -1,10 +1,9 @@
 -- One number for what a search has come to. Assumes nothing.
-use mathlib.Core.Path.{◌≡◌, refl, ap}
+use mathlib.Core.Path.{◌≡◌, refl}
 use mathlib.Core.Bool.{true, false}
 use Prim.Native.Nat.{ℕ, ◌+◌, ◌*◌, ◌/◌, ◌%◌, ◌≤◌}
 use native.Mathlib.Omega.{arith}
 use lib.Dec.{eqb}
-use borrow.Author.Tests.{eq-eqb, ne_eqb}
 use Rattle.kd_leaf.specs.Packed.{rows_of, best_of, on_of}
 
 pub packed-going : (a b : ℕ) → b ≤ 4096 → (rows_of (16384 * (a / 16384) + (2 * b + 1)) ≡ rows_of a) ×

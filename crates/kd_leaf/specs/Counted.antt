@@ -1,5 +1,5 @@
 -- What a leaf's loops ask of an entry. Assumes nothing.
-use Rattle.std.specs.Prelude.{◌≡◌, Bool, ◌&&◌, List, ℕ, zero, suc, ◌+◌, ◌*◌, ◌<◌, max, leb, ltb, get_or}
+use Rattle.std.specs.Prelude.{Bool, ◌&&◌, List, ℕ, zero, suc, ◌+◌, ◌*◌, ◌<◌, max, leb, ltb, get_or}
 use Rattle.words.specs.Words.{words}
 use Rattle.monomial.specs.Operations.{divides}
 use Rattle.divmask.specs.Mask.{within}

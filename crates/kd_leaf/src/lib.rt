@@ -1,4 +1,6 @@
 // The entries of a leaf, visited in their order: one loop for each thing that can be made of an entry.
+#![tactic(auto)]
+
 pub mod step;
 
 ghost use Rattle.std.specs.Prelude.{◌≡◌, true, ◌&&◌, ℕ, ◌+◌, ◌*◌, ◌<◌, ◌≤◌, leb, ltb, length};

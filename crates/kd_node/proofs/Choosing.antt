@@ -1,6 +1,6 @@
 -- Which sides of a branch are visited, by the words that are tested. Assumes nothing.
 use mathlib.Core.Path.{◌≡◌, refl, sym, ap, ◌∙◌}
-use mathlib.Core.Bool.{Bool, true, false, not, cond, ◌&&◌}
+use mathlib.Core.Bool.{Bool, true, false, cond, ◌&&◌}
 use mathlib.Core.List.{List, ◌++◌}
 use Prim.Native.Nat.{ℕ, zero, suc, ◌+◌, ◌-◌, ◌*◌, ◌^◌, ◌≤◌, ◌<◌}
 use native.Mathlib.Omega.{arith}
@@ -17,8 +17,8 @@ use Rattle.monomial.proofs.Divisions.{all_true, all-each}
 use Rattle.divmask.specs.Mask.{mask, bit, within, tested}
 use Rattle.divmask.specs.declared.DivMaskTestResult.TheVariants.{NotDivisible, Unsure}
 use Rattle.fast_compare.specs.Map as map
-use Rattle.kd_theory.specs.Tree.{Tree, branch, inorder, nodes}
-use Rattle.index_theory.specs.Entries.{Entry, entry_at, ratio_of}
+use Rattle.kd_theory.specs.Tree.{Tree, branch, inorder}
+use Rattle.index_theory.specs.Entries.{Entry}
 use Rattle.index_theory.specs.State.{Kind, monomials, ratioed, State, keys_of, power_in}
 use Rattle.index_theory.specs.Searches.{Query, kind_for, node_mask, may, path}
 use Rattle.index_theory.specs.Ranges.{dividend, by_lm, not_below, not_past, may_go, dim_of, limit_of}
@@ -29,12 +29,12 @@ use Rattle.index_image.specs.Walk as walk
 use Rattle.index_image.specs.Walk.{label, dims}
 use Rattle.index_image.specs.declared.Shape.{Shape}
 use Rattle.index_image.proofs.Shapes.{code-ratio}
-use Rattle.index_image.proofs.Trees.{some-node, nodes-branch}
+use Rattle.index_image.proofs.Trees.{nodes-branch}
 use Rattle.kd_image.specs.HasTree.{HasTree}
 use Rattle.kd_image.proofs.Standing.{based, node-next, row_inside}
 use Rattle.kd_image.proofs.Becoming.{parts}
-use Rattle.kd_image.proofs.Reading.{kind-one, label-of-entry, holds-ready}
-use Rattle.query_words.specs.Asked.{node_mask_in, mask_in, limit_in, from_in, to_in, label_at, Asks}
+use Rattle.kd_image.proofs.Reading.{label-of-entry, holds-ready}
+use Rattle.query_words.specs.Asked.{node_mask_in, mask_in, from_in, to_in, label_at, Asks}
 use Rattle.kd_node.specs.Branch.{ReadyBranch, SidesAre, Chosen}
 
 -- ---- masks

@@ -1,4 +1,6 @@
 // What a search does at a node of the k-d tree: a long leaf is split, the sides of a branch that it visits are chosen, and a branch's skip grows.
+#![tactic(auto)]
+
 ghost use Rattle.std.specs.Prelude.{◌≡◌, true, ◌+◌, ◌*◌, ◌<◌, ◌≤◌, length, get_or};
 ghost use Rattle.words.specs.Words.{words};
 ghost use Rattle.divmask.specs.Mask.{within};
@@ -13,7 +15,7 @@ use index_image::fields;
 use query_words as query;
 
 // Which sides of a branch a search visits, and the dimension that is tried first there.
-#[derive(Drop)]
+#[derive(Clone, Copy)]
 pub struct Sides {
     pub less: bool,
     pub other: bool,
@@ -21,7 +23,7 @@ pub struct Sides {
 }
 
 // The row of a branch's other side, and the number of entries of its less side.
-#[derive(Drop)]
+#[derive(Clone, Copy)]
 pub struct Other {
     pub row: usize,
     pub less: usize,

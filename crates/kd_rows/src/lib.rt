@@ -1,4 +1,6 @@
 // The row of a leaf of the k-d tree, and the words in front of the gcd of any row, written into the image of an index.
+#![tactic(auto)]
+
 ghost use Rattle.std.specs.Prelude.{◌≡◌, [], ◌∷◌, ◌+◌, ◌*◌, ◌≤◌, length};
 ghost use Rattle.words.specs.Words.{words, paste_w};
 ghost use Rattle.index_image.specs.Walk as walk;

@@ -1,4 +1,6 @@
 // The entries of a leaf of the k-d tree, parted into the two sides of a branch, and the key of that branch.
+#![tactic(auto)]
+
 ghost use Rattle.std.specs.Prelude.{◌≡◌, true, false, cond, [], ◌∷◌, ◌++◌, ◌+◌, ◌*◌, ◌<◌, ◌≤◌, ltb, length};
 ghost use Rattle.words.specs.Words.{words, paste_w};
 ghost use Rattle.index_image.specs.Shape as at;

@@ -1,4 +1,6 @@
 // Monomials written into slots, and their masks.
+#![tactic(auto)]
+
 ghost use Rattle.std.specs.Prelude.{◌≡◌, [], ◌+◌, ◌*◌, ◌%◌, ◌≤◌, ◌<◌, length};
 ghost use Rattle.words.specs.Words.{words, paste_w};
 ghost use Rattle.monomial.specs.Monomial.{Canonical, pow};

@@ -1,8 +1,8 @@
 -- The writes of `split_leaf`, and what they come to for whatever leaf stood there. Assumes nothing.
-use mathlib.Core.Path.{◌≡◌, refl, sym, ap, ◌∙◌}
-use mathlib.Core.Bool.{Bool, true, false}
+use mathlib.Core.Path.{◌≡◌, refl, sym, ◌∙◌}
+use mathlib.Core.Bool.{true, false}
 use mathlib.Core.List.{List, [], ◌∷◌, ◌++◌}
-use Prim.Native.Nat.{ℕ, zero, suc, ◌+◌, ◌-◌, ◌*◌, ◌^◌, ◌≤◌, ◌<◌}
+use Prim.Native.Nat.{ℕ, ◌+◌, ◌-◌, ◌*◌, ◌^◌, ◌≤◌, ◌<◌}
 use native.Mathlib.Omega.{arith}
 use lib.ListN.{length, get_or, length-append}
 use Rattle.words.specs.Words.{words, paste_w}
@@ -27,7 +27,7 @@ use Rattle.kd_image.proofs.Standing.{based, leaf-row, length-row}
 use Rattle.index_image.proofs.Bounds.{size_small}
 use Rattle.index_image.proofs.Trees.{nodes-leaf}
 use Rattle.kd_image.proofs.Reading.{holds-ready}
-use Rattle.kd_split.proofs.Splitting.{Wrote, wrote, leaf-words, Rooms, rooms, small-less, small-other, holds₁, holds₃, holds₄, less-entries, other_entries, split-became}
+use Rattle.kd_split.proofs.Splitting.{Wrote, wrote, leaf-words, Rooms, rooms, small-less, small-other, holds₃, holds₄, less-entries, other_entries, split-became}
 use Rattle.kd_sides.proofs.Writing.{sides-length}
 use Rattle.kd_sides.proofs.Writing.{parts-small}
 use Rattle.kd_rows.proofs.Writing.{leaf-small}

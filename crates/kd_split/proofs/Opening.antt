@@ -2,7 +2,7 @@
 use mathlib.Core.Path.{◌≡◌, refl, sym, ap, ◌∙◌}
 use mathlib.Core.Bool.{Bool, true, false, not, cond}
 use mathlib.Core.Option.{Option, none, some}
-use mathlib.Core.List.{List, [], ◌∷◌, ◌++◌}
+use mathlib.Core.List.{List, [], ◌∷◌}
 use Prim.Native.Nat.{ℕ, zero, suc, ◌+◌, ◌-◌, ◌*◌, ◌%◌, ◌≤◌, ◌<◌}
 use native.Mathlib.Omega.{arith}
 use lib.Dec.{ltb}
@@ -11,8 +11,8 @@ use borrow.Author.Tests.{lt-ltb, le-ltb}
 use Rattle.words.specs.Words.{words}
 use Rattle.words.proofs.Laws.{length-words}
 use Rattle.kd_theory.specs.Bag.{◌∈◌, occurs, keep}
-use Rattle.kd_theory.specs.Bifurcate.{least_of, greatest_of, least, greatest, average, cut, try_from, bifurcate, mark_number, first_least, Ratios, ratio_key, ratio_mark}
-use Rattle.kd_theory.specs.Tree.{Tree, leaf, branch, inorder, count, nodes, Split, split_root, split_leaf, limit}
+use Rattle.kd_theory.specs.Bifurcate.{least_of, greatest_of, least, greatest, average, cut, try_from, bifurcate, mark_number, first_least, ratio_key, ratio_mark}
+use Rattle.kd_theory.specs.Tree.{Tree, leaf, branch, Split, split_root, split_leaf, limit}
 use Rattle.kd_theory.proofs.BagLaws.{here, there, true-false, keep-holds}
 use Rattle.fast_compare.specs.Map as map
 use Rattle.index_theory.specs.Entries.{Entry, entry_at, ratio_of}
@@ -24,13 +24,12 @@ use Rattle.index_image.specs.Layout.{code}
 use Rattle.index_image.specs.Walk.{power, label, dims}
 use Rattle.index_image.specs.Rows.{entries_from}
 use Rattle.index_image.specs.declared.Shape.{Shape}
-use Rattle.index_image.proofs.Trees.{some-node, nodes-branch, nodes-leaf}
-use Rattle.index_image.proofs.EntryWords.{no-ratio}
+use Rattle.index_image.proofs.Trees.{some-node, nodes-leaf}
 use Rattle.kd_dimension.specs.declared.Average.{Average}
 use Rattle.kd_dimension.specs.declared.Dimension.{Dimension}
 use Rattle.kd_dimension.specs.declared.Dimension.TheVariants.{At, Flat}
-use Rattle.kd_image.specs.HasTree.{Holds, Stands, HasTree, Became}
-use Rattle.kd_split.specs.Split.{Stays, RootBranch, RootSplitAs, RootSplit}
+use Rattle.kd_image.specs.HasTree.{HasTree, Became}
+use Rattle.kd_split.specs.Split.{RootSplitAs, RootSplit}
 use Rattle.kd_dimension.specs.Choice.{key_by, least_place, mark_by, key_in, mark_in, Chose}
 use Rattle.kd_split.specs.Split.{Standing, Splittable, SplitAt}
 use Rattle.kd_sides.specs.Sides.{on_side}

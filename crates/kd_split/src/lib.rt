@@ -1,4 +1,6 @@
 // A leaf of the k-d tree is split in place: the dimension, the two sides of its entries, and three rows in the place of its row.
+#![tactic(auto)]
+
 ghost use Rattle.std.specs.Prelude.{◌≤◌};
 ghost use Rattle.kd_split.specs.Split.{Standing, Splittable, SplitAt, RootSplit};
 

@@ -167,7 +167,7 @@ module _ (K : Keys) where
         fold-side : (b : Bool) (go : Tree → A → Out A) (t : Tree) (a : A) → ((e : ℕ) → e ∈ inorder t → b ≡ false → p e ≡ false) → Folds proc a (go t a) → Folds proc a (side b go t a)
         unfolding side
         fold-side true go t a h g = g
-        fold-side false go t a h g = sym (fold-skip proc (start a) (inorder t) (λ e m a'. ignores a' e (h e m refl)) refl)
+        fold-side false go t a h g = sym (fold-skip proc (inorder t) (start a) (λ e m a'. ignores a' e (h e m refl)) refl)
 
         fold-then : (b : Bool) (d k : ℕ) (go : Tree → A → Out A) (l r : Tree) (a₀ a : A) → record { acc = a; on = b } ≡ fold_until proc (start a₀) (inorder l)
             → ((a : A) → Folds proc a (go r a)) → Folds proc a₀ (then-other b d k go l r a)

@@ -1,4 +1,6 @@
 // The k-d tree in the image of an index: searched in place, its long leaves split as they are searched.
+#![tactic(auto)]
+
 ghost use Rattle.std.specs.Prelude.{◌≡◌, true, ◌+◌, ◌≤◌};
 ghost use Rattle.words.specs.Words.{words};
 ghost use Rattle.query_words.specs.Asked.{shape_in};

@@ -1,4 +1,6 @@
 // Worked cases of the label map, run through its doors: falling and rising values, capacity, rebuild, damaged maps.
+#![tactic(auto)]
+
 ghost use Rattle.std.specs.Prelude.{◌+◌, ◌*◌, ◌/◌, ◌≤◌, length};
 
 fn number(n: u64) {

@@ -1,4 +1,6 @@
 // From fast_compare.rs: a value gets its label, and is stored where it is new; and labels are dealt afresh.
+#![tactic(auto)]
+
 ghost use Rattle.std.specs.Prelude.{◌≡◌, ℕ, ◌+◌, ◌*◌, ◌<◌, ◌≤◌, length, get_or};
 ghost use Rattle.std.proofs.Math.Option.{none};
 ghost use Rattle.words.specs.Words.{words, paste_w};

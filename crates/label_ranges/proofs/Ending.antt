@@ -21,7 +21,6 @@ use Rattle.words.specs.Words.{words}
 use Rattle.fast_compare.proofs.Exact.{count_of}
 use Rattle.fast_compare.proofs.Giving.{at_place, before-place, known-row, place-few}
 use Rattle.index_theory.specs.Entries.{above, is_greater}
-use Rattle.index_theory.specs.State.{State, Valid}
 use Rattle.label_ranges.specs.Ended.{Ends}
 
 greater-is : (a b : ℕ) → is_greater (compare a b) ≡ ltb b a

@@ -1,4 +1,6 @@
 // The ratio or the index of a query, as a range of labels.
+#![tactic(auto)]
+
 ghost use Rattle.std.specs.Prelude.{◌≡◌, ◌≤◌, ◌<◌, length, get_or};
 ghost use Rattle.words.specs.Words.{words};
 ghost use Rattle.fast_compare.specs.Labels.{sorted};
@@ -14,7 +16,7 @@ use fast_compare::Place;
 use index_image::Shape;
 
 // Labels of larger ratios begin at `above`; labels of smaller ones end below `below`.
-#[derive(Drop)]
+#[derive(Clone, Copy)]
 pub struct LabelEnds {
     pub above: u64,
     pub below: u64,

@@ -1,4 +1,6 @@
 // Question 3 of a map: whether the bytes begin with the image of a valid one.
+#![tactic(auto)]
+
 ghost use Rattle.std.specs.Prelude.{◌≡◌, true, ◌↔◌, ℕ, suc, ◌+◌, ◌*◌, ◌<◌, ◌≤◌, length, get_or};
 ghost use Rattle.words.specs.Words.{words};
 ghost use Rattle.fast_compare.specs.Layout.{size, row_at, RowOk, Rises, TablesOk, HeadOk, Sound, SoundFor};

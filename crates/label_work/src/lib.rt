@@ -1,11 +1,13 @@
 // The doors of a label map lent alone. No answer here goes through a buffer: C gets one number.
+#![tactic(auto)]
+
 ghost use Rattle.std.specs.Prelude.{◌≡◌, ℕ, ◌<◌, length};
 ghost use Rattle.label_work.specs.Door as Door;
 
 use fast_compare::Comparer;
 
 // What a lent value gets: its label, or the question that said no.
-#[derive(Drop)]
+#[derive(Clone, Copy)]
 pub enum Answer {
     Label(u32),
     Unsound,

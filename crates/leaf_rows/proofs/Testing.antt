@@ -34,17 +34,17 @@ module _ (W : List ℕ) (s : Shape) (H : List ℕ) (ll lh e : ℕ) (ws : List �
   p : (t ≡ true) ↔ ((v : ℕ) → v < s.variables → power W s v e < get_or H v 0)
   p = powers-iff W s H e ws t z q
 
-  pub no-powers : not t ≡ true → (false ≡ true) ↔ Inside W s H ll lh e
+  pub no-powers : t ≡ false → (false ≡ true) ↔ Inside W s H ll lh e
   no-powers h = refuse (λ i. failed t p h i.powers)
 
-  pub no-labels : not t ≡ false → s.kind ≡ 0 → (true ≡ true) ↔ Inside W s H ll lh e
+  pub no-labels : t ≡ true → s.kind ≡ 0 → (true ≡ true) ↔ Inside W s H ll lh e
   no-labels h k = accept (record { powers = passed t p h; labels = λ y. absurd (omega arith) })
 
   module _ (one : s.kind ≡ 1) (l : ℕ) (el : l ≡ label W s e) where
     pub too-low : l < ll → (false ≡ true) ↔ Inside W s H ll lh e
     too-low h = refuse (λ i. omega (arith, (i.labels one).0))
 
-    pub by-label : not t ≡ false → ll ≤ l → (ltb l lh ≡ true) ↔ Inside W s H ll lh e
+    pub by-label : t ≡ true → ll ≤ l → (ltb l lh ≡ true) ↔ Inside W s H ll lh e
     by-label h k = (
       λ (y : ltb l lh ≡ true). record { powers = passed t p h; labels = λ x. (omega arith, omega (arith, ltb-true l lh y)) },
       λ i. lt-ltb l lh (omega (arith, (i.labels one).1)),
@@ -82,10 +82,10 @@ module _ {W : List ℕ} {s : Shape} {i : ℕ} {ws : List ℕ} {x y : ℕ} (k : R
     same : (t ≡ true) ↔ (part W (gcd_at i) n ≡ ws)
     same = rw (et, eu) (equal-iff (part W (gcd_at i) n) ws)
 
-    pub other-words : not t ≡ true → (false ≡ true) ↔ NodeOk W s i ws
+    pub other-words : t ≡ false → (false ≡ true) ↔ NodeOk W s i ws
     other-words h = refuse (λ o. failed t same h ((slot-iff n en).0 o.gcd).0)
 
-    pub by-zeros : x ≡ y → not t ≡ false → (b : Bool) → (b ≡ true) ↔ (part W (gcd_at i + n) (slot_width s.variables - n) ≡ zeros (slot_width s.variables - n))
+    pub by-zeros : x ≡ y → t ≡ true → (b : Bool) → (b ≡ true) ↔ (part W (gcd_at i + n) (slot_width s.variables - n) ≡ zeros (slot_width s.variables - n))
         → (b ≡ true) ↔ NodeOk W s i ws
     by-zeros e h b q = (
       λ (z : b ≡ true). record { masked = sym k.mask-read ∙ e ∙ k.mask-made; gcd = (slot-iff n en).1 (passed t same h, q.0 z) },

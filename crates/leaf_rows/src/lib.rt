@@ -1,4 +1,6 @@
 // The row of a leaf: whether it has the gcd of its entries and its mask, and whether they are within the bounds that the walk brought down.
+#![tactic(auto)]
+
 ghost use Rattle.std.specs.Prelude.{◌≡◌, true, ◌↔◌, ℕ, ◌+◌, ◌*◌, ◌<◌, ◌≤◌, length, get_or};
 ghost use Rattle.words.specs.Words.{words};
 ghost use Rattle.monomial.specs.Monomial.{Canonical, Starts, first, pow};

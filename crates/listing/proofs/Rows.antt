@@ -8,7 +8,7 @@ use borrow.Rule.Slice.PartMut.{put_mid}
 use Rattle.words.specs.Words.{paste_w}
 use Rattle.words.proofs.Laws.{length-paste_w}
 use Rattle.kd_theory.specs.Tree.{Tree, leaf, branch, inorder, nodes, count}
-use Rattle.index_theory.specs.Listing.{monomials_at, listing}
+use Rattle.index_theory.specs.Listing.{monomials_at}
 use Rattle.index_image.specs.Shape as at
 use Rattle.index_image.specs.Rows.{entries_from}
 use Rattle.index_image.specs.Walk.{power, map_maxima, lm_in, Ready, Ordered, TreeAt}

@@ -9,7 +9,6 @@ use Rattle.kd_theory.specs.Tree.{inorder}
 use Rattle.index_theory.specs.State.{State}
 use Rattle.index_theory.specs.Entries.{entry_at}
 use Rattle.index_theory.specs.Listing.{listing}
-use Rattle.index_image.specs.Shape as at
 use Rattle.index_image.specs.Layout.{shape_of, Is}
 use Rattle.index_image.specs.Rows.{entries_from}
 use Rattle.index_image.specs.Walk.{lm_in, Ready}

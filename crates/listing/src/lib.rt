@@ -1,4 +1,6 @@
 // The listing of a monomial index: `to_vec` of kd_tree.rs and monomial_index.rs. It reads the image only, and splits nothing.
+#![tactic(auto)]
+
 ghost use Rattle.std.specs.Prelude.{◌≡◌, ◌+◌, ◌*◌, ◌≤◌, ◌<◌, length};
 ghost use Rattle.words.specs.Words.{words, paste_w};
 ghost use Rattle.index_theory.specs.Listing.{listing};

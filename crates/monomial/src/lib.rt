@@ -1,5 +1,7 @@
 // From polynomial/mod.rs: monomials and ratios as words in byte slices.
 // Kind 1 is a monomial, kind 2 a ratio, whose powers are held with 32,768 added.
+#![tactic(auto)]
+
 pub mod ordered_ops;
 pub mod sizes;
 
@@ -11,14 +13,14 @@ ghost use Rattle.monomial.specs.Operations as ops;
 use ordered_ops::Op;
 
 // What a monomial says of a variable.
-#[derive(Drop)]
+#[derive(Clone, Copy)]
 pub enum Power {
     Found(u32),
     Absent,
 }
 
 // A quotient's length in words, or none.
-#[derive(Drop)]
+#[derive(Clone, Copy)]
 pub enum Division {
     Whole(usize),
     NotDivisible,
@@ -218,9 +220,9 @@ pub fn eq(a: &[u8], b: &[u8]) -> bool
 pub fn gcd(a: &[u8], b: &[u8], out: &mut [u8]) -> usize
     requires starts { Starts 1 4096 (words a.now) }
     requires starts_2 { Starts 1 4096 (words b.now) }
-    requires b_in_bounds { 4 * length (ops.result Op.Gcd (first 1 (words a.now)) (first 1 (words b.now))) ≤ length out.old }
-    ensures value { result ≡ length (ops.result Op.Gcd (first 1 (words a.now)) (first 1 (words b.now))) }
-    ensures out_after { out.new ≡ paste_w out.old 0 (ops.result Op.Gcd (first 1 (words a.now)) (first 1 (words b.now))) }
+    requires b_in_bounds { 4 * length (ops.result_words Op.Gcd (first 1 (words a.now)) (first 1 (words b.now))) ≤ length out.old }
+    ensures value { result ≡ length (ops.result_words Op.Gcd (first 1 (words a.now)) (first 1 (words b.now))) }
+    ensures out_after { out.new ≡ paste_w out.old 0 (ops.result_words Op.Gcd (first 1 (words a.now)) (first 1 (words b.now))) }
 {
     ordered_ops::sum(a, b, Op::Gcd, out)
 }
@@ -229,9 +231,9 @@ pub fn gcd(a: &[u8], b: &[u8], out: &mut [u8]) -> usize
 pub fn mul(a: &[u8], b: &[u8], out: &mut [u8]) -> usize
     requires starts { Starts 1 4096 (words a.now) }
     requires starts_2 { Starts 1 4096 (words b.now) }
-    requires b_in_bounds { 4 * length (ops.result Op.Product (first 1 (words a.now)) (first 1 (words b.now))) ≤ length out.old }
-    ensures value { result ≡ length (ops.result Op.Product (first 1 (words a.now)) (first 1 (words b.now))) }
-    ensures out_after { out.new ≡ paste_w out.old 0 (ops.result Op.Product (first 1 (words a.now)) (first 1 (words b.now))) }
+    requires b_in_bounds { 4 * length (ops.result_words Op.Product (first 1 (words a.now)) (first 1 (words b.now))) ≤ length out.old }
+    ensures value { result ≡ length (ops.result_words Op.Product (first 1 (words a.now)) (first 1 (words b.now))) }
+    ensures out_after { out.new ≡ paste_w out.old 0 (ops.result_words Op.Product (first 1 (words a.now)) (first 1 (words b.now))) }
 {
     ordered_ops::sum(a, b, Op::Product, out)
 }
@@ -240,9 +242,9 @@ pub fn mul(a: &[u8], b: &[u8], out: &mut [u8]) -> usize
 pub fn fraction_division(a: &[u8], b: &[u8], out: &mut [u8]) -> usize
     requires starts { Starts 1 4096 (words a.now) }
     requires starts_2 { Starts 1 4096 (words b.now) }
-    requires b_in_bounds { 4 * length (ops.result Op.Ratio (first 1 (words a.now)) (first 1 (words b.now))) ≤ length out.old }
-    ensures value { result ≡ length (ops.result Op.Ratio (first 1 (words a.now)) (first 1 (words b.now))) }
-    ensures out_after { out.new ≡ paste_w out.old 0 (ops.result Op.Ratio (first 1 (words a.now)) (first 1 (words b.now))) }
+    requires b_in_bounds { 4 * length (ops.result_words Op.Ratio (first 1 (words a.now)) (first 1 (words b.now))) ≤ length out.old }
+    ensures value { result ≡ length (ops.result_words Op.Ratio (first 1 (words a.now)) (first 1 (words b.now))) }
+    ensures out_after { out.new ≡ paste_w out.old 0 (ops.result_words Op.Ratio (first 1 (words a.now)) (first 1 (words b.now))) }
 {
     ordered_ops::sum(a, b, Op::Ratio, out)
 }
@@ -251,9 +253,9 @@ pub fn fraction_division(a: &[u8], b: &[u8], out: &mut [u8]) -> usize
 pub fn whole_division(a: &[u8], b: &[u8], out: &mut [u8]) -> Division
     requires starts { Starts 1 4096 (words a.now) }
     requires starts_2 { Starts 1 4096 (words b.now) }
-    requires b_in_bounds { 4 * length (ops.result Op.Quotient (first 1 (words a.now)) (first 1 (words b.now))) ≤ length out.old }
+    requires b_in_bounds { 4 * length (ops.result_words Op.Quotient (first 1 (words a.now)) (first 1 (words b.now))) ≤ length out.old }
     ensures value { result ≡ ops.divided (first 1 (words a.now)) (first 1 (words b.now)) }
-    ensures out_after { out.new ≡ cond (ops.divides (first 1 (words b.now)) (first 1 (words a.now))) (paste_w out.old 0 (ops.result Op.Quotient (first 1 (words a.now)) (first 1 (words b.now)))) out.old }
+    ensures out_after { out.new ≡ cond (ops.divides (first 1 (words b.now)) (first 1 (words a.now))) (paste_w out.old 0 (ops.result_words Op.Quotient (first 1 (words a.now)) (first 1 (words b.now)))) out.old }
 {
     if divides(b, a) {
         Division::Whole(ordered_ops::sum(a, b, Op::Quotient, out))

@@ -7,7 +7,7 @@ ghost use Rattle.monomial.specs.Operations.{met, kind_of, result_words};
 ghost use Rattle.monomial.specs.Walk.{power_at, past};
 
 // What is made of the powers where equal ids meet; an absent variable has power 0.
-#[derive(Drop)]
+#[derive(Clone, Copy)]
 pub enum Op {
     Gcd,
     Product,

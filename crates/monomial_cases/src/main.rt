@@ -1,4 +1,6 @@
 // Runs the monomial work at its limits, and writes each number returned and the answer buffer after it.
+#![tactic(auto)]
+
 use monomial_work::Work;
 
 // One case: the number, then the four words of the buffer, of which `room` bytes were lent. They begin as EE.

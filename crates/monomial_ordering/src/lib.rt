@@ -1,11 +1,13 @@
 // From monomial_ordering.rs: the order on monomials and ratios.
+#![tactic(auto)]
+
 ghost use Rattle.std.specs.Prelude.{◌≡◌, ◌+◌, ◌≤◌, length};
 ghost use Rattle.words.specs.Words.{words};
 ghost use Rattle.monomial.specs.Monomial.{Starts, first, pow};
 ghost use Rattle.monomial_ordering.specs.Order.{compare, TotalOf, revlex, order};
 ghost use Rattle.monomial_ordering.specs.Order.{differing};
 
-#[derive(Drop)]
+#[derive(Clone, Copy)]
 pub enum CmpOrd {
     Less,
     Equal,
@@ -25,7 +27,7 @@ pub fn cmp(x: u32, y: u32) -> CmpOrd
 }
 
 // The sum of a monomial's powers and its number of variables. In a ratio each of the 4,096 powers has 32,768 added, those of absent ones too.
-#[derive(Drop)]
+#[derive(Clone, Copy)]
 pub struct Total {
     pub sum: u32,
     pub variables: usize,

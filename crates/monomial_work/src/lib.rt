@@ -1,4 +1,6 @@
 // The monomial work on lent bytes, exported to C. Each door asks its questions in document 01's order and demands nothing.
+#![tactic(auto)]
+
 ghost use Rattle.std.specs.Prelude.{◌≡◌, ◌*◌, ◌<◌, ◌≤◌, length};
 ghost use Rattle.words.specs.Words.{words, paste_w};
 ghost use Rattle.monomial.specs.Monomial.{Canonical, Starts, first};
@@ -11,7 +13,7 @@ use monomial::ordered_ops::Op;
 use monomial_ordering::CmpOrd;
 
 // What is asked of two monomials, or of two ratios.
-#[derive(Drop)]
+#[derive(Clone, Copy)]
 pub enum Work {
     Gcd,
     Mul,

@@ -5,12 +5,14 @@
 // A record is words: its own length, operation, variables, room, number returned, the lengths of both operands, the operands, and
 // the words that then stand at the front of the buffer. Lengths are in words. For the label map the operands are image and ratio,
 // and the index and the label stand in the places of variables and room.
+#![tactic(auto)]
+
 ghost use Rattle.std.specs.Prelude.{◌≤◌, length};
 
 use monomial_work::Work;
 
 // A record's numbers.
-#[derive(Drop)]
+#[derive(Clone, Copy)]
 struct Head {
     operation: u32,
     variables: u32,
@@ -19,7 +21,7 @@ struct Head {
     number: u32,
 }
 
-#[derive(Drop)]
+#[derive(Clone, Copy)]
 struct Tally {
     vectors: usize,
     differences: usize,

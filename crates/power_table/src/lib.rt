@@ -1,4 +1,6 @@
 // The powers of a monomial laid out by variable: the way of a new entry asks for a power or two in every row.
+#![tactic(auto)]
+
 ghost use Rattle.std.specs.Prelude.{◌≡◌, List, ℕ, ◌≤◌, length};
 ghost use Rattle.words.specs.Words.{words};
 ghost use Rattle.monomial.specs.Monomial.{Canonical, Starts, first};

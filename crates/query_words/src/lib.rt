@@ -1,5 +1,7 @@
 // A query as words of a scratch slice: what the walk needs of what is asked, and of the image's shape. The walk only reads them.
 // A struct of this size would be copied at each call of the walk; a slice is two registers.
+#![tactic(auto)]
+
 ghost use Rattle.std.specs.Prelude.{◌≡◌, ◌+◌, ◌*◌, ◌<◌, ◌≤◌, length, get_or};
 ghost use Rattle.words.specs.Words.{words};
 ghost use Rattle.index_image.specs.Shape as at;
@@ -9,7 +11,7 @@ ghost use Rattle.query_words.specs.Asked.{search_in, search_number, shape_in, La
 use index_image::Shape;
 
 // What is searched for.
-#[derive(Drop)]
+#[derive(Clone, Copy)]
 pub enum Search {
     Contained,
     Reducer,

@@ -1,5 +1,7 @@
 // Opens a monomial index of 4 variables and capacity 100, runs the list of calls that it reads from standard input, and writes each answer word
 // as a line of eight hex digits; for a list refused whole, that one word of kind 5. Bytes past 16 KiB are not read.
+#![tactic(auto)]
+
 ghost use Rattle.std.specs.Prelude.{◌≤◌, length};
 
 fn line(w: u64) {

@@ -1,5 +1,7 @@
 // Runs lists of calls at their limits through the doors of the index, each on an index just opened, and writes a line a case: the last answers
 // or the refusal of the whole list, and the image's number of nodes.
+#![tactic(auto)]
+
 ghost use Rattle.std.specs.Prelude.{◌≡◌, ◌+◌, ◌*◌, ◌≤◌, ◌<◌, length};
 
 use index_image::fields;

@@ -1,5 +1,7 @@
 // Opens ratio indexes, lends them lists of calls, and shows each call with its answer, and what then stands in the image: the ratios with
 // their labels, and the tree.
+#![tactic(auto)]
+
 ghost use Rattle.std.specs.Prelude.{◌+◌, ◌*◌, ◌≤◌, ◌<◌, length};
 ghost use Rattle.index_image.specs.Shape as at;
 
@@ -120,7 +122,7 @@ fn show_ratio(index: u32, m: &[u8]) {
 
 // ---- calls of a ratio index: written into a list, and shown with their answers
 // A monomial in four variables: the powers of x3, x2, x1 and x0.
-#[derive(Drop)]
+#[derive(Clone, Copy)]
 struct Powers(u8, u8, u8, u8);
 
 const INSERT: u32 = 2;

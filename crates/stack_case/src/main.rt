@@ -2,6 +2,8 @@
 // A program cannot limit its stack, so its own frames use up the rest of the 8 MiB that it has by default.
 //
 // Standard input is the image of a full index of one variable (rust/make-replay).
+#![tactic(auto)]
+
 ghost use Rattle.std.specs.Prelude.{◌≤◌};
 
 // The answer, asked below as many frames of 64 KiB as are wanted. Each lends its array to a read, at the end of the input, and looks at it

@@ -1,17 +1,19 @@
 // The word reader: a lent call list and a place in it, which is a call's or the end.
 // The functions over the reader are thin: each takes it apart and leaves the work to one that takes the list and the place.
+#![tactic(auto)]
+
 ghost use Rattle.std.specs.Prelude.{◌≡◌};
 ghost use Rattle.words.specs.Words.{words};
 ghost use Rattle.word_reader.specs.Places.{call_at, call_end, step_at};
 
-#[derive(Drop)]
+#[derive(Clone, Copy)]
 pub struct Reader<'a> {
     pub list: &'a [u8],
     pub at: usize,
 }
 
 // What a reader tells of the call at its place: the number, and the place behind it.
-#[derive(Drop)]
+#[derive(Clone, Copy)]
 pub struct Step {
     pub number: u32,
     pub next: usize,

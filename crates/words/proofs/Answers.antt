@@ -1,10 +1,10 @@
 -- What the answers of checks decide. Assumes nothing.
 use mathlib.Core.Path.{◌≡◌, refl, sym, ◌∙◌}
-use mathlib.Core.Bool.{Bool, true, false, not}
+use mathlib.Core.Bool.{Bool, true, false}
 use mathlib.Core.Logic.{◌↔◌}
 use Prim.Native.Nat.{ℕ}
 use lib.Dec.{eqb}
-use borrow.Author.Tests.{not-true, not-false, eqb-true, eq-eqb}
+use borrow.Author.Tests.{eqb-true, eq-eqb}
 use Rattle.words.proofs.Tables.{never}
 
 -- an answer of false, where what is asked does not hold
@@ -19,14 +19,14 @@ pub test : {M : Type 0} (x y : ℕ) → (x ≡ y → M) → (M → x ≡ y) → 
 test {M} x y f g = (λ (e : eqb x y ≡ true). f (eqb-true x y e), λ (m : M). eq-eqb x y (g m))
 
 -- a callee that answered no, and one that answered yes
-pub failed : {C : Type 0} (t : Bool) → (t ≡ true) ↔ C → not t ≡ true → C → ⊥
-failed t e n c = never (sym (not-true t n) ∙ e.1 c)
+pub failed : {C : Type 0} (t : Bool) → (t ≡ true) ↔ C → t ≡ false → C → ⊥
+failed t e n c = never (sym n ∙ e.1 c)
 
-pub passed : {C : Type 0} (t : Bool) → (t ≡ true) ↔ C → not t ≡ false → C
-passed t e n = e.0 (not-false t n)
+pub passed : {C : Type 0} (t : Bool) → (t ≡ true) ↔ C → t ≡ true → C
+passed t e n = e.0 n
 
 -- in a chain of checks, one that answered no: what all of them ask for does not hold
-pub stop : {A M : Type 0} (t : Bool) → (t ≡ true) ↔ A → not t ≡ true → (M → A) → (false ≡ true) ↔ M
+pub stop : {A M : Type 0} (t : Bool) → (t ≡ true) ↔ A → t ≡ false → (M → A) → (false ≡ true) ↔ M
 stop t e n f = refuse (λ m. failed t e n (f m))
 
 -- the last check, where the others answered yes

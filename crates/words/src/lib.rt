@@ -1,4 +1,6 @@
 // 32-bit words, low byte first, in byte slices: read and written at any place, taken apart and built.
+#![tactic(auto)]
+
 pub mod pairs;
 pub mod runs;
 

@@ -1,0 +1,27 @@
+use native.Mathlib.Omega.{arith}
+use Rattle.words.specs.Words.{words}
+use Rattle.monomial.specs.Monomial.{Canonical}
+use Rattle.index_image.specs.Shape as shape
+use Rattle.index_image.specs.Rows.{monomial_in}
+use Rattle.branch_rows.proofs.Testing.{other-answer}
+use Rattle.index_image.proofs.Gcds.{in-canonical}
+use Rattle.monomial.proofs.Firsts.{starts-wide, starts-whole, first-whole}
+use borrow.Author.Rules.{rules}
+use Rattle.branch_rows.proofs.other_ok.Goals.{Start}
+use Rattle.branch_rows.proofs.other_ok.Goals as goal
+
+-- the gcd of the other side's row
+good : (a : Start) → Canonical 1 a.args.s.variables (monomial_in (words a.args.image.now) a.args.s.variables (shape.gcd_at a.args.b))
+good a = in-canonical (words a.args.image.now) a.args.s.variables (shape.gcd_at a.args.b) a.requires.slots.one
+
+pub power_of-p-requires : goal.power_of-p-requires
+power_of-p-requires c =
+    let get = c.get-tag in record { le_kind = (omega arith, (omega arith, omega (arith, get.ensures, c.requires.key_in.to, c.requires.in_range.vars-to))); starts = rw c.monomial_in.ensures.is (starts-wide (starts-whole (good (goal.at.power_of-p-requires c).Start))) }
+
+pub returns : goal.returns
+returns c =
+    let get = c.get-tag in
+    let power-of = c.power_of-p in
+    other-answer (words c.args.image.now) c.args.s c.args.at c.args.b get.result c.get.result
+    power-of.result get.ensures c.get.ensures c.if-tag-s.false
+    (rw (c.monomial_in.ensures.is, first-whole (good (goal.at.returns c).Start)) at power-of.ensures)

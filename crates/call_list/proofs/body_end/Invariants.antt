@@ -1,0 +1,12 @@
+use mathlib.Core.Path.{◌≡◌}
+use Prim.Native.Nat.{◌≤◌, ◌+◌, ◌-◌}
+use lib.ListN.{length, drop}
+use Rattle.words.specs.Words.{words}
+use Rattle.index_theory.specs.Calls.{body_of}
+use Rattle.call_list.proofs.body_end.Given as goal
+
+abbrev pub invariant-loop-i : goal.invariant-loop-i
+invariant-loop-i l = (l.at ≤ l.i) × ((l.i ≤ l.end) × (l.at + length (body_of (drop l.at (words l.list))) ≡ l.i + length (body_of (drop l.i (words l.list)))))
+
+abbrev pub decreases-loop-i : goal.decreases-loop-i
+decreases-loop-i l = l.end - l.i

@@ -1,0 +1,19 @@
+use lib.Pow.{pow_pos}
+use native.Mathlib.Omega.{arith}
+use mathlib.Core.Logic.{⊎_elim}
+use Prim.Native.Nat.{min}
+use mathlib.Core.Path.{◌≡◌}
+use Rattle.divmask.proofs.Parts.{ones}
+use Rattle.divmask.proofs.Vectors.{short-is}
+use Rattle.divmask.proofs.pairs.short_field.Goals.{else-power-bits, then-power-bits}
+use Rattle.divmask.proofs.pairs.short_field.Goals as goal
+
+-- end of helpers
+pub overflow_shl-result : goal.overflow_shl-result
+overflow_shl-result c = omega (arith, (let it : c.if-power-bits.count ≡ min c.args.bits c.args.power = elim c.if-power-bits.branch [ then-power-bits w ↦ omega arith | else-power-bits w ↦ omega arith ] in it))
+
+pub overflow_sub-result : goal.overflow_sub-result
+overflow_sub-result c = omega (arith, ones c.if-power-bits.count (omega (arith, (let it : c.if-power-bits.count ≡ min c.args.bits c.args.power = elim c.if-power-bits.branch [ then-power-bits w ↦ omega arith | else-power-bits w ↦ omega arith ] in it))), pow_pos c.if-power-bits.count)
+
+pub returns : goal.returns
+returns c = short-is c.args.bits c.args.power c.if-power-bits.count c.requires ((let it : c.if-power-bits.count ≡ min c.args.bits c.args.power = elim c.if-power-bits.branch [ then-power-bits w ↦ omega arith | else-power-bits w ↦ omega arith ] in it))

@@ -1,0 +1,16 @@
+use native.Mathlib.Omega.{arith}
+use borrow.Author.Rules.{rules}
+use lib.ListN.{drop, drop_of_length-le}
+use Prim.Native.Nat.{◌-◌}
+use mathlib.Core.Path.{◌≡◌, refl, sym, ◌∙◌}
+use Rattle.words.specs.Words.{words}
+use Rattle.words.proofs.Laws.{length-words, word-and-rest}
+use Rattle.divmask.specs.Tracker.{all_in_range}
+use Rattle.divmask.proofs.Growth.{range-low, range-high, range-in, range-nil}
+use Rattle.divmask.proofs.tracker.in_range.Given as goal
+
+abbrev pub invariant-loop-i : goal.invariant-loop-i
+invariant-loop-i l = all_in_range (words l.s) ≡ all_in_range (drop l.i (words l.s))
+
+abbrev pub decreases-loop-i : goal.decreases-loop-i
+decreases-loop-i l = l.n - l.i

@@ -1,0 +1,12 @@
+use Rattle.std.proofs.Common.{◌≡◌, ◌-◌, sym, refl, ◌∙◌, arith}
+use borrow.Author.Tests.{not-true, not-false}
+use Rattle.words.specs.Words.{words}
+use Rattle.words.proofs.Laws.{length-words}
+use Rattle.divmask_table.proofs.Tabling.{Going, going, ran_out, judged, wrong-end, no_power, known, go_on}
+use Rattle.divmask_table.proofs.judge.Given as goal
+
+abbrev pub invariant-loop-i : goal.invariant-loop-i
+invariant-loop-i l = Going l.variables (words l.maxima) (words l.s) l.at l.i l.bound l.masks
+
+abbrev pub decreases-loop-i : goal.decreases-loop-i
+decreases-loop-i l = l.end - l.i

@@ -1,0 +1,46 @@
+use native.Mathlib.Omega.{arith}
+use mathlib.Core.Path.{◌≡◌, sym, ap, ◌∙◌}
+use Prim.Native.Nat.{◌+◌}
+use Rattle.words.specs.Words.{words}
+use Rattle.monomial_ordering.specs.Order.{order}
+use Rattle.monomial.specs.Monomial.{first}
+use Rattle.fast_compare.specs.Map.{value_of}
+use Rattle.fast_compare.specs.Layout.{value_at}
+use Rattle.fast_compare.proofs.Scans.{row_fits, total-lent, ratio-starts, ratio-first, cmp-less, cmp-greater, cmp-ratio, value-index, value-ratio}
+use borrow.Author.Rules.{rules}
+use Rattle.fast_compare.proofs.rows.compare_at.Goals as goal
+
+pub get-requires : goal.get-requires
+get-requires c = omega (arith, row_fits c.args.map.now c.args.at c.requires.has_ratio)
+
+pub returns-then-i-index : goal.returns-then-i-index
+returns-then-i-index c = λ m s. let W = words c.args.map.now in
+    let q = value_of c.args.index (first 2 (words c.args.ratio.now)) in
+    cmp-less (value_at W m c.args.at) q (omega (arith, value-index W m c.args.at, c.get.ensures, c.payload-i.ensures))
+
+pub returns-then-index-i : goal.returns-then-index-i
+returns-then-index-i c = λ m s. let W = words c.args.map.now in
+    let q = value_of c.args.index (first 2 (words c.args.ratio.now)) in
+    cmp-greater (value_at W m c.args.at) q (omega (arith, value-index W m c.args.at, c.get.ensures, c.payload-i.ensures))
+
+pub overflow_add-a : goal.overflow_add-a
+overflow_add-a c = omega (arith, row_fits c.args.map.now c.args.at c.requires.has_ratio)
+
+pub overflow_mul-a : goal.overflow_mul-a
+overflow_mul-a c = omega (arith, row_fits c.args.map.now c.args.at c.requires.has_ratio)
+
+pub slice_bounds-ord_by_totals-count : goal.slice_bounds-ord_by_totals-count
+slice_bounds-ord_by_totals-count c = omega (arith, row_fits c.args.map.now c.args.at c.requires.has_ratio)
+
+pub slice_bounds-ord_by_totals-start : goal.slice_bounds-ord_by_totals-start
+slice_bounds-ord_by_totals-start c = omega (arith, row_fits c.args.map.now c.args.at c.requires.has_ratio)
+
+pub ord_by_totals-requires : goal.ord_by_totals-requires
+ord_by_totals-requires c = record { le_kind = (omega arith, omega arith); starts = ratio-starts c.args.map.now c.requires.has_ratio.vars (c.args.at + 1) c.requires.has_ratio.some; total_of = (total-lent c.args.map.now c.args.at c.args.s).0 c.requires.total_at; starts_2 = c.requires.starts; total_of_2 = c.requires.total_of }
+
+pub returns : goal.returns
+returns c = λ m s. let W = words c.args.map.now in
+    let a = c.args.at in
+    let q = value_of c.args.index (first 2 (words c.args.ratio.now)) in
+    c.ord_by_totals.ensures ∙ rw (ratio-first c.args.map.now m (a + 1) s)
+    (ap (λ r. order 2 r q.ratio) (sym (value-ratio W m a)) ∙ cmp-ratio (value_at W m a) q (omega (arith, value-index W m a, c.get.ensures, c.payload-i.ensures)))

@@ -1,0 +1,14 @@
+use native.Mathlib.Omega.{arith}
+use mathlib.Core.Path.{◌≡◌, refl, ◌∙◌}
+use Prim.Native.Nat.{ℕ, ◌-◌, ◌≤◌, ◌<◌}
+use lib.ListN.{length, get_or}
+use Rattle.words.specs.Words.{words}
+use Rattle.index_sound.proofs.Steps.{bound-more}
+use borrow.Author.Rules.{rules}
+use Rattle.index_sound.proofs.unbounded.Given as goal
+
+abbrev pub invariant-loop-i : goal.invariant-loop-i
+invariant-loop-i l = (l.i ≤ l.n) × ((length l.hi ≡ length l.initial.hi) × ((v : ℕ) → v < l.i → get_or (words l.hi) v 0 ≡ 32768))
+
+abbrev pub decreases-loop-i : goal.decreases-loop-i
+decreases-loop-i l = l.n - l.i

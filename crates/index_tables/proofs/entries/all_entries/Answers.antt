@@ -1,0 +1,28 @@
+use native.Mathlib.Omega.{arith}
+use borrow.Author.Rules.{rules}
+use mathlib.Core.Path.{refl, sym, ◌∙◌}
+use Prim.Native.Nat.{ℕ, ◌-◌, ◌<◌, ◌≤◌}
+use borrow.Author.Tests.{not-true, not-false}
+use borrow.Author.Count.{below_more}
+use Rattle.words.proofs.Answers.{refuse}
+use Rattle.words.specs.Words.{words}
+use Rattle.words.proofs.Tables.{never}
+use Rattle.index_image.specs.Door.{EntryOk}
+use Rattle.index_tables.proofs.entries.all_entries.Goals as goal
+
+pub loop-i-init : goal.loop-i-init
+loop-i-init c = (omega arith, λ j h. absurd (omega arith))
+
+pub entry_ok-requires : goal.entry_ok-requires
+entry_ok-requires c = record { in_range = c.requires.in_range; s_in_bounds = c.requires.s_in_bounds; i_lt_entries = c.loop-i-test.true; tables = c.requires.tables; table_len = c.requires.table_len; tabled = c.requires.tabled }
+
+pub returns-then-not-entry_ok : goal.returns-then-not-entry_ok
+returns-then-not-entry_ok c =
+    refuse (λ q. never (sym (c.if-not-entry_ok.true) ∙ c.entry_ok.ensures.1
+    (q c.loop-i.i c.loop-i-test.true)))
+
+pub loop-i-preserved : goal.loop-i-preserved
+loop-i-preserved c = (omega arith, below_more _ _ c.loop-i.invariant.1 (c.entry_ok.ensures.0 (c.if-not-entry_ok.false)))
+
+pub returns : goal.returns
+returns c = (λ z i h. c.loop-i.invariant.1 i (omega arith), λ q. refl)

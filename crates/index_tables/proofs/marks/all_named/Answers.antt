@@ -1,0 +1,13 @@
+use Rattle.index_tables.proofs.Marking.{blank-array, named-marked}
+use borrow.Author.Rules.{rules}
+use Rattle.index_tables.proofs.marks.all_named.Goals as goal
+
+pub mark-requires : goal.mark-requires
+mark-requires c = record { n_bound = (c.requires.n_bound.0, (c.requires.n_bound.1.0, c.requires.n_bound.1.1.0)); by_index = c.requires.by_index; by_index_2 = c.requires.by_index_2; by_index_3 = λ j. blank-array 4096 j }
+
+pub returns : goal.returns
+returns c =
+    let mark = c.mark in (
+      λ z j h. mark.ensures.only j (c.all_marked.ensures.0 z j h),
+      λ q. c.all_marked.ensures.1 (λ j h. named-marked _ _ _ _ _ mark.ensures j (q j h)),
+    )

@@ -1,0 +1,288 @@
+use native.Mathlib.Omega.{arith}
+use borrow.Author.Rules.{rules}
+use Rattle.words.proofs.Answers.{failed, passed}
+use Rattle.index_walk.proofs.Walks.{Row, Tagged, Less, One, Two, no_row, too_many, no-leaf, a-leaf, no_key, no-first, one-is, no_less, no_second, no-branch, two_is, a-branch}
+use mathlib.Core.Path.{◌≡◌, refl, sym, ap, ◌∙◌}
+use lib.ListN.{length}
+use Rattle.words.specs.Words.{words}
+use Rattle.words.proofs.Tables.{never}
+use Rattle.index_image.specs.Shape as at
+use Rattle.index_walk.specs.Walked.{Walked}
+use Rattle.leaf_rows.specs.Leaves.{Uppers}
+use Rattle.branch_rows.specs.Branches.{KeyIn}
+use Rattle.index_image.proofs.Places.{node-room}
+use Rattle.index_walk.proofs.Uppers.{words-put, uppers-put, put_back}
+use Prim.Native.Nat.{ℕ, ◌+◌, ◌-◌, ◌*◌, ◌≤◌, ◌<◌}
+use Rattle.index_walk.proofs.+walk.Goals.{After-count_at-all, After-exchange-old, After-get, After-get-c, After-node_at-at, After-slice_known-4-1, After-walk-t, After-walk-w, Else-not-key_ok, Else-t-eq0, Else-w-eq0, Start}
+use Rattle.index_walk.proofs.+walk.Goals as goal
+
+-- ---- what is known at the places of the walk
+-- the numbers of the header are small
+numbers : {t : ℕ} (a : Start t) → (a.args.s.nodes ≤ 8191) × (a.args.s.entries ≤ 4096)
+numbers a =
+    let r = a.requires.ready.range in
+    (omega (arith, r.nodes-to, r.cap-to), omega (arith, r.few, r.cap-to))
+
+-- the row lies within the image
+room : {t : ℕ} (c : After-node_at-at t) → 4 * (c.node_at-at.result + at.node_width c.args.s.variables) ≤ length c.args.image.now
+room c =
+    let fits = node-room c.args.image.now c.args.s c.requires.ready c.args.k (omega (arith, c.if-s-k.false)) in
+    omega (arith, fits, c.node_at-at.ensures)
+
+-- its number of entries, its tag and its key
+row : {t : ℕ} (c : After-get-c t) → Row c.requires.ready (words c.args.hi.now) c.args.ll c.args.lh c.args.k c.args.lo
+    c.args.avail c.get-c.result
+row c =
+    record { places = c.requires.k_le_nodes.1; count = rw c.node_at-at.ensures at c.get-c.ensures }
+
+tagged : {t : ℕ} (c : After-get t) → Row c.requires.ready (words c.args.hi.now) c.args.ll c.args.lh c.args.k c.args.lo c.args.avail c.get-c.result → Tagged c.requires.ready (words c.args.hi.now) c.args.ll c.args.lh c.args.k c.args.lo c.args.avail c.get-c.result c.get.result
+tagged c r = record { row = r; used = omega (arith, c.if-s-k.false); fits = omega (arith, c.if-avail-c.false); tag_is = rw c.node_at-at.ensures at c.get.ensures }
+
+keyed : {t : ℕ} (c : Else-not-key_ok t) → KeyIn (words c.args.image.now) c.args.s c.node_at-at.result
+keyed c = passed c.key_ok.result c.key_ok.ensures c.if-not-key_ok.false
+
+-- the bounds of the less side, which are put back behind it
+bounds : {t : ℕ} (c : After-exchange-old t) → Uppers c.args.s.variables c.exchange-old.new.hi
+bounds c =
+    let sides = c.sides-b in
+    uppers-put c.args.s.variables c.args.hi.now c.requires.uppers sides.result.variable sides.result.power
+    sides.ensures.known sides.ensures.small sides.ensures.some c.exchange-old.new.hi c.exchange-old.ensures.hi_after
+
+kept : {t : ℕ} (c : After-slice_known-4-1 t) → c.put.new.s ≡ c.args.hi.now
+kept c =
+    let sides = c.sides-b in
+    let exchange = c.exchange-old in
+    let walk = c.walk-t in
+    let put = c.put in
+    put_back c.args.s.variables c.args.hi.now c.requires.uppers sides.result.variable sides.result.power
+    sides.ensures.known sides.ensures.small
+    (λ i. omega (arith, c.slice_known-1.given i)) walk.new.hi put.new.s
+    exchange.result (λ i. omega (arith, c.type_inv.hi i)) (walk.ensures.hi_unchanged ∙ exchange.ensures.hi_after) exchange.ensures.value put.ensures
+
+-- the less side was walked
+less : {t : ℕ} (c : After-walk-t t) → Tagged c.requires.ready (words c.args.hi.now) c.args.ll c.args.lh c.args.k c.args.lo c.args.avail c.get-c.result c.get.result → KeyIn (words c.args.image.now) c.args.s c.node_at-at.result
+    → Less c.requires.ready (words c.args.hi.now) c.args.ll c.args.lh c.args.k c.args.lo c.args.avail c.get-c.result c.get.result c.sides-b.result c.walk-t.result
+less c g k =
+    let sides = c.sides-b in
+    let exchange = c.exchange-old in
+    let put = words-put c.args.s.variables c.args.hi.now c.requires.uppers sides.result.variable sides.result.power
+    sides.ensures.known sides.ensures.small exchange.new.hi exchange.ensures.hi_after in
+    record {
+      tagged = g;
+      no-leaf = c.if-get-eq0.false;
+      key = rw c.node_at-at.ensures at k;
+      cut = rw c.node_at-at.ensures at sides.ensures;
+      walked = rw put at c.walk-t.ensures.walked;
+    }
+
+-- it has a tree, so its numbers are known
+one : {t : ℕ} (c : Else-t-eq0 t) (l : Less c.requires.ready (words c.args.hi.now) c.args.ll c.args.lh c.args.k c.args.lo c.args.avail c.get-c.result c.get.result c.sides-b.result c.walk-t.result)
+    → One c.requires.ready l (omega (arith, c.if-t-eq0.false))
+one c l = one-is c.requires.ready l (omega (arith, c.if-t-eq0.false))
+
+-- the count that is read again is the same
+count_same : {t : ℕ} (c : After-count_at-all t) → Row c.requires.ready (words c.args.hi.now) c.args.ll c.args.lh c.args.k c.args.lo c.args.avail c.get-c.result → c.count_at-all.result ≡ c.get-c.result
+count_same c r = c.count_at-all.ensures ∙ sym r.count
+
+-- the other side was walked
+other : {t : ℕ} (c : After-walk-w t) → c.put.new.s ≡ c.args.hi.now → c.count_at-all.result ≡ c.get-c.result
+    → Walked (words c.args.image.now) c.args.s (words c.args.hi.now) c.sides-b.result.other c.args.lh (c.args.k + 1 + c.walk-t.result) (c.args.lo + c.count_behind-ca.result) (c.get-c.result - c.count_behind-ca.result) c.walk-w.result
+other c k n = rw k at (rw n at c.walk-w.ensures.walked)
+
+two : {t : ℕ} (c : Else-w-eq0 t) (l : Less c.requires.ready (words c.args.hi.now) c.args.ll c.args.lh c.args.k c.args.lo c.args.avail c.get-c.result c.get.result c.sides-b.result c.walk-t.result)
+    (o : Walked (words c.args.image.now) c.args.s (words c.args.hi.now) c.sides-b.result.other c.args.lh (c.args.k + 1 + c.walk-t.result) (c.args.lo + c.count_behind-ca.result) (c.get-c.result - c.count_behind-ca.result) c.walk-w.result)
+    → Two c.requires.ready l (omega (arith, c.if-t-eq0.false)) c.count_behind-ca.ensures o (omega (arith, c.if-w-eq0.false))
+two c l o = two_is c.requires.ready l (omega (arith, c.if-t-eq0.false)) c.count_behind-ca.ensures o (omega (arith, c.if-w-eq0.false))
+
+pub returns-then-s-k : goal.returns-then-s-k
+returns-then-s-k t c = record { walked = no_row c.requires.ready c.if-s-k.true; hi_unchanged = refl }
+
+pub node_at-at-requires : goal.node_at-at-requires
+node_at-at-requires t c = record { in_range = c.requires.ready.range; k_bound = omega (arith, c.if-s-k.false, numbers (goal.at.node_at-at-requires t c).Start) }
+
+pub overflow_add-at : goal.overflow_add-at
+overflow_add-at t c = omega (arith, room (goal.at.overflow_add-at t c).After-node_at-at)
+
+pub get-c-requires : goal.get-c-requires
+get-c-requires t c = omega (arith, room (goal.at.get-c-requires t c).After-node_at-at)
+
+pub returns-then-avail-c : goal.returns-then-avail-c
+returns-then-avail-c t c = record { walked = too_many c.requires.ready (row (goal.at.returns-then-avail-c t c).After-get-c) c.if-avail-c.true; hi_unchanged = refl }
+
+pub get-requires : goal.get-requires
+get-requires t c = omega (arith, room (goal.at.get-requires t c).After-node_at-at)
+
+pub leaf_ok-requires : goal.leaf_ok-requires
+leaf_ok-requires t c = record { ready = c.requires.ready; uppers = c.requires.uppers; variables_in_bounds = room (goal.at.leaf_ok-requires t c).After-node_at-at; c_bound = omega (arith, c.requires.k_le_nodes.1, c.if-avail-c.false) }
+
+pub returns-then-leaf_ok : goal.returns-then-leaf_ok
+returns-then-leaf_ok t c =
+    let Node-at = c.node_at-at in
+    let ok = rw Node-at.ensures at (c.leaf_ok.ensures.0 c.if-leaf_ok.true) in record { walked = a-leaf c.requires.ready (tagged (goal.at.returns-then-leaf_ok t c).After-get (row (goal.at.returns-then-leaf_ok t c).After-get-c)) c.if-get-eq0.true ok; hi_unchanged = refl }
+
+pub returns-then-get-eq0 : goal.returns-then-get-eq0
+returns-then-get-eq0 t c =
+    let Node-at = c.node_at-at in record {
+      walked = no-leaf c.requires.ready (tagged (goal.at.returns-then-get-eq0 t c).After-get (row (goal.at.returns-then-get-eq0 t c).After-get-c)) c.if-get-eq0.true
+          (λ o. never (sym c.if-leaf_ok.false ∙ c.leaf_ok.ensures.1 (rw Node-at.ensures o)));
+      hi_unchanged = refl;
+    }
+
+pub key_ok-requires : goal.key_ok-requires
+key_ok-requires t c = record { in_range = c.requires.ready.range; at_in_bounds = omega (arith, room (goal.at.key_ok-requires t c).After-node_at-at) }
+
+pub returns-then-not-key_ok : goal.returns-then-not-key_ok
+returns-then-not-key_ok t c =
+    let Node-at = c.node_at-at in
+    let key-ok = c.key_ok in record {
+      walked = no_key c.requires.ready (tagged (goal.at.returns-then-not-key_ok t c).After-get (row (goal.at.returns-then-not-key_ok t c).After-get-c)) c.if-get-eq0.false
+          (λ o. failed key-ok.result key-ok.ensures c.if-not-key_ok.true (rw Node-at.ensures o));
+      hi_unchanged = refl;
+    }
+
+pub sides-b-requires : goal.sides-b-requires
+sides-b-requires t c = record { ready = c.requires.ready; uppers = c.requires.uppers; at_in_bounds = omega (arith, room (goal.at.sides-b-requires t c).After-node_at-at); key_in = keyed (goal.at.sides-b-requires t c).Else-not-key_ok }
+
+pub exchange-old-requires : goal.exchange-old-requires
+exchange-old-requires t c =
+    omega (arith, c.sides-b.ensures.known, c.requires.uppers.one_each)
+
+pub overflow_add-k : goal.overflow_add-k
+overflow_add-k t c =
+    omega (arith, c.if-s-k.false, numbers (goal.at.overflow_add-k t c).Start)
+
+pub overflow_sub-c : goal.overflow_sub-c
+overflow_sub-c t c =
+    let get = c.get-c in
+    omega (arith, (keyed (goal.at.overflow_sub-c t c).Else-not-key_ok).two, get.ensures)
+
+pub walk-t-requires : goal.walk-t-requires
+walk-t-requires t c =
+    let get = c.get-c in
+    let if2 = c.if-avail-c in (
+      omega (arith, c.decreases, if2.false, (keyed (goal.at.walk-t-requires t c).Else-not-key_ok).two, get.ensures),
+      (
+        c.requires.ready,
+        (
+          bounds (goal.at.walk-t-requires t c).After-exchange-old,
+          (
+            omega (arith, c.if-s-k.false),
+            omega
+                (arith, c.requires.k_le_nodes.1, if2.false),
+          ),
+        ),
+      ),
+    )
+
+pub put-requires : goal.put-requires
+put-requires t c =
+    let walk = c.walk-t in
+    let sides = c.sides-b in
+    omega (arith, sides.ensures.known, (bounds (goal.at.put-requires t c).After-exchange-old).one_each, ap length walk.ensures.hi_unchanged)
+
+pub shape_of-hi-then-t-eq0 : goal.shape_of-hi-then-t-eq0
+shape_of-hi-then-t-eq0 t c = ap length (kept (goal.at.shape_of-hi-then-t-eq0 t c).After-slice_known-4-1)
+
+pub returns-then-t-eq0 : goal.returns-then-t-eq0
+returns-then-t-eq0 t c = record { walked = no-first c.requires.ready (less (goal.at.returns-then-t-eq0 t c).After-walk-t (tagged (goal.at.returns-then-t-eq0 t c).After-get (row (goal.at.returns-then-t-eq0 t c).After-get-c)) (keyed (goal.at.returns-then-t-eq0 t c).Else-not-key_ok)) c.if-t-eq0.true; hi_unchanged = kept (goal.at.returns-then-t-eq0 t c).After-slice_known-4-1 }
+
+pub count_behind-ca-requires : goal.count_behind-ca-requires
+count_behind-ca-requires t c = record { ready = c.requires.ready; k_bound = (omega (arith, (one (goal.at.count_behind-ca-requires t c).Else-t-eq0 (less (goal.at.count_behind-ca-requires t c).After-walk-t (tagged (goal.at.count_behind-ca-requires t c).After-get (row (goal.at.count_behind-ca-requires t c).After-get-c)) (keyed (goal.at.count_behind-ca-requires t c).Else-not-key_ok))).inside, c.if-t-eq0.false), c.node_at-at.ensures) }
+
+pub shape_of-hi-then-ca-eq0 : goal.shape_of-hi-then-ca-eq0
+shape_of-hi-then-ca-eq0 t c = ap length (kept (goal.at.shape_of-hi-then-ca-eq0 t c).After-slice_known-4-1)
+
+pub returns-then-ca-eq0 : goal.returns-then-ca-eq0
+returns-then-ca-eq0 t c =
+    let some = c.if-t-eq0.false in
+    let less-entries = no_less c.requires.ready (less (goal.at.returns-then-ca-eq0 t c).After-walk-t (tagged (goal.at.returns-then-ca-eq0 t c).After-get (row (goal.at.returns-then-ca-eq0 t c).After-get-c)) (keyed (goal.at.returns-then-ca-eq0 t c).Else-not-key_ok)) (omega (arith, some)) c.count_behind-ca.ensures c.if-ca-eq0.true in record { walked = less-entries; hi_unchanged = kept (goal.at.returns-then-ca-eq0 t c).After-slice_known-4-1 }
+
+pub count_at-all-requires : goal.count_at-all-requires
+count_at-all-requires t c = record { ready = c.requires.ready; k_lt_nodes = omega (arith, c.if-s-k.false) }
+
+pub overflow_add-k-2 : goal.overflow_add-k-2
+overflow_add-k-2 t c =
+    omega (arith, c.if-s-k.false, numbers (goal.at.overflow_add-k-2 t c).Start)
+
+pub overflow_add-k-3 : goal.overflow_add-k-3
+overflow_add-k-3 t c =
+    omega (arith, (one (goal.at.overflow_add-k-3 t c).Else-t-eq0 (less (goal.at.overflow_add-k-3 t c).After-walk-t (tagged (goal.at.overflow_add-k-3 t c).After-get (row (goal.at.overflow_add-k-3 t c).After-get-c)) (keyed (goal.at.overflow_add-k-3 t c).Else-not-key_ok))).inside, numbers (goal.at.overflow_add-k-3 t c).Start)
+
+pub overflow_add-lo : goal.overflow_add-lo
+overflow_add-lo t c =
+    let if2 = c.if-avail-c in
+    omega (arith, (one (goal.at.overflow_add-lo t c).Else-t-eq0 (less (goal.at.overflow_add-lo t c).After-walk-t (tagged (goal.at.overflow_add-lo t c).After-get (row (goal.at.overflow_add-lo t c).After-get-c)) (keyed (goal.at.overflow_add-lo t c).Else-not-key_ok))).few, c.count_behind-ca.ensures, c.requires.k_le_nodes.1, if2.false, numbers (goal.at.overflow_add-lo t c).Start)
+
+pub overflow_sub-all : goal.overflow_sub-all
+overflow_sub-all t c = omega (arith, count_same (goal.at.overflow_sub-all t c).After-count_at-all (row (goal.at.overflow_sub-all t c).After-get-c), (one (goal.at.overflow_sub-all t c).Else-t-eq0 (less (goal.at.overflow_sub-all t c).After-walk-t (tagged (goal.at.overflow_sub-all t c).After-get (row (goal.at.overflow_sub-all t c).After-get-c)) (keyed (goal.at.overflow_sub-all t c).Else-not-key_ok))).few, c.count_behind-ca.ensures)
+
+pub walk-w-requires : goal.walk-w-requires
+walk-w-requires t c =
+    let Numbers-of = one (goal.at.walk-w-requires t c).Else-t-eq0 (less (goal.at.walk-w-requires t c).After-walk-t (tagged (goal.at.walk-w-requires t c).After-get (row (goal.at.walk-w-requires t c).After-get-c)) (keyed (goal.at.walk-w-requires t c).Else-not-key_ok)) in
+    let if2 = c.if-avail-c in
+    let count-behind = c.count_behind-ca in
+    let if7 = c.if-ca-eq0 in (
+      omega (arith, count_same (goal.at.walk-w-requires t c).After-count_at-all (row (goal.at.walk-w-requires t c).After-get-c), c.decreases, if2.false, (keyed (goal.at.walk-w-requires t c).Else-not-key_ok).two, c.get-c.ensures, if7.false),
+      (
+        c.requires.ready,
+        (
+          rw (kept (goal.at.walk-w-requires t c).After-slice_known-4-1) c.requires.uppers,
+          (
+            Numbers-of.inside,
+            omega (arith, count_same (goal.at.walk-w-requires t c).After-count_at-all (row (goal.at.walk-w-requires t c).After-get-c), Numbers-of.few, count-behind.ensures, c.requires.k_le_nodes.1, if2.false),
+          ),
+        ),
+      ),
+    )
+
+pub shape_of-hi-then-w-eq0 : goal.shape_of-hi-then-w-eq0
+shape_of-hi-then-w-eq0 t c =
+    ap length (c.walk-w.ensures.hi_unchanged ∙ kept (goal.at.shape_of-hi-then-w-eq0 t c).After-slice_known-4-1)
+
+pub returns-then-w-eq0 : goal.returns-then-w-eq0
+returns-then-w-eq0 t c =
+    let found = less (goal.at.returns-then-w-eq0 t c).After-walk-t (tagged (goal.at.returns-then-w-eq0 t c).After-get (row (goal.at.returns-then-w-eq0 t c).After-get-c)) (keyed (goal.at.returns-then-w-eq0 t c).Else-not-key_ok) in
+    let some = c.if-t-eq0.false in
+    let count-behind = c.count_behind-ca in record { walked = no_second c.requires.ready found (omega (arith, some)) count-behind.ensures (other (goal.at.returns-then-w-eq0 t c).After-walk-w (kept (goal.at.returns-then-w-eq0 t c).After-slice_known-4-1) (count_same (goal.at.returns-then-w-eq0 t c).After-count_at-all (row (goal.at.returns-then-w-eq0 t c).After-get-c))) c.if-w-eq0.true; hi_unchanged = c.walk-w.ensures.hi_unchanged ∙ kept (goal.at.returns-then-w-eq0 t c).After-slice_known-4-1 }
+
+pub over_ok-requires : goal.over_ok-requires
+over_ok-requires t c =
+    let Node-at = c.node_at-at in
+    let both = two (goal.at.over_ok-requires t c).Else-w-eq0 (less (goal.at.over_ok-requires t c).After-walk-t (tagged (goal.at.over_ok-requires t c).After-get (row (goal.at.over_ok-requires t c).After-get-c)) (keyed (goal.at.over_ok-requires t c).Else-not-key_ok)) (other (goal.at.over_ok-requires t c).After-walk-w (kept (goal.at.over_ok-requires t c).After-slice_known-4-1) (count_same (goal.at.over_ok-requires t c).After-count_at-all (row (goal.at.over_ok-requires t c).After-get-c))) in record { ready = c.requires.ready; t_bound = omega (arith, both.inside, c.if-w-eq0.false); key_in = rw Node-at.ensures at (keyed (goal.at.over_ok-requires t c).Else-not-key_ok); slots = both.slots }
+
+pub overflow_add-result : goal.overflow_add-result
+overflow_add-result t c =
+    omega (arith, (two (goal.at.overflow_add-result t c).Else-w-eq0 (less (goal.at.overflow_add-result t c).After-walk-t (tagged (goal.at.overflow_add-result t c).After-get (row (goal.at.overflow_add-result t c).After-get-c)) (keyed (goal.at.overflow_add-result t c).Else-not-key_ok)) (other (goal.at.overflow_add-result t c).After-walk-w (kept (goal.at.overflow_add-result t c).After-slice_known-4-1) (count_same (goal.at.overflow_add-result t c).After-count_at-all (row (goal.at.overflow_add-result t c).After-get-c)))).inside, numbers (goal.at.overflow_add-result t c).Start)
+
+pub overflow_add-result-then-over_ok : goal.overflow_add-result-then-over_ok
+overflow_add-result-then-over_ok t c =
+    omega (arith, (two (goal.at.overflow_add-result-then-over_ok t c).Else-w-eq0 (less (goal.at.overflow_add-result-then-over_ok t c).After-walk-t (tagged (goal.at.overflow_add-result-then-over_ok t c).After-get (row (goal.at.overflow_add-result-then-over_ok t c).After-get-c)) (keyed (goal.at.overflow_add-result-then-over_ok t c).Else-not-key_ok)) (other (goal.at.overflow_add-result-then-over_ok t c).After-walk-w (kept (goal.at.overflow_add-result-then-over_ok t c).After-slice_known-4-1) (count_same (goal.at.overflow_add-result-then-over_ok t c).After-count_at-all (row (goal.at.overflow_add-result-then-over_ok t c).After-get-c)))).inside, numbers (goal.at.overflow_add-result-then-over_ok t c).Start)
+
+pub shape_of-hi-then-over_ok : goal.shape_of-hi-then-over_ok
+shape_of-hi-then-over_ok t c =
+    ap length (c.walk-w.ensures.hi_unchanged ∙ kept (goal.at.shape_of-hi-then-over_ok t c).After-slice_known-4-1)
+
+pub returns-then-over_ok : goal.returns-then-over_ok
+returns-then-over_ok t c =
+    let found = less (goal.at.returns-then-over_ok t c).After-walk-t (tagged (goal.at.returns-then-over_ok t c).After-get (row (goal.at.returns-then-over_ok t c).After-get-c)) (keyed (goal.at.returns-then-over_ok t c).Else-not-key_ok) in
+    let some = c.if-t-eq0.false in
+    let count-behind = c.count_behind-ca in
+    let some-other = c.if-w-eq0.false in record {
+      walked = a-branch c.requires.ready found (omega (arith, some)) count-behind.ensures (other (goal.at.returns-then-over_ok t c).After-walk-w (kept (goal.at.returns-then-over_ok t c).After-slice_known-4-1) (count_same (goal.at.returns-then-over_ok t c).After-count_at-all (row (goal.at.returns-then-over_ok t c).After-get-c))) (omega (arith, some-other))
+          (c.over_ok.ensures.0 c.if-over_ok.true);
+      hi_unchanged = c.walk-w.ensures.hi_unchanged ∙ kept (goal.at.returns-then-over_ok t c).After-slice_known-4-1;
+    }
+
+pub shape_of-hi : goal.shape_of-hi
+shape_of-hi t c =
+    ap length (c.walk-w.ensures.hi_unchanged ∙ kept (goal.at.shape_of-hi t c).After-slice_known-4-1)
+
+pub returns : goal.returns
+returns t c =
+    let found = less (goal.at.returns t c).After-walk-t (tagged (goal.at.returns t c).After-get (row (goal.at.returns t c).After-get-c)) (keyed (goal.at.returns t c).Else-not-key_ok) in
+    let some = c.if-t-eq0.false in
+    let count-behind = c.count_behind-ca in record {
+      walked = no-branch c.requires.ready found (omega (arith, some)) count-behind.ensures (other (goal.at.returns t c).After-walk-w (kept (goal.at.returns t c).After-slice_known-4-1) (count_same (goal.at.returns t c).After-count_at-all (row (goal.at.returns t c).After-get-c)))
+          (λ o. never (sym c.if-over_ok.false ∙ c.over_ok.ensures.1 o));
+      hi_unchanged = c.walk-w.ensures.hi_unchanged ∙ kept (goal.at.returns t c).After-slice_known-4-1;
+    }

@@ -1,0 +1,53 @@
+use native.Mathlib.Omega.{arith}
+use mathlib.Core.Path.{refl}
+use Rattle.kd_leaf.proofs.Scanning.{scan-none, scan-more, scan-stop, scan-end, contained-miss, contained-hit, entries-ready, entered, few-entries}
+use Rattle.kd_leaf.proofs.contained.Goals as goal
+
+pub loop-i-init : goal.loop-i-init
+loop-i-init c = (omega arith, scan-none _ _ _ _ _ _ _ c.requires.ready_entries.inside)
+
+pub overflow_add-lo : goal.overflow_add-lo
+overflow_add-lo c = omega (arith, c.requires.ready_entries.inside, few-entries _ _ _ _ _ _ _ c.requires.ready_entries)
+
+pub entry_at-e-requires : goal.entry_at-e-requires
+entry_at-e-requires c = record { laid = c.requires.ready_entries.asks.laid; ready = entries-ready _ _ _ _ _ _ _ c.requires.ready_entries; p_bound = omega (arith, c.requires.ready_entries.inside) }
+
+pub is_divisor-requires : goal.is_divisor-requires
+is_divisor-requires c = entered _ _ _ _ _ _ _ c.requires.ready_entries _ c.entry_at-e.ensures.1
+
+pub overflow_add-e : goal.overflow_add-e
+overflow_add-e c = omega (arith, c.entry_at-e.ensures.1, few-entries _ _ _ _ _ _ _ c.requires.ready_entries)
+
+pub stopped-requires : goal.stopped-requires
+stopped-requires c = omega (arith, c.entry_at-e.ensures.1, few-entries _ _ _ _ _ _ _ c.requires.ready_entries)
+
+pub returns-then-is_divisor : goal.returns-then-is_divisor
+returns-then-is_divisor c =
+    let loop = c.loop-i in
+    let loop-test = c.loop-i-test in
+    let entry_at = c.entry_at-e in (
+      scan-stop _ _ _ _ _ _ _ c.requires.ready_entries.inside _ _ _ loop.invariant.1 loop-test.true entry_at.ensures.0 _ _ _ c.stopped.ensures.1.0
+          c.stopped.ensures.1.1 (omega (arith, entry_at.ensures.1))
+          (contained-hit _ _ _ _ _ _ entry_at.ensures.1 _ c.requires.acc_value.1 c.is_divisor.ensures c.if-is_divisor.true),
+      c.stopped.ensures.0,
+    )
+
+pub overflow_add-i : goal.overflow_add-i
+overflow_add-i c = omega arith
+
+pub loop-i-smaller : goal.loop-i-smaller
+loop-i-smaller c = omega arith
+
+pub loop-i-preserved : goal.loop-i-preserved
+loop-i-preserved c =
+    let loop = c.loop-i in
+    let loop-test = c.loop-i-test in
+    let entry_at = c.entry_at-e in (
+      omega arith,
+      scan-more _ _ _ _ _ _ _ c.requires.ready_entries.inside _ _ _ loop.invariant.1 loop-test.true entry_at.ensures.0 _
+          (contained-miss _ _ _ _ _ _ entry_at.ensures.1 _ c.requires.acc_value.1 c.is_divisor.ensures c.if-is_divisor.false),
+    )
+
+pub returns : goal.returns
+returns c =
+    (scan-end _ _ _ _ _ _ _ c.requires.ready_entries.inside _ _ _ _ c.loop-i.invariant.1 (omega (arith, c.loop-i-test.false)) refl c.requires.acc_value.0 c.requires.ready_entries.small, refl)

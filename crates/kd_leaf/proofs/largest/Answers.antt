@@ -1,0 +1,74 @@
+use native.Mathlib.Omega.{arith}
+use Rattle.kd_leaf.proofs.Scanning.{scan-none, scan-more, scan-end, largest-miss, largest-hit, entries-ready, entered, has-labels, few-entries}
+use Rattle.kd_leaf.proofs.largest.Goals.{else-counts, then-counts}
+use Rattle.kd_leaf.proofs.largest.Goals as goal
+
+pub least_above-least-requires : goal.least_above-least-requires
+least_above-least-requires c = record { laid = c.requires.ready_entries.asks.laid; ready = entries-ready _ _ _ _ _ _ _ c.requires.ready_entries; q_value = (has-labels _ _ _ _ _ _ _ c.requires.ready_entries (λ z. omega (arith, c.requires.bound)), rw c.best-found.ensures c.requires.ready_entries.small) }
+
+pub loop-i-init : goal.loop-i-init
+loop-i-init c =
+    (omega arith, (rw c.best-found.ensures c.requires.ready_entries.small, (c.least_above-least.ensures, rw c.best-found.ensures (scan-none _ _ _ _ _ _ _ c.requires.ready_entries.inside))))
+
+pub overflow_add-lo : goal.overflow_add-lo
+overflow_add-lo c = omega (arith, c.requires.ready_entries.inside, few-entries _ _ _ _ _ _ _ c.requires.ready_entries)
+
+pub entry_at-e-requires : goal.entry_at-e-requires
+entry_at-e-requires c = record { laid = c.requires.ready_entries.asks.laid; ready = entries-ready _ _ _ _ _ _ _ c.requires.ready_entries; p_bound = omega (arith, c.requires.ready_entries.inside) }
+
+pub counts-requires : goal.counts-requires
+counts-requires c = record { entered = entered _ _ _ _ _ _ _ c.requires.ready_entries _ c.entry_at-e.ensures.1; q_value = has-labels _ _ _ _ _ _ _ c.requires.ready_entries (λ z. omega (arith, c.requires.bound)) }
+
+pub overflow_add-found : goal.overflow_add-found
+overflow_add-found c = omega (arith, c.entry_at-e.ensures.1, few-entries _ _ _ _ _ _ _ c.requires.ready_entries)
+
+pub least_above-least-requires-then-counts : goal.least_above-least-requires-then-counts
+least_above-least-requires-then-counts c = record { laid = c.requires.ready_entries.asks.laid; ready = entries-ready _ _ _ _ _ _ _ c.requires.ready_entries; q_value = (has-labels _ _ _ _ _ _ _ c.requires.ready_entries (λ z. omega (arith, c.requires.bound)), omega (arith, c.entry_at-e.ensures.1)) }
+
+pub overflow_add-i : goal.overflow_add-i
+overflow_add-i c = omega arith
+
+pub loop-i-smaller : goal.loop-i-smaller
+loop-i-smaller c = omega arith
+
+pub loop-i-preserved : goal.loop-i-preserved
+loop-i-preserved c =
+    let loop = c.loop-i in
+    let loop-test = c.loop-i-test in
+    let entry_at = c.entry_at-e in
+    let p = rw loop.invariant.1.1.0 at c.counts.ensures in
+    elim c.if-counts.branch [
+      | then-counts w ↦ (
+        omega arith,
+        (
+          rw w.found-is (omega (arith, entry_at.ensures.1)),
+          (
+            rw (w.found-is, w.least-is) w.least_above-least-then-counts.ensures,
+            rw w.found-is (scan-more _ _ _ _ _ _ _ c.requires.ready_entries.inside _ _ _ loop.invariant.1.1.1 loop-test.true entry_at.ensures.0
+                _ (largest-hit _ _ _ _ _ _ entry_at.ensures.1 _ c.requires.bound.0 c.requires.bound.1 loop.invariant.1.0 p w.if-counts.true)),
+          ),
+        ),
+      )
+      | else-counts w ↦ (
+        omega arith,
+        (
+          rw w.found-is loop.invariant.1.0,
+          (
+            rw (w.found-is, w.least-is) loop.invariant.1.1.0,
+            rw w.found-is (scan-more _ _ _ _ _ _ _ c.requires.ready_entries.inside _ _ _ loop.invariant.1.1.1 loop-test.true entry_at.ensures.0 _
+                (largest-miss _ _ _ _ _ _ entry_at.ensures.1 _ c.requires.bound.0 c.requires.bound.1 loop.invariant.1.0 p w.if-counts.false)),
+          ),
+        ),
+      )
+    ]
+
+pub going-requires : goal.going-requires
+going-requires c = omega (arith, c.loop-i.invariant.1.0, few-entries _ _ _ _ _ _ _ c.requires.ready_entries)
+
+pub returns : goal.returns
+returns c =
+    let loop = c.loop-i in (
+      scan-end _ _ _ _ _ _ _ c.requires.ready_entries.inside _ _ _ _ loop.invariant.1.1.1 (omega (arith, c.loop-i-test.false)) c.going.ensures.1.0
+          c.going.ensures.1.1 loop.invariant.1.0,
+      c.going.ensures.0,
+    )

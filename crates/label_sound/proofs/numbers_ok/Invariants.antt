@@ -1,0 +1,15 @@
+use native.Mathlib.Omega.{arith}
+use borrow.Author.Rules.{rules}
+use mathlib.Core.Path.{◌≡◌}
+use Prim.Native.Nat.{ℕ, ◌+◌, ◌-◌, ◌≤◌, ◌<◌}
+use lib.ListN.{get_or}
+use borrow.Author.Count.{below_more}
+use Rattle.words.proofs.Answers.{refuse, accept}
+use Rattle.words.specs.Words.{words}
+use Rattle.label_sound.proofs.numbers_ok.Given as goal
+
+abbrev pub invariant-loop-i : goal.invariant-loop-i
+invariant-loop-i l = (l.i ≤ l.n) × ((k : ℕ) → k < l.i → get_or (words l.map) (l.at + k) 0 < l.n)
+
+abbrev pub decreases-loop-i : goal.decreases-loop-i
+decreases-loop-i l = l.n - l.i

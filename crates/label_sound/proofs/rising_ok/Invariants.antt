@@ -1,0 +1,16 @@
+use native.Mathlib.Omega.{arith}
+use mathlib.Core.Path.{◌≡◌, refl, ap}
+use Prim.Native.Nat.{ℕ, suc, ◌+◌, ◌-◌, ◌≤◌, ◌<◌}
+use lib.ListN.{length, get_or}
+use Rattle.words.proofs.Answers.{refuse, accept, failed, passed}
+use Rattle.words.specs.Words.{words}
+use Rattle.fast_compare.specs.Layout.{row_at, Rises, TotalAt}
+use Rattle.label_sound.proofs.Checks.{RowIn, pairs-none, pairs-more, Up, row-in}
+use borrow.Author.Rules.{rules}
+use Rattle.label_sound.proofs.rising_ok.Given as goal
+
+abbrev pub invariant-loop-i : goal.invariant-loop-i
+invariant-loop-i l = ((1 ≤ l.i) × (l.i ≤ l.n)) × ((l.a ≡ row_at l.variables (get_or (words l.map) (l.at + (l.i - 1)) 0)) × (TotalAt (words l.map) l.a l.s × ((k : ℕ) → suc k < l.i → Rises (words l.map) l.variables (row_at l.variables (get_or (words l.map) (l.at + k) 0)) (row_at l.variables (get_or (words l.map) (l.at + suc k) 0)))))
+
+abbrev pub decreases-loop-i : goal.decreases-loop-i
+decreases-loop-i l = l.n - l.i

@@ -1,0 +1,18 @@
+use native.Mathlib.Omega.{arith}
+use mathlib.Core.Path.{◌≡◌}
+use Prim.Native.Nat.{ℕ, ◌+◌, ◌-◌, ◌<◌, ◌≤◌}
+use lib.ListN.{get_or}
+use borrow.Author.Count.{below_more}
+use Rattle.words.proofs.Answers.{refuse, accept, failed, passed}
+use Rattle.words.specs.Words.{words}
+use Rattle.leaf_rows.specs.Leaves.{Inside}
+use Rattle.index_image.specs.Shape as at
+use Rattle.index_image.proofs.Places.{place-room, place-fits}
+use Rattle.leaf_rows.proofs.Bounding.{bounded-part, not-bounded}
+use Rattle.leaf_rows.proofs.entries_ok.Given as goal
+
+abbrev pub invariant-loop-i : goal.invariant-loop-i
+invariant-loop-i l = (l.i ≤ l.c) × ((k : ℕ) → k < l.i → Inside (words l.image) l.s (words l.hi) l.ll l.lh (get_or (words l.image) (l.p + k) 0))
+
+abbrev pub decreases-loop-i : goal.decreases-loop-i
+decreases-loop-i l = l.c - l.i

@@ -1,0 +1,13 @@
+use mathlib.Core.Path.{sym, ap, ◌∙◌}
+use Rattle.words.specs.Words.{words}
+use Rattle.monomial.specs.Monomial.{pow, power_of}
+use borrow.Author.Rules.{rules}
+use Rattle.monomial.proofs.power_of.Goals as goal
+
+pub returns-in_default : goal.returns-in_default
+unfolding pow power_of
+returns-in_default c = ap (power_of c.args.kind) (sym c.in_default.is ∙ c.find_power.ensures)
+
+pub returns : goal.returns
+unfolding pow power_of
+returns c = ap (power_of c.args.kind) (sym c.in-Found.is ∙ c.find_power.ensures)

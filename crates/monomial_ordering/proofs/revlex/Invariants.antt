@@ -1,0 +1,16 @@
+use native.Mathlib.Omega.{arith}
+use mathlib.Core.Path.{◌≡◌, sym, ap, ◌∙◌}
+use lib.ListN.{length, get_or}
+use Prim.Native.Nat.{ℕ, ◌<◌, ◌-◌}
+use Rattle.words.specs.Words.{words}
+use Rattle.monomial.specs.Monomial.{first}
+use Rattle.monomial.proofs.Firsts.{begins, first-bytes, read}
+use Rattle.monomial_ordering.proofs.Orders.{Matching, match-begin, all-equal, right-alone, left_alone, differs, matches}
+use borrow.Author.Rules.{rules}
+use Rattle.monomial_ordering.proofs.revlex.Given as goal
+
+abbrev pub invariant-loop-m : goal.invariant-loop-m
+invariant-loop-m l = Matching l.kind (first l.kind (words l.a)) (first l.kind (words l.b)) l.m l.n
+
+abbrev pub decreases-loop-m : goal.decreases-loop-m
+decreases-loop-m l = l.m
