@@ -1,9 +1,8 @@
 -- The whole image before and after a search. Assumes nothing.
 use mathlib.Core.Path.{◌≡◌, refl, sym, ap, ◌∙◌}
-use mathlib.Core.Bool.{Bool, true}
-use mathlib.Core.Option.{none}
+use mathlib.Core.Bool.{Bool}
 use mathlib.Core.List.{List, ◌++◌}
-use Prim.Native.Nat.{ℕ, zero, suc, ◌+◌, ◌-◌, ◌*◌, ◌≤◌, ◌<◌}
+use Prim.Native.Nat.{ℕ, ◌+◌, ◌-◌, ◌*◌, ◌≤◌, ◌<◌}
 use native.Mathlib.Nat.{mul-le-mul_right}
 use native.Mathlib.Omega.{arith}
 use lib.ListN.{length, get_or, set, drop, length-set}
@@ -13,9 +12,9 @@ use Rattle.words.specs.Tables.{part, zeros}
 use Rattle.words.proofs.Joined.{moved}
 use Rattle.words.proofs.Laws.{Bytes, length-words, length-put_w, words-put_w, paste_w-front}
 use Rattle.words.proofs.Tables.{part-get, table-iff, split_rows, paste-own, length-zeros, zeros-get}
-use Rattle.kd_theory.specs.Tree.{Tree, inorder, count, nodes, Kept, search}
+use Rattle.kd_theory.specs.Tree.{Tree, count, nodes, Kept, search}
 use Rattle.index_theory.specs.Entries.{entry_at}
-use Rattle.index_theory.specs.State.{State, Valid, keys, power_in}
+use Rattle.index_theory.specs.State.{State, Valid, keys}
 use Rattle.index_theory.specs.Calls.{with_tree}
 use Rattle.index_theory.specs.Searches.{Query, find}
 use Rattle.index_theory.proofs.Keeps.{tree-valid}
@@ -31,7 +30,7 @@ use Rattle.kd_image.proofs.Standing.{part_same, part-kept}
 use Rattle.kd_image.proofs.Becoming.{put_rest, tree-became}
 use Rattle.query_words.specs.Asked.{shape_in, option_of, Asks}
 use Rattle.kd_tree.specs.Searched.{search_from, Ready, Found, Searched}
-use Rattle.query_words.specs.Rooted.{Rooted, RootReady, Answer, Answered}
+use Rattle.query_words.specs.Rooted.{Rooted, RootReady, Answered}
 use Rattle.kd_tree.proofs.Visiting.{search-kept}
 
 all_of : (l : List ℕ) (n : ℕ) → length l ≡ n → part l 0 n ≡ l

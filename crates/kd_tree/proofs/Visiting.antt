@@ -1,29 +1,29 @@
 -- The returns of the search cycle, each from what its calls promised. Assumes nothing.
-use mathlib.Core.Path.{◌≡◌, refl, sym, ap, subst, ◌∙◌}
+use mathlib.Core.Path.{◌≡◌, refl, sym, ◌∙◌}
 use mathlib.Core.Bool.{Bool, true, false, not}
-use mathlib.Core.Option.{Option, none, some}
-use mathlib.Core.List.{List, [], ◌∷◌, ◌++◌}
-use Prim.Native.Nat.{ℕ, zero, suc, ◌+◌, ◌-◌, ◌*◌, ◌≤◌, ◌<◌}
+use mathlib.Core.Option.{Option}
+use mathlib.Core.List.{List, ◌++◌}
+use Prim.Native.Nat.{ℕ, zero, suc, ◌+◌, ◌-◌, ◌*◌, ◌≤◌}
 use native.Mathlib.Omega.{arith}
 use lib.ListN.{length, get_or, length-append}
-use Rattle.words.specs.Words.{words, put_w}
+use Rattle.words.specs.Words.{words}
 use Rattle.words.proofs.Laws.{length-words}
 use Rattle.kd_theory.specs.Bag.{Step, fold_until}
 use Rattle.kd_theory.specs.Tree.{Tree, leaf, branch, inorder, count, nodes, Path, goes_less, goes_other, Ordered, Kept, Splits, split_root, child_from, side, then-other, visit, search_for, search_at, start}
 use Rattle.kd_theory.specs.Tree as tree
-use Rattle.kd_theory.proofs.TreeLaws.{kept_refl, kept_trans, kept-branch, kept-split, kept-visit, kept-search, search-step}
+use Rattle.kd_theory.proofs.TreeLaws.{kept_refl, kept-branch, kept-split, kept-search, search-step}
 use Rattle.index_theory.specs.State.{State, Valid, keys}
 use Rattle.index_theory.specs.Searches.{Query, path, process, split}
 use Rattle.index_theory.proofs.Prunes.{splits-kind}
 use Rattle.index_image.specs.Shape as at
 use Rattle.index_image.specs.declared.Shape.{Shape}
-use Rattle.index_image.proofs.Trees.{some-node, nodes-branch, nodes-leaf}
+use Rattle.index_image.proofs.Trees.{some-node, nodes-branch}
 use Rattle.kd_image.specs.HasTree.{HasTree, Became}
 use Rattle.query_words.specs.Asked.{option_of, Asks}
 use Rattle.kd_node.specs.Branch.{ReadyBranch, Chosen, Grew}
 use Rattle.kd_tree.specs.Searched.{search_from, visit_of, Ready, ReadyLeaf, Found, Searched, Branched, Scanned}
 use Rattle.kd_split.specs.Split.{Standing, Stays, RootBranch, RootSplitAs, RootSplit}
-use Rattle.kd_image.proofs.Standing.{based, node-add, node-next, node-le, row_inside, Cut, count_at}
+use Rattle.kd_image.proofs.Standing.{based, node-add, node-next, row_inside, count_at}
 use Rattle.kd_image.proofs.Becoming.{became-refl, became-trans, tree-became, parts, some_one, some-two, tree-less, tree-other, other-became, less-became}
 
 -- what a test `!b` decides

@@ -10,6 +10,10 @@ pub overflow_add-s : goal.overflow_add-s
 overflow_add-s c =
     omega (arith, c.slot_of-slot.ensures, slot_small c.args.s c.requires.in_range c.args.lm, c.requires.in_range.vars-to)
 
+pub overflow_add-slot : goal.overflow_add-slot
+overflow_add-slot c =
+    omega (arith, c.slot_of-slot.ensures, slot_small c.args.s c.requires.in_range c.args.lm, c.requires.in_range.vars-to)
+
 pub overflow_cast-slot-2 : goal.overflow_cast-slot-2
 overflow_cast-slot-2 c =
     omega (arith, c.slot_of-slot.ensures, slot_small c.args.s c.requires.in_range c.args.lm, c.requires.in_range.vars-to)
