@@ -3,19 +3,22 @@
 
 ghost use Rattle.std.specs.Prelude.{◌+◌, ◌*◌, ◌/◌, ◌≤◌, length};
 
-fn number(n: u64) {
-    io::print_decimal(1, n);
+use std::io;
+
+fn number(rt: &impl Print, n: u64) -> io::Result<()> {
+    print!(rt; "{n}")
 }
 
 // A 64-bit answer: a label, or a refusal's number behind an R.
-fn answer(r: u64) {
+fn answer(rt: &impl Print, r: u64) -> io::Result<()> {
     if 4294967295 < r {
-        io::write_all(1, b" R");
-        number(r / 4294967296);
+        print!(rt; " R")?;
+        number(rt, r / 4294967296)?;
     } else {
-        io::write_all(1, b" ");
-        number(r);
+        print!(rt; " ")?;
+        number(rt, r)?;
     }
+    Ok(())
 }
 
 // The answer for the value of this index and the ratio one.
@@ -23,55 +26,53 @@ fn ask(map: &mut [u8], index: u32) -> u64 {
     label_work::divisor_index_fast_compare_get_comparer(map, index, b"\x00\x00\x00\x00")
 }
 
-fn report(count: u32, last: u64, r: u64) {
-    number(count as u64);
-    io::write_all(1, b" accepted, last");
-    answer(last);
-    io::write_all(1, b", then");
-    answer(r);
-    io::write_all(1, b"\n");
+fn report(rt: &impl Print, count: u32, last: u64, r: u64) -> io::Result<()> {
+    number(rt, count as u64)?;
+    print!(rt; " accepted, last")?;
+    answer(rt, last)?;
+    print!(rt; ", then")?;
+    answer(rt, r)?;
+    println!(rt;)
 }
 
 // Falling indexes, until one is refused.
-fn falling(map: &mut [u8]) {
-    let mut k: u32 = 0;
+fn falling(rt: &impl Print, map: &mut [u8]) -> io::Result<()> {
     let mut last: u64 = 0;
-    while k < 40 {
+    for k in 0..40 {
         let r = ask(map, 1000 - k);
         if 4294967295 < r {
-            return report(k, last, r);
+            return report(rt, k, last, r);
         }
         last = r;
-        k += 1;
     }
+    Ok(())
 }
 
 // Rising powers of one ratio, until one is refused.
-fn rising(map: &mut [u8]) {
+fn rising(rt: &impl Print, map: &mut [u8]) -> io::Result<()> {
     let mut ratio = [0u8; 8];
     words::put(&mut ratio, 1, 1);
-    let mut k: u32 = 0;
     let mut last: u64 = 0;
-    while k < 40 {
+    for k in 0..40 {
         words::put(&mut ratio, 0, 536903681 + k);
         let r = label_work::divisor_index_fast_compare_get_comparer(map, 7, &ratio);
         if 4294967295 < r {
-            return report(k, last, r);
+            return report(rt, k, last, r);
         }
         last = r;
-        k += 1;
     }
+    Ok(())
 }
 
 // One below the capacity, at it and past it; a known value on a full map; a value that is not canonical.
-fn capacity(map: &mut [u8]) {
-    answer(ask(map, 5));
-    answer(ask(map, 3));
-    answer(ask(map, 7));
-    answer(ask(map, 9));
-    answer(ask(map, 3));
-    answer(ask(map, 268435456));
-    io::write_all(1, b"\n");
+fn capacity(rt: &impl Print, map: &mut [u8]) -> io::Result<()> {
+    answer(rt, ask(map, 5))?;
+    answer(rt, ask(map, 3))?;
+    answer(rt, ask(map, 7))?;
+    answer(rt, ask(map, 9))?;
+    answer(rt, ask(map, 3))?;
+    answer(rt, ask(map, 268435456))?;
+    println!(rt;)
 }
 
 // Whether the map is sound with `more` added to word i, which is put back.
@@ -90,53 +91,81 @@ fn sound_words(map: &mut [u8], more: u32) -> usize
     ensures { result ≤ length map.old / 4 }
 {
     let n = map.len() / 4;
-    let mut i: usize = 0;
     let mut sound: usize = 0;
-    while i < n {
+    for i in 0..n {
         if sound_with(map, i, more) {
             sound += 1;
         }
-        i += 1;
     }
     sound
 }
 
 // Every word changed in turn: how many maps are refused 3 and how many are sound.
-fn damaged(map: &mut [u8], more: u32) {
+fn damaged(rt: &impl Print, map: &mut [u8], more: u32) -> io::Result<()> {
     let n = map.len() / 4;
     let sound = sound_words(map, more);
-    number((n - sound) as u64);
-    io::write_all(1, b" refused, ");
-    number(sound as u64);
-    io::write_all(1, b" sound\n");
+    number(rt, (n - sound) as u64)?;
+    print!(rt; " refused, ")?;
+    number(rt, sound as u64)?;
+    println!(rt; " sound")
 }
 
-fn main() {
-    answer(label_work::divisor_index_fast_compare_length(1, 40) as u64);
-    answer(label_work::divisor_index_fast_compare_length(0, 40) as u64);
-    answer(label_work::divisor_index_fast_compare_length(64, 4096) as u64);
-    io::write_all(1, b"\n");
+fn main(rt: HostRuntime) -> io::Result<()> {
+    answer(
+        &rt,
+        label_work::divisor_index_fast_compare_length(1, 40) as u64,
+    )?;
+    answer(
+        &rt,
+        label_work::divisor_index_fast_compare_length(0, 40) as u64,
+    )?;
+    answer(
+        &rt,
+        label_work::divisor_index_fast_compare_length(64, 4096) as u64,
+    )?;
+    println!(rt;)?;
     let mut wide = [0u8; 816];
-    number(label_work::divisor_index_fast_compare_open(1, 40, &mut wide) as u64);
-    number(label_work::divisor_index_fast_compare_open(1, 41, &mut wide) as u64);
-    number(label_work::divisor_index_fast_compare_open(65, 40, &mut wide) as u64);
-    io::write_all(1, b"\n");
-    falling(&mut wide);
-    number(label_work::divisor_index_fast_compare_rebuild(&mut wide) as u64);
-    answer(ask(&mut wide, 1));
-    io::write_all(1, b"\n");
-    number(label_work::divisor_index_fast_compare_open(1, 40, &mut wide) as u64);
-    io::write_all(1, b"\n");
-    rising(&mut wide);
+    number(
+        &rt,
+        label_work::divisor_index_fast_compare_open(1, 40, &mut wide) as u64,
+    )?;
+    number(
+        &rt,
+        label_work::divisor_index_fast_compare_open(1, 41, &mut wide) as u64,
+    )?;
+    number(
+        &rt,
+        label_work::divisor_index_fast_compare_open(65, 40, &mut wide) as u64,
+    )?;
+    println!(rt;)?;
+    falling(&rt, &mut wide)?;
+    number(
+        &rt,
+        label_work::divisor_index_fast_compare_rebuild(&mut wide) as u64,
+    )?;
+    answer(&rt, ask(&mut wide, 1))?;
+    println!(rt;)?;
+    number(
+        &rt,
+        label_work::divisor_index_fast_compare_open(1, 40, &mut wide) as u64,
+    )?;
+    println!(rt;)?;
+    rising(&rt, &mut wide)?;
     let mut small = [0u8; 88];
-    number(label_work::divisor_index_fast_compare_open(2, 3, &mut small) as u64);
-    capacity(&mut small);
-    number(label_work::divisor_index_fast_compare_open(2, 3, &mut small) as u64);
-    answer(ask(&mut small, 5));
-    answer(ask(&mut small, 3));
-    io::write_all(1, b"\n");
-    damaged(&mut small, 1);
-    damaged(&mut small, 65536);
-    damaged(&mut small, 268435456);
-    damaged(&mut small, 2147483648);
+    number(
+        &rt,
+        label_work::divisor_index_fast_compare_open(2, 3, &mut small) as u64,
+    )?;
+    capacity(&rt, &mut small)?;
+    number(
+        &rt,
+        label_work::divisor_index_fast_compare_open(2, 3, &mut small) as u64,
+    )?;
+    answer(&rt, ask(&mut small, 5))?;
+    answer(&rt, ask(&mut small, 3))?;
+    println!(rt;)?;
+    damaged(&rt, &mut small, 1)?;
+    damaged(&rt, &mut small, 65536)?;
+    damaged(&rt, &mut small, 268435456)?;
+    damaged(&rt, &mut small, 2147483648)
 }

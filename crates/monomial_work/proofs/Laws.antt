@@ -6,7 +6,6 @@ use Prim.Native.Nat.{ℕ, ◌*◌, ◌≤◌, ◌<◌}
 use native.Mathlib.Omega.{arith}
 use lib.ListN.{length}
 use lib.Seq.{take_all}
-use Rattle.words.specs.Words.{words}
 use Rattle.monomial.specs.Monomial.{Canonical, Starts, first}
 use Rattle.monomial.specs.Operations.{result_words, divides, divided}
 use Rattle.monomial.specs.declared.Division.TheVariants.{Whole, NotDivisible}

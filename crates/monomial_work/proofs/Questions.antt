@@ -7,7 +7,7 @@ use native.Mathlib.Omega.{arith}
 use native.Mathlib.Decide.{dec_le}
 use lib.Dec.{eqb, leb}
 use lib.ListN.{length, take, drop}
-use lib.Seq.{take_at, take_all, length-take-le}
+use lib.Seq.{take_at, length-take-le}
 use borrow.Author.Tests.{ne_eqb, le-leb, lt-leb, leb-true}
 use Rattle.words.specs.Words.{words, bytes, paste_w}
 use Rattle.words.proofs.Laws.{paste_w-front, length-paste_w, length-bytes, words-bytes}
@@ -160,10 +160,10 @@ module _ (o : Op) (m : ℕ) (a b out : List ℕ) (f : Fine 1 m a b) (space made 
   no_room h l = refused (work_of o) m a b out 5 (verdict-is true h ∙ rw (lt-leb (4 * n) (length out) l)) refl
 
   pub answered : too_large o m (take (4 * n) made) ≡ false → 4 * n ≤ length out → (after : List ℕ)
-      → after ≡ take (length (take (4 * n) made)) (take (4 * n) made) ++ drop (length (take (4 * n) made)) out → Served (work_of o) m a b out 0 after
+      → after ≡ take (4 * n) made ++ drop (4 * n) out → Served (work_of o) m a b out 0 after
   answered h l after e = record {
     number_is = sym zero_is;
-    bytes-are = rw zero_is (e ∙ rw front (rw (take_all (length (bytes A)) (bytes A) (omega arith), length-bytes A) (sym (paste_w-front out A))));
+    bytes-are = rw zero_is (e ∙ rw (front, en) (sym (paste_w-front out A)));
   }
     where
       A : List ℕ

@@ -124,7 +124,7 @@ fn make(op: Op, variables: u32, a: &[u8], b: &[u8], out: &mut [u8]) -> u32
     if out.len() < e {
         return 5;
     }
-    bytes::copy(&made[..e], out);
+    out[..e].copy_from_slice(&made[..e]);
     0
 }
 
