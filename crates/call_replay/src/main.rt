@@ -8,6 +8,8 @@
 
 ghost use Rattle.std.specs.Prelude.{◌+◌, ◌*◌, ◌≤◌, length};
 
+use std::io;
+
 #[derive(Clone, Copy)]
 struct Tally {
     jobs: u32,
@@ -36,10 +38,8 @@ fn summed(checksum: u32, w: u32) -> u32 {
 fn checksum(image: &[u8]) -> u32 {
     let n = image.len() / 4;
     let mut r: u32 = 0;
-    let mut i: usize = 0;
-    while i < n {
+    for i in 0..n {
         r = summed(r, words::get(image, i));
-        i += 1;
     }
     r
 }
@@ -50,10 +50,8 @@ fn differing(a: &[u8; 16384], b: &[u8]) -> u32
 {
     let n = b.len() / 4;
     let mut r: u32 = 0;
-    let mut i: usize = 0;
-    while i < n {
+    for i in 0..n {
         r = sum(r, one_if(words::get(a, i) != words::get(b, i)));
-        i += 1;
     }
     r
 }
@@ -223,43 +221,39 @@ fn unread(s: &[u8]) -> usize {
     }
 }
 
-fn write_line(name: &[u8], t: Tally) {
-    io::write_all(1, name);
-    io::write_all(1, b": ");
-    io::print_decimal(1, t.jobs as u64);
-    io::write_all(1, b" jobs, ");
-    io::print_decimal(1, t.calls as u64);
-    io::write_all(1, b" calls, ");
-    io::print_decimal(1, t.differences as u64);
-    io::write_all(1, b" differences\n");
+fn write_line(rt: &impl Print, name: &[u8], t: Tally) -> io::Result<()> {
+    rt.write_all(name)?;
+    println!(rt;
+        ": {} jobs, {} calls, {} differences",
+        t.jobs, t.calls, t.differences
+    )
 }
 
-fn line(name: &[u8], s: &[u8], mode: u32) {
+fn line(rt: &impl Print, name: &[u8], s: &[u8], mode: u32) -> io::Result<()> {
     let mut image = [0u8; 262144];
-    write_line(name, replay(&mut image, s, mode));
+    write_line(rt, name, replay(&mut image, s, mode))
 }
 
-fn lines(s: &[u8]) {
-    line(b"small", s, 0);
-    line(b"splits", s, 1);
-    line(b"rising", s, 2);
-    line(b"falling", s, 3);
-    line(b"crowding", s, 4);
-    line(b"equal ratios", s, 5);
-    line(b"repeats", s, 6);
-    line(b"low queries", s, 7);
-    line(b"masks", s, 8);
-    line(b"odd averages", s, 9);
-    line(b"many variables", s, 10);
-    line(b"tall powers", s, 11);
-    line(b"malformed", s, 12);
-    line(b"capacity", s, 13);
+fn lines(rt: &impl Print, s: &[u8]) -> io::Result<()> {
+    line(rt, b"small", s, 0)?;
+    line(rt, b"splits", s, 1)?;
+    line(rt, b"rising", s, 2)?;
+    line(rt, b"falling", s, 3)?;
+    line(rt, b"crowding", s, 4)?;
+    line(rt, b"equal ratios", s, 5)?;
+    line(rt, b"repeats", s, 6)?;
+    line(rt, b"low queries", s, 7)?;
+    line(rt, b"masks", s, 8)?;
+    line(rt, b"odd averages", s, 9)?;
+    line(rt, b"many variables", s, 10)?;
+    line(rt, b"tall powers", s, 11)?;
+    line(rt, b"malformed", s, 12)?;
+    line(rt, b"capacity", s, 13)
 }
 
-fn main() {
+fn main(rt: HostRuntime) -> io::Result<()> {
     let mut buf = [0u8; 163840];
-    let n = io::read_full(0, &mut buf);
-    lines(&buf[..n]);
-    io::print_decimal(1, unread(&buf[..n]) as u64);
-    io::write_all(1, b" bytes unread\n");
+    let n = program_io::read_full(&mut rt.reader(), &mut buf)?;
+    lines(&rt, &buf[..n])?;
+    println!(rt; "{} bytes unread", unread(&buf[..n]))
 }

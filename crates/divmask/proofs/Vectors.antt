@@ -4,7 +4,7 @@ use mathlib.Core.Bool.{cond}
 use mathlib.Core.List.{List, [], ◌∷◌, ◌++◌}
 use Prim.Native.Nat.{ℕ, zero, suc, min, max, ◌+◌, ◌-◌, ◌*◌, ◌/◌, ◌%◌, ◌^◌, ◌≤◌, ◌<◌}
 use native.Mathlib.Omega.{arith}
-use native.Mathlib.Nat.{one-mul, zero-mul, mul_comm, mul-add, pow-suc, zero-min, add-mul-div_right, div-eq_of_lt}
+use native.Mathlib.Nat.{one-mul, zero-mul, mul-add, pow-suc, zero-min, add-mul-div_right, div-eq_of_lt}
 use native.Mathlib.Decide.{ℕ_discrete, dec_le}
 use lib.Dec.{ltb}
 use lib.ListN.{length, get_or, get_or-append}
@@ -15,7 +15,7 @@ use Rattle.words.specs.Tables.{table}
 use Rattle.words.proofs.Tables.{length-table}
 use Rattle.monomial.specs.Monomial.{pow}
 use Rattle.monomial.specs.Operations.{Divides}
-use Rattle.divmask.specs.Mask.{bits, first_bit, cutoff, parts, mask, bit_counts, vector, bit, Within}
+use Rattle.divmask.specs.Mask.{bits, first_bit, cutoff, parts, bit_counts, vector, bit, Within}
 use Rattle.divmask.proofs.Parts.{parts-zero, parts-suc, ones}
 use Rattle.divmask.proofs.Masks.{mask-bit, mask-small, mask-divides, Mapping, mapped, step, bits_are, Stepped, stepped}
 

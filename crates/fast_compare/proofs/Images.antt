@@ -19,7 +19,7 @@ use Rattle.monomial.proofs.Canon.{Canon, IsVar, IsEnd, front-short}
 use Rattle.monomial.proofs.Powers.{canonical-length}
 use Rattle.monomial.proofs.Laws.{front-canonical, canonical-front}
 use Rattle.fast_compare.specs.Labels.{below, sorted, Labelled}
-use Rattle.fast_compare.specs.Map.{Value, cmp, Good, Row, State, row, value, label, Valid}
+use Rattle.fast_compare.specs.Map.{Value, cmp, Good, Row, State, row, value, Valid}
 use Rattle.fast_compare.specs.Layout.{row_words, encode, size, row_at, order_at, ratio_words, value_at, RowOk, Rises, TablesOk}
 use Rattle.fast_compare.proofs.Ranks.{below_less, below_top, Distinct, Ranked, less-place, place_of, sorted-ranked, rising-ranked, rising-distinct}
 use Rattle.fast_compare.proofs.Maps.{cmp-lawful}

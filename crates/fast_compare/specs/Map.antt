@@ -1,5 +1,5 @@
 -- The label map: its values, its rows in order of arrival, and what its calls answer and leave. Assumes nothing.
-use Rattle.std.specs.Prelude.{cond, List, [], ◌∷◌, ◌++◌, ℕ, suc, ◌+◌, ◌≤◌, ◌<◌, ltb, length, get_or}
+use Rattle.std.specs.Prelude.{cond, List, [], ◌∷◌, ◌++◌, ℕ, suc, ◌≤◌, ◌<◌, ltb, length, get_or}
 use Rattle.std.proofs.Math.Option.{Option, none, some}
 use Rattle.monomial.specs.Monomial.{Canonical}
 use Rattle.monomial_ordering.specs.Order.{compare, and_then, order}

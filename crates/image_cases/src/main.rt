@@ -6,6 +6,8 @@
 
 ghost use Rattle.std.specs.Prelude.{◌+◌, ◌*◌, ◌≤◌, length};
 
+use std::io;
+
 // What was answered for the changes of an image. The checksum is of all answers in their order.
 #[derive(Clone, Copy)]
 struct Tally {
@@ -14,8 +16,8 @@ struct Tally {
     checksum: u32,
 }
 
-fn number(n: u64) {
-    io::print_decimal(1, n);
+fn number(rt: &impl Print, n: u64) -> io::Result<()> {
+    print!(rt; "{n}")
 }
 
 fn one_if(b: bool) -> u32 {
@@ -82,10 +84,8 @@ fn word_changes(image: &mut [u8], i: usize, before: Tally) -> Tally
     requires { 4 * i + 4 ≤ length image.old }
 {
     let mut t = before;
-    let mut c: u32 = 0;
-    while c < 36 {
+    for c in 0..36 {
         t = counted(t, asked(image, i, c));
-        c += 1;
     }
     t
 }
@@ -97,10 +97,8 @@ fn changes(image: &mut [u8]) -> Tally {
         refused: 0,
         checksum: 0,
     };
-    let mut i: usize = 0;
-    while i < n {
+    for i in 0..n {
         t = word_changes(image, i, t);
-        i += 1;
     }
     t
 }
@@ -108,28 +106,26 @@ fn changes(image: &mut [u8]) -> Tally {
 // How many shorter lengths, in bytes, are refused.
 fn shorter_refused(image: &[u8]) -> u32 {
     let mut refused: u32 = 0;
-    let mut n: usize = 0;
-    while n < image.len() {
+    for n in 0..image.len() {
         refused = std::num::wrapping_add_u32(refused, one_if(!index_sound::sound(&image[..n])));
-        n += 1;
     }
     refused
 }
 
-fn line(image: &mut [u8]) {
-    number((image.len() / 4) as u64);
-    io::write_all(1, b" words, sound ");
-    number(one_if(index_sound::sound(image)) as u64);
+fn line(rt: &impl Print, image: &mut [u8]) -> io::Result<()> {
+    number(rt, (image.len() / 4) as u64)?;
+    print!(rt; " words, sound ")?;
+    number(rt, one_if(index_sound::sound(image)) as u64)?;
     let t = changes(image);
-    io::write_all(1, b"; changed: ");
-    number(t.sound as u64);
-    io::write_all(1, b" sound, ");
-    number(t.refused as u64);
-    io::write_all(1, b" refused, checksum ");
-    number(t.checksum as u64);
-    io::write_all(1, b"; shorter: ");
-    number(shorter_refused(image) as u64);
-    io::write_all(1, b" refused\n");
+    print!(rt; "; changed: ")?;
+    number(rt, t.sound as u64)?;
+    print!(rt; " sound, ")?;
+    number(rt, t.refused as u64)?;
+    print!(rt; " refused, checksum ")?;
+    number(rt, t.checksum as u64)?;
+    print!(rt; "; shorter: ")?;
+    number(rt, shorter_refused(image) as u64)?;
+    println!(rt; " refused")
 }
 
 // The length in bytes of the record at the front, 0 where there is none.
@@ -150,28 +146,27 @@ fn record(s: &[u8]) -> usize
 }
 
 // Writes a line for each record, and returns how many bytes are left where no further one stands.
-fn lines(s: &mut [u8]) -> usize {
+fn lines(rt: &impl Print, s: &mut [u8]) -> io::Result<usize> {
     let mut at: usize = 0;
     loop {
         let n = record(&s[at..]);
         if n < 8 {
-            return s.len() - at;
+            return Ok(s.len() - at);
         }
         let a = at + 4;
         let e = at + n;
-        line(&mut s[a..e]);
+        line(rt, &mut s[a..e])?;
         at = e;
     }
 }
 
-fn main() {
+fn main(rt: HostRuntime) -> io::Result<()> {
     let mut buf = [0u8; 131072];
-    let n = io::read_full(0, &mut buf);
+    let n = program_io::read_full(&mut rt.reader(), &mut buf)?;
     if n == 131072 {
-        io::write_all(1, b"standard input is too long\n");
-        return;
+        return println!(rt; "standard input is too long");
     }
-    let unread = lines(&mut buf[..n]);
-    number(unread as u64);
-    io::write_all(1, b" bytes unread\n");
+    let unread = lines(&rt, &mut buf[..n])?;
+    number(&rt, unread as u64)?;
+    println!(rt; " bytes unread")
 }

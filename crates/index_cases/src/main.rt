@@ -7,10 +7,11 @@ ghost use Rattle.index_image.specs.Shape as at;
 
 use index_image::head::Head;
 use index_image::{Shape, fields};
+use std::io;
 
 // ---- the length call and the opening, whose line has both numbers and how many bytes of the buffer were changed
-fn put_number(n: u64) {
-    io::print_decimal(1, n);
+fn put_number(rt: &impl Print, n: u64) -> io::Result<()> {
+    print!(rt; "{n}")
 }
 
 fn one_if(b: bool) -> usize
@@ -22,27 +23,33 @@ fn one_if(b: bool) -> usize
 // How many bytes are no longer hex EE, which an opening does not write.
 fn changed(image: &[u8; 2048]) -> usize {
     let mut n: usize = 0;
-    let mut i: usize = 0;
-    while i < 2048 {
+    for i in 0..2048 {
         n += one_if(image[i] != 0xEE);
-        i += 1;
     }
     n
 }
 
-fn line(name: &[u8], length: u32, r: u32, changed: usize) {
-    io::write_all(1, name);
-    io::write_all(1, b": length ");
-    put_number(length as u64);
-    io::write_all(1, b", opening ");
-    put_number(r as u64);
-    io::write_all(1, b", bytes changed ");
-    put_number(changed as u64);
-    io::write_all(1, b"\n");
+fn line(rt: &impl Print, name: &[u8], length: u32, r: u32, changed: usize) -> io::Result<()> {
+    rt.write_all(name)?;
+    print!(rt; ": length ")?;
+    put_number(rt, length as u64)?;
+    print!(rt; ", opening ")?;
+    put_number(rt, r as u64)?;
+    print!(rt; ", bytes changed ")?;
+    put_number(rt, changed as u64)?;
+    println!(rt;)
 }
 
 // Opens an index in a buffer of `room` bytes.
-fn opening(name: &[u8], kind: u32, variables: u32, capacity: u32, maxima: &[u8], room: usize)
+fn opening(
+    rt: &impl Print,
+    name: &[u8],
+    kind: u32,
+    variables: u32,
+    capacity: u32,
+    maxima: &[u8],
+    room: usize,
+) -> io::Result<()>
     requires { room ≤ 2048 }
 {
     let mut image = [0xEEu8; 2048];
@@ -54,91 +61,94 @@ fn opening(name: &[u8], kind: u32, variables: u32, capacity: u32, maxima: &[u8],
         maxima,
         &mut image[..room],
     );
-    line(name, n, r, changed(&image));
+    line(rt, name, n, r, changed(&image))
 }
 
 // Makes every word 1.
 fn ones(maxima: &mut [u8])
     requires { length maxima.old ≡ 264 }
 {
-    let mut i: usize = 0;
-    while i < 66 {
+    for i in 0..66 {
         words::put(maxima, i, 1);
-        i += 1;
     }
 }
 
 // The same with the first n bytes of maxima that are all 1.
-fn with_ones(name: &[u8], kind: u32, variables: u32, capacity: u32, n: usize, room: usize)
+fn with_ones(
+    rt: &impl Print,
+    name: &[u8],
+    kind: u32,
+    variables: u32,
+    capacity: u32,
+    n: usize,
+    room: usize,
+) -> io::Result<()>
     requires { (n ≤ 264) × (room ≤ 2048) }
 {
     let mut maxima = [0u8; 264];
     ones(&mut maxima);
-    opening(name, kind, variables, capacity, &maxima[..n], room);
+    opening(rt, name, kind, variables, capacity, &maxima[..n], room)
 }
 
 // Question 1 and 2 at their limits. The buffer of an opening has 2,048 bytes or fewer.
-fn numbers() {
-    with_ones(b"monomial index", 0, 1, 1, 4, 2048);
-    with_ones(b"ratio index", 1, 2, 3, 8, 516);
-    with_ones(b"a byte short", 1, 2, 3, 8, 515);
-    with_ones(b"kind 2", 2, 1, 1, 4, 2048);
-    with_ones(b"kind 2 and no byte", 2, 1, 1, 4, 0);
-    with_ones(b"0 variables", 0, 0, 1, 0, 2048);
-    with_ones(b"64 variables", 0, 64, 1, 256, 2048);
-    with_ones(b"65 variables", 0, 65, 1, 260, 2048);
-    with_ones(b"capacity 0", 0, 1, 0, 4, 2048);
-    with_ones(b"capacity 4,096", 0, 1, 4096, 4, 2048);
-    with_ones(b"capacity 4,097", 0, 1, 4097, 4, 2048);
-    with_ones(b"largest", 1, 64, 4096, 256, 2048);
+fn numbers(rt: &impl Print) -> io::Result<()> {
+    with_ones(rt, b"monomial index", 0, 1, 1, 4, 2048)?;
+    with_ones(rt, b"ratio index", 1, 2, 3, 8, 516)?;
+    with_ones(rt, b"a byte short", 1, 2, 3, 8, 515)?;
+    with_ones(rt, b"kind 2", 2, 1, 1, 4, 2048)?;
+    with_ones(rt, b"kind 2 and no byte", 2, 1, 1, 4, 0)?;
+    with_ones(rt, b"0 variables", 0, 0, 1, 0, 2048)?;
+    with_ones(rt, b"64 variables", 0, 64, 1, 256, 2048)?;
+    with_ones(rt, b"65 variables", 0, 65, 1, 260, 2048)?;
+    with_ones(rt, b"capacity 0", 0, 1, 0, 4, 2048)?;
+    with_ones(rt, b"capacity 4,096", 0, 1, 4096, 4, 2048)?;
+    with_ones(rt, b"capacity 4,097", 0, 1, 4097, 4, 2048)?;
+    with_ones(rt, b"largest", 1, 64, 4096, 256, 2048)
 }
 
-fn maxima() {
-    with_ones(b"maxima a word short", 0, 2, 1, 4, 2048);
-    with_ones(b"maxima a word more", 0, 1, 1, 8, 2048);
-    with_ones(b"maxima a byte more", 0, 1, 1, 5, 2048);
-    opening(b"maximum 0", 0, 1, 1, b"\x00\x00\x00\x00", 2048);
-    opening(b"maximum 32,767", 0, 1, 1, b"\xFF\x7F\x00\x00", 2048);
-    opening(b"maximum 32,768", 0, 1, 1, b"\x00\x80\x00\x00", 2048);
+fn maxima(rt: &impl Print) -> io::Result<()> {
+    with_ones(rt, b"maxima a word short", 0, 2, 1, 4, 2048)?;
+    with_ones(rt, b"maxima a word more", 0, 1, 1, 8, 2048)?;
+    with_ones(rt, b"maxima a byte more", 0, 1, 1, 5, 2048)?;
+    opening(rt, b"maximum 0", 0, 1, 1, b"\x00\x00\x00\x00", 2048)?;
+    opening(rt, b"maximum 32,767", 0, 1, 1, b"\xFF\x7F\x00\x00", 2048)?;
+    opening(rt, b"maximum 32,768", 0, 1, 1, b"\x00\x80\x00\x00", 2048)
 }
 
 // ---- the listing: served, and refused 3, 6 and 5, in this order. Its line has the number returned and some words of the buffer, which are
 // hex EEEEEEEE where nothing was written.
-fn put_word(w: u64) {
-    io::write_all(1, b" ");
-    io::print_hex(1, w, 8);
+fn put_word(rt: &impl Print, w: u64) -> io::Result<()> {
+    print!(rt; " {w:08x}")
 }
 
 // The n words from word `at` on.
-fn show(out: &[u8; 2048], at: usize, n: usize)
+fn show(rt: &impl Print, out: &[u8; 2048], at: usize, n: usize) -> io::Result<()>
     requires { at + n ≤ 512 }
 {
-    let mut i: usize = 0;
-    while i < n {
-        put_word(words::get(out, at + i) as u64);
-        i += 1;
+    for i in 0..n {
+        put_word(rt, words::get(out, at + i) as u64)?;
     }
+    Ok(())
 }
 
-fn title(name: &[u8], r: u32) {
-    io::write_all(1, name);
-    io::write_all(1, b": ");
-    io::print_decimal(1, r as u64);
+fn title(rt: &impl Print, name: &[u8], r: u32) -> io::Result<()> {
+    rt.write_all(name)?;
+    print!(rt; ": {r}")
 }
 
-fn end_line() {
-    io::write_all(1, b"\n");
+fn end_line(rt: &impl Print) -> io::Result<()> {
+    println!(rt;)
 }
 
 // Lists the image into `room` bytes, and shows six words.
-fn listing(name: &[u8], image: &[u8; 16384], room: usize)
+fn listing(rt: &impl Print, name: &[u8], image: &[u8; 16384], room: usize) -> io::Result<()>
     requires { room ≤ 2048 }
 {
     let mut out = [0xEEu8; 2048];
     let r = divisor_index::divisor_index_list(image, &mut out[..room]);
-    title(name, r);
-    show(&out, 0, 6);
-    end_line();
+    title(rt, name, r)?;
+    show(rt, &out, 0, 6)?;
+    end_line(rt)
 }
 
 // Opens an index of 2 variables and capacity 100, and runs the list.
@@ -149,26 +159,26 @@ fn held(image: &mut [u8; 16384], kind: u32, list: &[u8]) {
 }
 
 // x1^2 · x0 and one: 4 words.
-fn two() {
+fn two(rt: &impl Print) -> io::Result<()> {
     let mut image = [0u8; 16384];
     held(
         &mut image,
         0,
         b"\x00\x00\x00\x60\x02\x00\x01\x10\x01\x00\x00\x10\x02\x00\x00\x00\x00\x00\x00\x60\x00\x00\x00\x00",
     );
-    listing(b"listing of x1^2 x0 and 1", &image, 2048);
-    listing(b"listing, room for it", &image, 16);
-    listing(b"listing, a byte short", &image, 15);
+    listing(rt, b"listing of x1^2 x0 and 1", &image, 2048)?;
+    listing(rt, b"listing, room for it", &image, 16)?;
+    listing(rt, b"listing, a byte short", &image, 15)
 }
 
-fn refused() {
+fn refused(rt: &impl Print) -> io::Result<()> {
     let mut image = [0u8; 16384];
-    listing(b"listing of no image", &image, 0);
+    listing(rt, b"listing of no image", &image, 0)?;
     held(&mut image, 0, b"");
-    listing(b"listing of nothing", &image, 0);
+    listing(rt, b"listing of nothing", &image, 0)?;
     held(&mut image, 1, b"");
-    listing(b"listing of a ratio index", &image, 2048);
-    listing(b"listing of a ratio index, no room", &image, 0);
+    listing(rt, b"listing of a ratio index", &image, 2048)?;
+    listing(rt, b"listing of a ratio index, no room", &image, 0)
 }
 
 // Writes an insert of a power of x0.
@@ -184,37 +194,35 @@ fn insert(list: &mut [u8], at: usize, power: u32)
 fn falling_powers(list: &mut [u8])
     requires { length list.old ≡ 788 }
 {
-    let mut i: usize = 0;
-    while i < 65 {
+    for i in 0..65 {
         insert(list, 3 * i, (65 - i) as u32);
-        i += 1;
     }
     words::put(list, 195, words::call_word(1));
 }
 
 // Split at 33, they are listed from 32 to 1, the less side, and then from 65 to 33.
-fn list_powers(image: &[u8; 16384]) {
+fn list_powers(rt: &impl Print, image: &[u8; 16384]) -> io::Result<()> {
     let mut out = [0xEEu8; 2048];
     let r = divisor_index::divisor_index_list(image, &mut out);
-    title(b"listing of 65 powers", r);
-    show(&out, 0, 2);
-    show(&out, 62, 4);
-    show(&out, 128, 3);
-    end_line();
+    title(rt, b"listing of 65 powers", r)?;
+    show(rt, &out, 0, 2)?;
+    show(rt, &out, 62, 4)?;
+    show(rt, &out, 128, 3)?;
+    end_line(rt)
 }
 
-fn split() {
+fn split(rt: &impl Print) -> io::Result<()> {
     let mut image = [0u8; 16384];
     let mut list = [0u8; 788];
     falling_powers(&mut list);
     held(&mut image, 0, &list);
-    list_powers(&image);
+    list_powers(rt, &image)
 }
 
-fn listing_cases() {
-    two();
-    refused();
-    split();
+fn listing_cases(rt: &impl Print) -> io::Result<()> {
+    two(rt)?;
+    refused(rt)?;
+    split(rt)
 }
 
 // ---- ratios that fall or rise from insert to insert, in an index of 1 variable and capacity 64. The label of the 33rd falling value and of
@@ -250,10 +258,8 @@ fn call(list: &mut [u8], at: usize, number: u32, falls: bool, i: usize)
 fn calls(list: &mut [u8], n: usize, falls: bool)
     requires { (1 ≤ n) × ((n ≤ 64) × (length list.old ≡ 2048)) }
 {
-    let mut i: usize = 0;
-    while i < n {
+    for i in 0..n {
         call(list, 5 * i, 2, falls, i);
-        i += 1;
     }
     call(list, 5 * n, 5, falls, n - 1);
 }
@@ -267,39 +273,41 @@ fn word(image: &[u8], i: usize) -> u32 {
     }
 }
 
-fn number(n: u32) {
-    io::write_all(1, b" ");
-    io::print_decimal(1, n as u64);
+fn number(rt: &impl Print, n: u32) -> io::Result<()> {
+    print!(rt; " {n}")
 }
 
 // The label in row r of the label map.
-fn label(image: &[u8], s: Shape, r: usize)
+fn label(rt: &impl Print, image: &[u8], s: Shape, r: usize) -> io::Result<()>
     requires in_range { at.InRange s }
     requires r_bound { r < 64 }
 {
     let m = s.variables;
-    number(word(
-        image,
-        s.labels_at() + (fields::LABELS + r * (m + fields::LABEL_ROW) + (m + fields::LABEL)),
-    ));
+    number(
+        rt,
+        word(
+            image,
+            s.labels_at() + (fields::LABELS + r * (m + fields::LABEL_ROW) + (m + fields::LABEL)),
+        ),
+    )
 }
 
 // The labels of the first value and of the last two of n.
-fn three_labels(image: &[u8], s: Shape, n: usize)
+fn three_labels(rt: &impl Print, image: &[u8], s: Shape, n: usize) -> io::Result<()>
     requires in_range { at.InRange s }
     requires le_n { (2 ≤ n) × (n ≤ 64) }
 {
-    label(image, s, 0);
-    label(image, s, n - 2);
-    label(image, s, n - 1);
+    label(rt, image, s, 0)?;
+    label(rt, image, s, n - 2)?;
+    label(rt, image, s, n - 1)
 }
 
-fn labels(image: &[u8; 16384], n: usize)
+fn labels(rt: &impl Print, image: &[u8; 16384], n: usize) -> io::Result<()>
     requires { (2 ≤ n) × (n ≤ 64) }
 {
     match index_image::head::read(image) {
-        Head::Image(s) => three_labels(image, s, n),
-        Head::Bad => number(0),
+        Head::Image(s) => three_labels(rt, image, s, n),
+        Head::Bad => number(rt, 0),
     }
 }
 
@@ -325,29 +333,27 @@ fn answer(answers: &[u8; 2048], n: usize) -> u64
     words::get(answers, n) as u64
 }
 
-fn values(name: &[u8], n: usize, falls: bool)
+fn values(rt: &impl Print, name: &[u8], n: usize, falls: bool) -> io::Result<()>
     requires { (2 ≤ n) × (n ≤ 64) }
 {
     let mut image = [0u8; 16384];
     let mut answers = [0u8; 2048];
     insert_values(&mut image, n, falls, &mut answers);
-    io::write_all(1, name);
-    labels(&image, n);
-    io::write_all(1, b", low base divisor ");
-    io::print_hex(1, answer(&answers, n), 8);
-    io::write_all(1, b"\n");
+    rt.write_all(name)?;
+    labels(rt, &image, n)?;
+    println!(rt; ", low base divisor {:08x}", answer(&answers, n))
 }
 
-fn label_cases() {
-    values(b"32 falling values, labels", 32, true);
-    values(b"33 falling values, labels", 33, true);
-    values(b"33 rising values, labels", 33, false);
-    values(b"34 rising values, labels", 34, false);
+fn label_cases(rt: &impl Print) -> io::Result<()> {
+    values(rt, b"32 falling values, labels", 32, true)?;
+    values(rt, b"33 falling values, labels", 33, true)?;
+    values(rt, b"33 rising values, labels", 33, false)?;
+    values(rt, b"34 rising values, labels", 34, false)
 }
 
-fn main() {
-    numbers();
-    maxima();
-    listing_cases();
-    label_cases();
+fn main(rt: HostRuntime) -> io::Result<()> {
+    numbers(&rt)?;
+    maxima(&rt)?;
+    listing_cases(&rt)?;
+    label_cases(&rt)
 }

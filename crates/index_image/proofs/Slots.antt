@@ -13,7 +13,7 @@ use Rattle.words.specs.Words.{words, bytes, paste_w}
 use Rattle.words.specs.Tables.{part, zeros}
 use Rattle.words.proofs.Laws.{words-drop, length-words, length-paste_w, paste_w-front, length-bytes, words-bytes}
 use Rattle.words.proofs.Drafts.{part_of}
-use Rattle.monomial.specs.Monomial.{front, Canonical, pow}
+use Rattle.monomial.specs.Monomial.{Canonical, pow}
 use Rattle.monomial.proofs.Canon.{front-short}
 use Rattle.monomial.proofs.Powers.{canonical-length}
 use Rattle.monomial.specs.Operations.{result_words}

@@ -6,7 +6,6 @@ use native.Mathlib.Omega.{arith}
 use lib.ListN.{length, get_or}
 use lib.Seq.{ext_get_or}
 use Rattle.words.specs.Words.{words}
-use Rattle.words.specs.Tables.{part}
 use Rattle.words.proofs.Tables.{same_left, same-right}
 use Rattle.fast_compare.specs.Map as map
 use Rattle.fast_compare.proofs.Exact as maps

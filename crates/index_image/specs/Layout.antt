@@ -1,5 +1,5 @@
 -- The image of an index: one valid state, one list of words. docs/LAYOUT.md has the tables. Assumes nothing.
-use Rattle.std.specs.Prelude.{◌≡◌, List, [], ◌∷◌, ◌++◌, ℕ, suc, ◌+◌, ◌-◌, ◌*◌, ◌≤◌, length}
+use Rattle.std.specs.Prelude.{◌≡◌, List, [], ◌∷◌, ◌++◌, ℕ, suc, ◌-◌, ◌*◌, ◌≤◌, length}
 use Rattle.words.specs.Kinds.{index_word}
 use Rattle.words.specs.Words.{words}
 use Rattle.words.specs.Tables.{part, zeros, table}

@@ -1,5 +1,5 @@
 -- Words that name places: which places are named. Assumes nothing.
-use Rattle.std.specs.Prelude.{◌≡◌, List, ℕ, ◌+◌, ◌*◌, ◌<◌, length, get_or}
+use Rattle.std.specs.Prelude.{◌≡◌, List, ℕ, ◌+◌, ◌*◌, ◌<◌, get_or}
 
 -- the i-th of the words that stand w words apart from word `at` on
 abbrev pub name_at : List ℕ → ℕ → ℕ → ℕ → ℕ

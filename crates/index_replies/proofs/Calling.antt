@@ -11,10 +11,10 @@ use Rattle.words.specs.Kinds.{refusal_word}
 use Rattle.words.specs.Words.{paste_w}
 use Rattle.words.proofs.Laws.{Bytes}
 use Rattle.fast_compare.specs.Map.{value_of}
-use Rattle.index_theory.specs.State.{Kind, monomials, ratioed, State}
+use Rattle.index_theory.specs.State.{monomials, ratioed, State}
 use Rattle.index_theory.specs.Searches.{containment, reducing, high, low, singular}
 use Rattle.index_theory.specs.Calls.{Call, Request, insertion, query, plain, Asked, refused, asks, ask_monomials, ask_ratioed, ask, reply, serve, step}
-use Rattle.index_image.specs.Layout.{code, encode, Is}
+use Rattle.index_image.specs.Layout.{encode, Is}
 use Rattle.index_image.specs.declared.Shape.{Shape}
 use Rattle.index_image.proofs.Shapes.{code-ratio, code-monomial}
 use Rattle.call_list.specs.Bodies.{Single, Paired, Tripled}

@@ -13,7 +13,7 @@ use Rattle.words.proofs.Tables.{part-get, part-nil, table-iff, row_fits, split_r
 use Rattle.fast_compare.specs.Map as map
 use Rattle.fast_compare.specs.Layout as labels
 use Rattle.kd_theory.specs.Bag.{◌∈◌, Same}
-use Rattle.kd_theory.specs.Tree.{Tree, inorder, nodes, count, Ordered}
+use Rattle.kd_theory.specs.Tree.{Tree, inorder, count, Ordered}
 use Rattle.index_theory.specs.Entries.{Entry, entry_at, one, ratio_of}
 use Rattle.index_theory.specs.State.{Kind, monomials, ratioed, State, Valid, GoodEntry, OfKind, LabelsOf, up_to, power_in, label_of, keys_of}
 use Rattle.index_theory.proofs.Orders.{labels-agree}

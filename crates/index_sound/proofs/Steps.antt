@@ -1,6 +1,6 @@
 -- What the answers of the door's checks come to, one law for each. Assumes nothing.
 use mathlib.Core.Path.{◌≡◌, refl, sym, ap, ◌∙◌}
-use mathlib.Core.Bool.{Bool, true, false, not}
+use mathlib.Core.Bool.{Bool, true, false}
 use mathlib.Core.List.{List}
 use mathlib.Core.Logic.{◌↔◌, inl, inr}
 use Prim.Native.Nat.{ℕ, ◌+◌, ◌-◌, ◌*◌, ◌^◌, ◌≤◌, ◌<◌}
@@ -17,7 +17,7 @@ use Rattle.words.proofs.Tables.{never, split_rows}
 use Rattle.divmask.specs.Tracker.{Maxima, maxima_lent}
 use Rattle.divmask.proofs.Growth.{lent-maxima}
 use Rattle.fast_compare.specs.Layout as labels
-use Rattle.kd_theory.specs.Tree.{Tree, inorder, nodes, count}
+use Rattle.kd_theory.specs.Tree.{Tree, inorder, count}
 use Rattle.index_image.specs.Shape as at
 use Rattle.index_image.specs.Layout.{Sound}
 use Rattle.index_image.specs.Head.{HeadOk, HeadIs}

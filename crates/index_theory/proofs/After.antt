@@ -1,34 +1,31 @@
 -- What a call leaves of the tree, the map's maxima and the labels, as the Rust fixes it. Assumes nothing.
 use mathlib.Core.Path.{◌≡◌, refl, sym, ap, ◌∙◌}
-use mathlib.Core.Bool.{Bool, true, false, cond}
-use mathlib.Core.Option.{Option, none, some}
-use mathlib.Core.List.{List, [], ◌∷◌, ◌++◌}
-use mathlib.Core.Logic.{◌⊎◌, inl, inr, ◌↔◌}
-use Prim.Native.Nat.{ℕ, ◌+◌, ◌≤◌, ◌<◌}
+use mathlib.Core.Bool.{true}
+use mathlib.Core.List.{List, [], ◌∷◌}
+use mathlib.Core.Logic.{inl, inr, ◌↔◌}
+use Prim.Native.Nat.{ℕ, ◌≤◌, ◌<◌}
 use native.Mathlib.Omega.{arith}
 use native.Mathlib.Decide.{dec_lt}
-use lib.Dec.{leb, ltb}
+use lib.Dec.{leb}
 use lib.ListN.{length, get_or}
 use borrow.Author.Tests.{leb-true, le-leb, lt-ltb, le-ltb}
 use Rattle.words.specs.Kinds.{ident}
-use Rattle.monomial.specs.Monomial.{Canonical, pow}
 use Rattle.monomial.proofs.Canon.{Canon, canon-of}
 use Rattle.monomial.proofs.Powers.{pow-here, pow-past, pow-end, pow-above}
-use Rattle.monomial.proofs.Laws.{canonical-result}
 use Rattle.divmask.specs.Tracker.{updated}
 use Rattle.divmask.proofs.Growth.{updated-end}
 use Rattle.fast_compare.specs.Labels.{known}
 use Rattle.fast_compare.specs.Map as map
 use Rattle.fast_compare.specs.declared.Comparer.{Comparer}
 use Rattle.fast_compare.specs.declared.Comparer.TheVariants.{Known, New, Full, NoLabel}
-use Rattle.fast_compare.proofs.Maps.{Answered, is_known, is-full, is_none, is-new, answered, after-as, stored_same, known_same, known-label, old-known}
-use Rattle.kd_theory.specs.Tree.{Tree, inorder, nodes, insert}
+use Rattle.fast_compare.proofs.Maps.{Answered, is_known, is-full, is_none, is-new, answered, after-as, stored_same, known-label, old-known}
+use Rattle.kd_theory.specs.Tree.{Tree}
 use Rattle.kd_theory.proofs.FixedLaws.{added, added-place, added-nodes}
-use Rattle.index_theory.specs.Entries.{Entry, entry_at, one, ratio_of}
+use Rattle.index_theory.specs.Entries.{Entry, one, ratio_of}
 use Rattle.index_theory.specs.State.{Kind, monomials, ratioed, State, Valid, OfKind, LabelsOf, row_or, row_of, label_of, keys}
-use Rattle.index_theory.specs.Searches.{Query, dense, ratio_at, find}
-use Rattle.index_theory.specs.Calls.{Request, insertion, query, GoodRequest, relabel, labelled, tracked, numbered, inserted, Done, with_tree, serve}
-use Rattle.index_theory.specs.Claims.{RestKept, NotAboveHighest, DenseExact, SearchAfter, Rebuilds, InsertAfter, StateAfter}
+use Rattle.index_theory.specs.Searches.{dense, ratio_at}
+use Rattle.index_theory.specs.Calls.{Request, insertion, query, GoodRequest, relabel, labelled, tracked, inserted, with_tree, serve}
+use Rattle.index_theory.specs.Claims.{RestKept, NotAboveHighest, DenseExact, InsertAfter, StateAfter}
 use Rattle.index_theory.proofs.Finds.{find-grown, find_runs, find-settled}
 use Rattle.index_theory.proofs.Keeps.{value-good}
 

@@ -1,29 +1,28 @@
 -- Each query's answer, over the entries of a valid state. Assumes nothing.
-use mathlib.Core.Path.{◌≡◌, refl, sym, ap, ◌∙◌}
+use mathlib.Core.Path.{◌≡◌, refl, sym}
 use mathlib.Core.Bool.{Bool, true, false, not, cond, ◌&&◌}
 use mathlib.Core.Option.{Option, none, some}
-use mathlib.Core.List.{List, [], ◌∷◌}
+use mathlib.Core.List.{List}
 use mathlib.Core.Logic.{◌↔◌}
-use Prim.Native.Nat.{ℕ, ◌+◌, ◌≤◌, ◌<◌}
-use native.Mathlib.Omega.{arith}
-use lib.Dec.{eqb, ltb}
+use Prim.Native.Nat.{ℕ, ◌+◌, ◌<◌}
+use lib.Dec.{ltb}
 use native.Mathlib.Nat.{add-zero}
 use lib.ListN.{length}
 use borrow.Author.Tests.{eq-eqb}
-use Rattle.words.specs.Kinds.{answer_word, refusal_word}
-use Rattle.monomial.specs.Operations.{Divides, divides}
+use Rattle.words.specs.Kinds.{answer_word}
+use Rattle.monomial.specs.Operations.{Divides}
 use Rattle.monomial.proofs.Divisions.{divides-true, true-divides}
 use Rattle.monomial.proofs.Canon.{both_true}
 use Rattle.fast_compare.specs.Map as map
 use Rattle.kd_theory.specs.Bag.{◌∈◌}
 use Rattle.kd_theory.specs.Tree.{inorder}
-use Rattle.kd_theory.specs.Queries.{hit, largest, reducer, NoneOf, First, Last, FirstLargest, IsFirst, IsFirstLargest, IsReducer, no-reducer, first-regular, last-singular}
+use Rattle.kd_theory.specs.Queries.{hit, largest, reducer, NoneOf, IsFirst, IsFirstLargest, IsReducer, no-reducer, first-regular, last-singular}
 use Rattle.kd_theory.proofs.QueryLaws.{stands-in, around, first_found, largest-found, reducer-found}
-use Rattle.index_theory.specs.Entries.{Entry, entry_at, ratio_of, above, is_greater}
-use Rattle.index_theory.specs.Meaning.{SomeEntry, Contained, Reduces, Regular, High, Low, Singular, Largest}
-use Rattle.index_theory.specs.State.{Kind, monomials, ratioed, State, Valid}
+use Rattle.index_theory.specs.Entries.{Entry, entry_at, ratio_of, above}
+use Rattle.index_theory.specs.Meaning.{SomeEntry, Reduces, Regular, High, Low, Singular}
+use Rattle.index_theory.specs.State.{State, Valid}
 use Rattle.index_theory.specs.Searches.{Query, containment, reducing, high, low, singular, kind_for, process, find, is_divisor, is_reducer, is_regular, is_high, is_low, is_singular, ratio_at}
-use Rattle.index_theory.specs.Calls.{Request, insertion, query, GoodRequest, yes, found, found_reducer, told, Done, inserted, serve}
+use Rattle.index_theory.specs.Calls.{Request, insertion, query, GoodRequest, yes, found, found_reducer, told, Done, serve}
 use Rattle.index_theory.specs.Claims as claims
 use Rattle.index_theory.specs.Claims.{YesNo, ReducerIs, no_reducer, a_regular, a_singular, BaseIs, no_divisor, the_largest, Finds, AnswerIs, ReducerTie, no_tied_reducer, first_regular, last_singular, BaseTie, no_tied_divisor, first_largest, Ties, StopsAt, StopsExact}
 use Rattle.index_theory.proofs.Orders.{false-true, is_greater_lem, above-order}

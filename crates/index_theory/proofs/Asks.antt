@@ -2,22 +2,21 @@
 use mathlib.Core.Path.{◌≡◌, refl, sym, ap, ◌∙◌, subst}
 use mathlib.Core.Bool.{Bool, true, false, cond}
 use mathlib.Core.List.{List, [], ◌∷◌, ◌++◌, append-nil}
-use mathlib.Core.Logic.{◌⊎◌, inl, inr, ◌↔◌}
+use mathlib.Core.Logic.{◌⊎◌, inl, inr}
 use Prim.Native.Nat.{ℕ, ◌≤◌, ◌<◌}
 use native.Mathlib.Omega.{arith}
 use lib.Dec.{eqb}
-use lib.ListN.{length, take, drop, take-append-drop}
+use lib.ListN.{length, take-append-drop}
 use lib.Seq.{take-append_seam, drop-append_seam}
 use borrow.Author.Tests.{eqb-true, eqb-false, eq-eqb, ne_eqb}
 use Rattle.words.specs.Kinds.{kind, payload, index_word}
 use Rattle.monomial.specs.Monomial.{front, Canonical}
 use Rattle.monomial.proofs.Canon.{front-end}
 use Rattle.monomial.proofs.Laws.{front-canonical, canonical-front}
-use Rattle.fast_compare.specs.Map as map
 use Rattle.index_theory.specs.Entries.{Entry, one}
-use Rattle.index_theory.specs.State.{Kind, monomials, ratioed, GoodEntry, OfKind}
-use Rattle.index_theory.specs.Searches.{Query, containment, reducing, high, low, singular}
-use Rattle.index_theory.specs.Calls.{Call, Request, insertion, query, number_of, words_of, GoodRequest, Asked, refused, asks, with_index, with_part, at_end, plain, ask_monomials, ask_ratioed, ask}
+use Rattle.index_theory.specs.State.{Kind, monomials, ratioed}
+use Rattle.index_theory.specs.Searches.{containment, reducing, high, low, singular}
+use Rattle.index_theory.specs.Calls.{Call, Request, insertion, query, GoodRequest, Asked, refused, asks, with_index, with_part, at_end, plain, ask_monomials, ask_ratioed, ask}
 use Rattle.index_theory.specs.Claims.{Serves, CallOf, AskExact, AsksExact}
 
 pub never : {X : Type 0} (n : ℕ) (r : Request) → refused n ≡ asks r → X

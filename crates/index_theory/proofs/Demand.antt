@@ -3,21 +3,19 @@ use mathlib.Core.Path.{◌≡◌, refl, sym, ap, ◌∙◌}
 use mathlib.Core.Bool.{Bool, true, false, cond}
 use mathlib.Core.List.{List, [], ◌∷◌, ◌++◌, append-nil, append_assoc}
 use mathlib.Core.Logic.{◌⊎◌, inl, inr}
-use Prim.Native.Nat.{ℕ, ◌+◌, ◌≤◌, ◌<◌}
+use Prim.Native.Nat.{ℕ, ◌<◌}
 use native.Mathlib.Omega.{arith}
-use lib.Dec.{eqb, ltb}
+use lib.Dec.{ltb}
 use lib.ListN.{length}
-use borrow.Author.Tests.{ltb-true, eq-eqb}
+use borrow.Author.Tests.{eq-eqb}
 use Rattle.words.specs.Kinds.{kind, payload, answer_word, refusal_word}
-use Rattle.monomial.specs.Operations.{Divides, result_words}
-use Rattle.monomial_ordering.specs.Order.{order}
-use Rattle.monomial.specs.declared.ordered_ops.Op.TheVariants.{Ratio}
+use Rattle.monomial.specs.Operations.{Divides}
 use Rattle.fast_compare.specs.Map as map
-use Rattle.index_theory.specs.Entries.{Entry, entry_at, quotient_of, ratio_of, above}
-use Rattle.index_theory.specs.Meaning.{SomeEntry, Reduces, Regular, High, Low, Singular, Largest}
+use Rattle.index_theory.specs.Entries.{Entry, entry_at, quotient_of, ratio_of}
+use Rattle.index_theory.specs.Meaning.{SomeEntry, Reduces, Regular, High, Low, Singular}
 use Rattle.index_theory.specs.State.{Kind, State, Valid}
-use Rattle.index_theory.specs.Searches.{Query, containment, reducing, high, low, singular, kind_for, find}
-use Rattle.index_theory.specs.Calls.{Call, Request, insertion, query, insert_number, Asked, refused, asks, ask, numbered, inserted, Done, serve, reply, step, after, answers, held}
+use Rattle.index_theory.specs.Searches.{Query, containment, reducing, high, low, singular}
+use Rattle.index_theory.specs.Calls.{Call, Request, insertion, query, Asked, refused, asks, ask, inserted, Done, serve, reply, step, after, answers}
 use Rattle.index_theory.specs.Claims as claims
 use Rattle.index_theory.specs.Claims.{CallOf, StoredIs, YesNo, ReducerIs, no_reducer, a_regular, a_singular, BaseIs, no_divisor, the_largest, Finds}
 use Rattle.index_theory.specs.Demand3 as demand

@@ -1,23 +1,21 @@
 -- What a query finds, among the entries of a valid state. Assumes nothing.
-use mathlib.Core.Path.{◌≡◌, refl, sym, ap, ◌∙◌}
-use mathlib.Core.Bool.{Bool, true, false}
-use mathlib.Core.Option.{Option, none, some}
+use mathlib.Core.Path.{◌≡◌}
+use mathlib.Core.Bool.{Bool, true}
+use mathlib.Core.Option.{none, some}
 use mathlib.Core.List.{List}
 use mathlib.Core.Logic.{◌⊎◌, inl, inr}
-use Prim.Native.Nat.{ℕ, suc, ◌+◌, ◌≤◌, ◌<◌}
+use Prim.Native.Nat.{ℕ, suc, ◌+◌, ◌<◌}
 use native.Mathlib.Omega.{arith}
-use lib.ListN.{length}
 use Rattle.fast_compare.specs.Map as map
-use Rattle.kd_theory.specs.Bag.{◌∈◌, Step, fold_until}
-use Rattle.kd_theory.specs.Tree.{Tree, inorder, count, Path, Keys, All, Ordered, Out, Split, Splits, Kept, Safe, Ignores, start, outcome, search, search_at, search_for}
-use Rattle.kd_theory.specs.Bifurcate.{mark_number, ratio_key, ratio_mark, bifurcate}
-use Rattle.kd_theory.specs.Queries.{hit, largest, reducer}
-use Rattle.kd_theory.specs.Fixed.{AverageKey, RatioKey, IsSplit, Differ, Grown, Run, Settled}
+use Rattle.kd_theory.specs.Bag.{fold_until}
+use Rattle.kd_theory.specs.Tree.{inorder, count, Path, All, Split, Splits, Kept, Safe, Ignores, start, outcome, search, search_at, search_for}
+use Rattle.kd_theory.specs.Bifurcate.{mark_number, ratio_key, ratio_mark}
+use Rattle.kd_theory.specs.Fixed.{AverageKey, RatioKey, Differ, Grown, Run, Settled}
 use Rattle.kd_theory.proofs.QueryLaws.{hit-ignores, largest-ignores, reducer-ignores, search-keeps, search-folds}
 use Rattle.kd_theory.proofs.FixedLaws.{bifurcate-is, bifurcate-equal, number-keyed, ratio-keyed, grown-search, Picks, hit-picks, reducer-picks, largest-picks, settled-search, run-search}
-use Rattle.index_theory.specs.Entries.{Entry, entry_at, ratio_of, above}
+use Rattle.index_theory.specs.Entries.{Entry}
 use Rattle.index_theory.specs.State.{Kind, monomials, ratioed, State, Valid, Place, LabelsOf, power_in, ratios_of, dims, keys, keys_of, split_of}
-use Rattle.index_theory.specs.Searches.{Query, containment, reducing, high, low, singular, kind_for, split, sought, path, process, find, is_divisor, is_reducer, is_regular, is_high, is_low, is_singular, ratio_at}
+use Rattle.index_theory.specs.Searches.{Query, containment, reducing, high, low, singular, kind_for, split, sought, path, process, find}
 use Rattle.index_theory.specs.Claims.{number_in, SplitIs}
 use Rattle.index_theory.proofs.Orders.{labels-agree}
 use Rattle.index_theory.proofs.Prunes.{splits-kind, contained-safe, reducer-safe, high-safe, low-safe, singular-safe}

@@ -1,33 +1,30 @@
 -- Every call keeps a state valid. Assumes nothing.
-use mathlib.Core.Path.{◌≡◌, refl, sym, ap, ◌∙◌}
+use mathlib.Core.Path.{◌≡◌, refl, sym, ◌∙◌}
 use mathlib.Core.Bool.{Bool, true, false, cond}
 use mathlib.Core.List.{List, [], ◌∷◌, ◌++◌}
 use mathlib.Core.Logic.{◌⊎◌, inl, inr}
-use Prim.Native.Nat.{ℕ, zero, suc, ◌+◌, ◌≤◌, ◌<◌}
+use Prim.Native.Nat.{ℕ, zero, suc, ◌+◌, ◌<◌}
 use native.Mathlib.Omega.{arith}
 use native.Mathlib.Numerals.{add-one}
 use native.Mathlib.Decide.{dec_lt}
 use lib.Dec.{ltb}
 use lib.ListN.{length}
 use borrow.Author.Tests.{ltb-true}
-use Rattle.monomial.specs.Monomial.{Canonical}
 use Rattle.monomial.specs.declared.ordered_ops.Op.{Op}
 use Rattle.monomial.proofs.Laws.{canonical-result}
 use Rattle.divmask.specs.Tracker.{Maxima, updated}
 use Rattle.divmask.proofs.Growth.{updated-good}
 use Rattle.fast_compare.specs.Map as map
-use Rattle.kd_theory.specs.Bag.{occurs, Same}
-use Rattle.kd_theory.specs.Tree.{Tree, leaf, inorder, count, insert, Keys, Ordered, Kept, Grows}
+use Rattle.kd_theory.specs.Tree.{Tree, Kept, Grows}
 use Rattle.kd_theory.proofs.BagLaws.{occurs-append}
 use Rattle.kd_theory.proofs.TreeLaws.{ordered-grows}
 use Rattle.kd_theory.proofs.InsertLaws.{insert-adds, insert-ordered}
-use Rattle.index_theory.specs.Entries.{Entry, entry_at, quotient_of, ratio_of, above}
-use Rattle.index_theory.specs.State.{Kind, monomials, ratioed, State, Valid, GoodEntry, OfKind, LabelsOf, Place, power_in, ratios_of, keys, keys_of, up_to, opened}
-use Rattle.index_theory.specs.Searches.{Query, find}
+use Rattle.index_theory.specs.Entries.{Entry, entry_at, quotient_of, ratio_of}
+use Rattle.index_theory.specs.State.{Kind, monomials, ratioed, State, Valid, GoodEntry, OfKind, LabelsOf, power_in, keys, keys_of, up_to}
 use Rattle.index_theory.specs.Calls.{Call, Request, insertion, query, GoodRequest, Asked, refused, asks, ask, relabel, labelled, tracked, numbered, inserted, Done, with_tree, serve, reply, step, after}
 use Rattle.index_theory.proofs.Places.{entry_old, entry_new, length_more, insert-count}
 use Rattle.index_theory.proofs.Asks.{fits}
-use Rattle.index_theory.proofs.Labels.{rows_few, Settled, relabelled}
+use Rattle.index_theory.proofs.Labels.{rows_few, relabelled}
 use Rattle.index_theory.proofs.Finds.{find-kept}
 
 -- ---- a search changes the tree alone

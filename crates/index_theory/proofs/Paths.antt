@@ -1,20 +1,19 @@
 -- Which sides of a branch a search leaves out, and why. Assumes nothing.
-use mathlib.Core.Path.{◌≡◌, refl, sym, ap, ◌∙◌}
+use mathlib.Core.Path.{◌≡◌, refl, sym}
 use mathlib.Core.Bool.{Bool, true, false, cond, ◌&&◌}
 use mathlib.Core.List.{List}
 use mathlib.Core.Logic.{◌⊎◌, inl, inr, ◌↔◌}
-use Prim.Native.Nat.{ℕ, zero, suc, ◌+◌, ◌≤◌, ◌<◌}
+use Prim.Native.Nat.{ℕ, zero, suc, ◌<◌}
 use native.Mathlib.Omega.{arith}
 use lib.Dec.{ltb}
 use borrow.Author.Tests.{ltb-true, ltb-false, lt-ltb}
 use Rattle.monomial.specs.Monomial.{Canonical, pow}
 use Rattle.monomial.proofs.Canon.{both_true}
 use Rattle.kd_theory.specs.Tree.{Path, neither, less, other, both, goes_less, goes_other}
-use Rattle.kd_theory.specs.Prune.{by_power, prune_monomial, prune_ratio, above_only, not_above, same_index, same_above}
-use Rattle.index_theory.specs.Entries.{Entry, entry_at, quotient_of, ratio_of, above}
-use Rattle.index_theory.specs.State.{State, ratios_of}
+use Rattle.kd_theory.specs.Prune.{by_power, prune_monomial, prune_ratio}
+use Rattle.index_theory.specs.Entries.{entry_at, quotient_of, above}
+use Rattle.index_theory.specs.State.{State}
 use Rattle.index_theory.specs.Searches.{Query, containment, reducing, high, low, singular, node_mask, may, dense, ratio_at, path}
-use Rattle.index_theory.specs.Calls.{GoodQuery}
 use Rattle.index_theory.specs.Claims.{NotAboveHighest, MaskOut, PowerOut, LessOut, OtherOut, PathIs, PathExact}
 use Rattle.index_theory.proofs.Orders.{false-true}
 use Rattle.index_theory.proofs.After.{dense-exact}

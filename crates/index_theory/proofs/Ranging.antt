@@ -3,7 +3,7 @@ use mathlib.Core.Path.{◌≡◌, refl, sym, ap, ◌∙◌}
 use mathlib.Core.Bool.{Bool, true, false, not, cond, ◌&&◌}
 use mathlib.Core.Option.{Option, none, some}
 use mathlib.Core.List.{List}
-use Prim.Native.Nat.{ℕ, zero, suc, ◌<◌, ◌≤◌}
+use Prim.Native.Nat.{ℕ, zero, ◌<◌}
 use native.Mathlib.Decide.{dec_le}
 use native.Mathlib.Omega.{arith}
 use lib.Dec.{leb, ltb, eqb}
@@ -20,7 +20,7 @@ use Rattle.kd_theory.specs.Prune.{prune_monomial, prune_ratio}
 use Rattle.kd_theory.specs.Queries.{hit, better, largest, reducer}
 use Rattle.kd_theory.specs.Tree.{Path, neither, less, other, both, goes_less, goes_other, start}
 use Rattle.index_theory.specs.Entries.{Entry, entry_at, quotient_of, ratio_of, above, is_greater}
-use Rattle.index_theory.specs.State.{Kind, monomials, ratioed, State}
+use Rattle.index_theory.specs.State.{monomials, ratioed, State}
 use Rattle.index_theory.specs.Searches.{Query, containment, reducing, high, low, singular, kind_for, ratio_at, may, dense, is_divisor, is_reducer, is_regular, is_high, is_low, is_singular, sought, path, process}
 use Rattle.index_theory.specs.Ranges.{dividend, by_lm, divisor_of, not_below, not_past, replaces, goes_on, may_go, dim_of, limit_of}
 use Rattle.index_theory.proofs.Orders.{same_index_lem}

@@ -1,23 +1,19 @@
 -- The claims of specs/Claims.antt; those of lists of words, of questions 6 and 7 and of `dense` are in Lists, Asks and After. Assumes nothing.
 use mathlib.Core.Path.{◌≡◌, refl, sym, ap, ◌∙◌}
 use mathlib.Core.Bool.{Bool, true, false, cond}
-use mathlib.Core.Option.{Option, none, some}
 use mathlib.Core.List.{List, [], ◌∷◌, ◌++◌}
-use Prim.Native.Nat.{ℕ, zero, suc, ◌+◌, ◌*◌, ◌≤◌, ◌<◌}
+use Prim.Native.Nat.{ℕ, ◌+◌, ◌≤◌}
 use native.Mathlib.Omega.{arith}
 use lib.Dec.{ltb}
 use lib.ListN.{length}
 use Rattle.divmask.specs.Tracker.{Maxima}
-use Rattle.fast_compare.specs.Map as map
-use Rattle.kd_theory.specs.Bag.{occurs, ◌∈◌}
-use Rattle.kd_theory.specs.Tree.{leaf, inorder, nodes}
+use Rattle.kd_theory.specs.Bag.{◌∈◌}
 use Rattle.kd_theory.proofs.BagLaws.{occurs-nil}
 use Rattle.kd_theory.proofs.TreeLaws.{few-nodes}
-use Rattle.index_theory.specs.Entries.{Entry, entry_at}
+use Rattle.index_theory.specs.Entries.{Entry}
 use Rattle.index_theory.specs.State.{Kind, monomials, ratioed, State, Valid, LabelsOf, keys, keys_of, up_to, opened}
-use Rattle.index_theory.specs.Searches.{Query}
 use Rattle.index_theory.specs.Calls.{Call, Request, insertion, query, Asked, refused, asks, ask, numbered, inserted, Done, serve, reply, step, after, accepted, held}
-use Rattle.index_theory.specs.Claims.{OpeningExact, ValidKept, StoredIs, StoredHeld, AnswerIs, AnswersHeld, RefusedKept, TiesFixed, FirstVisited, TreeFixed, FewNodes}
+use Rattle.index_theory.specs.Claims.{OpeningExact, ValidKept, StoredHeld, AnswerIs, AnswersHeld, RefusedKept, TiesFixed, FirstVisited, TreeFixed, FewNodes}
 use Rattle.index_theory.proofs.Asks.{fits}
 use Rattle.index_theory.proofs.Finds.{find-folds}
 use Rattle.index_theory.proofs.Keeps.{after-valid}

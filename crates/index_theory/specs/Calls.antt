@@ -1,7 +1,7 @@
 -- Call lists: the words of calls, the questions of each call in order, what a call answers, and what it leaves. Assumes nothing.
-use Rattle.std.specs.Prelude.{◌≡◌, Bool, true, false, cond, List, [], ◌∷◌, ◌++◌, ℕ, ◌+◌, ◌<◌, eqb, ltb, length, take, drop}
+use Rattle.std.specs.Prelude.{◌≡◌, cond, List, [], ◌∷◌, ◌++◌, ℕ, ◌+◌, ◌<◌, eqb, ltb, length, take, drop}
 use Rattle.std.proofs.Math.Option.{Option, none, some}
-use Rattle.words.specs.Kinds.{kind, payload, index_word, call_word, answer_word, refusal_word}
+use Rattle.words.specs.Kinds.{kind, payload, index_word, answer_word, refusal_word}
 use Rattle.monomial.specs.Monomial.{front, Canonical}
 use Rattle.divmask.specs.Tracker.{updated}
 use Rattle.fast_compare.specs.Map as map

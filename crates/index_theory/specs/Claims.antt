@@ -1,6 +1,6 @@
 -- What is claimed of the indexes, demand 2: which calls a list has, which are refused, what each answers, and what it leaves.
 -- The proofs are in proofs/Theorems.antt, under the same names in small letters. Demand 3 is in Demand3.antt. Assumes nothing.
-use Rattle.std.specs.Prelude.{◌≡◌, Bool, true, false, cond, List, [], ◌∷◌, ◌++◌, ◌⊎◌, ◌↔◌, ℕ, zero, suc, ◌+◌, ◌*◌, ◌≤◌, ◌<◌, ltb, length}
+use Rattle.std.specs.Prelude.{◌≡◌, true, false, cond, List, [], ◌∷◌, ◌++◌, ◌⊎◌, ◌↔◌, ℕ, zero, suc, ◌+◌, ◌*◌, ◌≤◌, ◌<◌, ltb, length}
 use Rattle.std.proofs.Math.Option.{Option, none, some}
 use Rattle.words.specs.Kinds.{kind, call_word, answer_word, refusal_word}
 use Rattle.monomial.specs.Monomial.{Canonical, pow}
@@ -10,7 +10,7 @@ use Rattle.divmask.specs.Tracker.{Maxima, updated}
 use Rattle.fast_compare.specs.Map as map
 use Rattle.fast_compare.specs.declared.Comparer.TheVariants.{NoLabel}
 use Rattle.kd_theory.specs.Bag.{◌∈◌, fold_until}
-use Rattle.kd_theory.specs.Tree.{Tree, inorder, nodes, Split, start, outcome, Path, goes_less, goes_other}
+use Rattle.kd_theory.specs.Tree.{inorder, nodes, Split, start, outcome, Path, goes_less, goes_other}
 use Rattle.kd_theory.specs.Bifurcate.{least, ratio_key}
 use Rattle.kd_theory.specs.Queries.{NoneOf, First, Last, FirstLargest}
 use Rattle.kd_theory.specs.Fixed.{IsSplit, AverageKey, RatioKey, Grown, Run, Settled, Added, Placed}

@@ -1,10 +1,10 @@
 -- Demand 3, one claim: two whole lists of calls, refused ones included, on two valid states, and the query after them. Assumes nothing.
-use Rattle.std.specs.Prelude.{◌≡◌, Bool, true, false, cond, List, [], ◌∷◌, ◌++◌, ◌⊎◌, ℕ, ◌+◌, ◌≤◌, ◌<◌, eqb, length}
+use Rattle.std.specs.Prelude.{◌≡◌, false, cond, List, [], ◌∷◌, ◌++◌, ℕ, ◌+◌, ◌<◌, eqb, length}
 use Rattle.words.specs.Kinds.{kind, payload, answer_word}
 use Rattle.index_theory.specs.Entries.{Entry, entry_at, ratio_of, above}
 use Rattle.index_theory.specs.State.{Kind, State, Valid}
 use Rattle.index_theory.specs.Searches.{Query, containment, reducing, high, low, singular}
-use Rattle.index_theory.specs.Calls.{Call, Request, insertion, query, insert_number, Asked, refused, asks, ask, numbered, step, after, answers, held}
+use Rattle.index_theory.specs.Calls.{Call, insertion, query, insert_number, Asked, refused, asks, ask, numbered, step, after, answers, held}
 use Rattle.index_theory.specs.Claims.{CallOf}
 
 -- ---- what a list took: the entry of each insert that was answered by a kind 4 word, under the number answered

@@ -12,7 +12,7 @@ use Rattle.monomial.specs.declared.ordered_ops.Op.TheVariants.{Gcd}
 use Rattle.kd_theory.specs.Bag.{◌∈◌}
 use Rattle.kd_theory.specs.Bifurcate.{least}
 use Rattle.kd_theory.specs.Tree.{Tree, leaf, branch, inorder, nodes}
-use Rattle.kd_theory.proofs.BagLaws.{here, in_left, in_right, in_both}
+use Rattle.kd_theory.proofs.BagLaws.{in_left, in_right, in_both}
 use Rattle.kd_theory.proofs.BifurcateLaws.{least-le, least-from}
 use Rattle.index_image.specs.declared.Shape.{Shape}
 use Rattle.branch_rows.specs.declared.Limits.{Limits}

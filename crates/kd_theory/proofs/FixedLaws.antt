@@ -1,21 +1,20 @@
 -- The tree is as the Rust fixes it.
 -- Assumes nothing.
-use mathlib.Core.Path.{◌≡◌, refl, sym, ◌∙◌, ap, subst}
+use mathlib.Core.Path.{◌≡◌, refl, sym, ◌∙◌}
 use mathlib.Core.Bool.{Bool, true, false, not, cond}
 use mathlib.Core.Option.{Option, none, some}
 use mathlib.Core.List.{List, [], ◌∷◌, ◌++◌, append_assoc, append-nil}
 use mathlib.Core.Logic.{◌⊎◌, inl, inr}
-use Prim.Native.Nat.{ℕ, zero, suc, ◌+◌, ◌/◌, ◌%◌, ◌<◌, ◌≤◌}
+use Prim.Native.Nat.{ℕ, zero, suc, ◌+◌, ◌%◌, ◌<◌, ◌≤◌}
 use native.Mathlib.Nat.{add-zero}
 use native.Mathlib.Omega.{arith}
 use lib.Dec.{ltb}
 use lib.ListN.{length}
-use lib.Seq.{append_snoc}
-use borrow.Author.Tests.{ltb-true, ltb-false, lt-ltb, le-ltb}
-use Rattle.kd_theory.specs.Bag.{occurs, ◌∈◌, Some, keep, Step, fold_until}
+use borrow.Author.Tests.{ltb-true, ltb-false, le-ltb}
+use Rattle.kd_theory.specs.Bag.{◌∈◌, Some, keep, Step, fold_until}
 use Rattle.kd_theory.specs.Tree.{Keys, All, Tree, leaf, branch, inorder, count, nodes, Path, goes_less, goes_other, limit, child_from, Split, Out, insert, Ordered, split_leaf, split_root, side, then-other, visit, search_for, Splits, start, outcome}
-use Rattle.kd_theory.specs.Bifurcate.{least_of, greatest_of, least, greatest, average, cut, try_from, bifurcate, Labelled, Ratios, first_least, ratio_key, ratio_mark, mark_number}
-use Rattle.kd_theory.specs.Queries.{Order, better, hit, largest, reducer, FirstLargest, IsFirstLargest}
+use Rattle.kd_theory.specs.Bifurcate.{least, greatest, average, cut, try_from, bifurcate, Labelled, Ratios, ratio_key, ratio_mark, mark_number}
+use Rattle.kd_theory.specs.Queries.{better, hit, largest, reducer}
 use Rattle.kd_theory.specs.Fixed as fixed
 use Rattle.kd_theory.specs.Fixed.{Dealt, done, to-less, to-other, Differ, FirstDiffering, Average, IsSplit, AverageKey, FirstSmallest, RatioKey, Grown, stays, splits, inside, Run, left_out, stopped, scanned, split-first, both-sides, Settled, at-most-64, in-less, in-other, Added, at-end, goes-less, goes-other, Placed}
 use Rattle.kd_theory.proofs.BagLaws.{here, there, in_left, in_right, keep-in, keep-holds}

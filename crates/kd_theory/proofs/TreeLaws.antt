@@ -1,16 +1,16 @@
 -- The search keeps the entries and the order, and folds over all of them.
 -- Assumes nothing.
-use mathlib.Core.Path.{◌≡◌, refl, sym, ◌∙◌, ap}
-use mathlib.Core.Bool.{Bool, true, false, not}
+use mathlib.Core.Path.{◌≡◌, refl, sym, ◌∙◌}
+use mathlib.Core.Bool.{Bool, true, false}
 use mathlib.Core.Option.{Option, none, some}
-use mathlib.Core.List.{List, [], ◌∷◌, ◌++◌}
-use Prim.Native.Nat.{ℕ, zero, suc, ◌+◌, ◌-◌, ◌*◌, ◌<◌, ◌≤◌}
+use mathlib.Core.List.{List, [], ◌∷◌}
+use Prim.Native.Nat.{ℕ, zero, suc, ◌+◌, ◌*◌, ◌<◌, ◌≤◌}
 use native.Mathlib.Omega.{arith}
 use lib.Dec.{ltb}
 use lib.ListN.{length, length-append}
-use Rattle.kd_theory.specs.Bag.{occurs, ◌∈◌, Same, Some, Step, fold_until}
-use Rattle.kd_theory.specs.Tree.{Keys, All, Tree, leaf, branch, inorder, count, nodes, Path, goes_less, goes_other, Split, Out, insert, Sides, Ordered}
-use Rattle.kd_theory.specs.Tree.{limit, child_from, split_leaf, split_root, side, then-other, visit, search_for, search_at, search, Splits, Safe, Ignores, Kept, start, outcome, Folds, Grows}
+use Rattle.kd_theory.specs.Bag.{occurs, ◌∈◌, Some, Step, fold_until}
+use Rattle.kd_theory.specs.Tree.{Keys, All, Tree, leaf, branch, inorder, count, nodes, Path, Split, Out, Ordered}
+use Rattle.kd_theory.specs.Tree.{limit, child_from, split_leaf, split_root, side, then-other, visit, search_for, search_at, Splits, Safe, Ignores, Kept, start, Folds, Grows}
 use Rattle.kd_theory.proofs.BagLaws.{occurs-append, in_left, in_right, in_both, fold-append, fold-stopped, fold-skip}
 
 pub some-length : (xs : List ℕ) → Some xs → 0 < length xs

@@ -4,9 +4,9 @@
 --     K.below d k e     entry e lies below the key k of dimension d
 --     split n es         how a leaf is split whose dimensions are tried from n on; none if it cannot be
 -- Assumes nothing.
-use Rattle.std.specs.Prelude.{◌≡◌, Bool, true, false, cond, List, [], ◌∷◌, ◌++◌, ℕ, zero, suc, ◌+◌, ◌<◌, ltb, length, take, drop}
+use Rattle.std.specs.Prelude.{◌≡◌, Bool, true, false, cond, List, [], ◌∷◌, ◌++◌, ℕ, zero, suc, ◌+◌, ltb, length, take, drop}
 use Rattle.std.proofs.Math.Option.{Option, none, some}
-use Rattle.kd_theory.specs.Bag.{occurs, ◌∈◌, Same, Some, Step, fold_until}
+use Rattle.kd_theory.specs.Bag.{◌∈◌, Same, Some, Step, fold_until}
 
 pub data Tree : Type 0 where
   leaf : List ℕ → Tree

@@ -12,7 +12,7 @@ use Rattle.words.specs.Tables.{part, zeros, table, over}
 use Rattle.words.proofs.Laws.{Bytes, length-paste_w, put_w-paste}
 use Rattle.words.proofs.Tables.{part-append, length-zeros, zeros-nil, zeros-suc, zeros-add, table-agree, table-suc, split_rows, row_fits, length_over, over-mid, over-inside, paste-own, paste-over}
 use Rattle.fast_compare.specs.Labels.{insert_at, below, sorted}
-use Rattle.fast_compare.specs.Map.{Value, cmp, Good, Row, State, row, value, label, Valid, stored}
+use Rattle.fast_compare.specs.Map.{Value, cmp, Good, Row, State, row, value, Valid, stored}
 use Rattle.fast_compare.specs.declared.Comparer.TheVariants.{New}
 use Rattle.fast_compare.specs.Layout.{row_words, encode, size, row_at, order_at, Is}
 use Rattle.fast_compare.proofs.Ranks.{below-ext, below-most, sorted_ext, sorted_suc}

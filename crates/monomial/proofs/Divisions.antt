@@ -1,24 +1,23 @@
 -- The walks of `divides`, `find_power` and `eq`, and divisibility as a test. Assumes nothing.
 use mathlib.Core.Path.{◌≡◌, refl, sym, ap, ◌∙◌}
-use mathlib.Core.Bool.{Bool, true, false, cond, ◌&&◌}
+use mathlib.Core.Bool.{Bool, true, false}
 use mathlib.Core.List.{List, [], ◌∷◌}
 use mathlib.Core.Logic.{◌⊎◌, inl, inr, ◌↔◌}
-use Prim.Native.Nat.{ℕ, zero, suc, ◌+◌, ◌-◌, ◌*◌, ◌≤◌, ◌<◌}
+use Prim.Native.Nat.{ℕ, zero, suc, ◌+◌, ◌*◌, ◌≤◌, ◌<◌}
 use native.Mathlib.Omega.{arith}
 use native.Mathlib.Decide.{ℕ_discrete, dec_le}
 use lib.Dec.{eqb, leb}
 use lib.ListN.{length, get_or, drop, drop_of_length-le}
 use Rattle.words.proofs.Laws.{word-and-rest}
-use borrow.Author.Tests.{eq-eqb, ne_eqb, eqb-true, le-leb, lt-leb, leb-true}
+use borrow.Author.Tests.{eq-eqb, ne_eqb, eqb-true, le-leb, leb-true}
 use Rattle.words.specs.Kinds.{kind, ident, power, upper_half}
-use Rattle.monomial.specs.Monomial.{bias, Canonical, find, power_of, pow}
+use Rattle.monomial.specs.Monomial.{bias, Canonical, find, pow}
 use Rattle.monomial.specs.Operations.{Divides, all_below, divides, equal}
-use Rattle.monomial.specs.Walk.{power_at, past}
-use Rattle.monomial.specs.declared.Power.{Power}
+use Rattle.monomial.specs.Walk.{past}
 use Rattle.monomial.specs.declared.Power.TheVariants.{Found, Absent}
-use Rattle.monomial.proofs.Canon.{IsVar, IsEnd, Canon, canon-of, both_true, false-not-true}
+use Rattle.monomial.proofs.Canon.{Canon, canon-of, both_true, false-not-true}
 use Rattle.monomial.proofs.Powers.{pow-ids, pow-here, pow-past, pow-end}
-use Rattle.monomial.proofs.Walks.{Rest, Last, Next, word_at, Turn, turn, at-yes, at-no}
+use Rattle.monomial.proofs.Walks.{Rest, Last, Next, word_at, turn, at-yes, at-no}
 
 -- ---- a test of every variable
 pub all_true : (n : ℕ) (f : ℕ → Bool) → ((v : ℕ) → v < n → f v ≡ true) → all_below n f ≡ true

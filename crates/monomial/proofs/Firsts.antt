@@ -1,17 +1,17 @@
 -- The canonical monomial or ratio at the front of a longer list: a slot of an image, or what is left of a call list. Assumes nothing.
-use mathlib.Core.Path.{◌≡◌, refl, sym, ap, ◌∙◌}
+use mathlib.Core.Path.{◌≡◌, sym, ◌∙◌}
 use mathlib.Core.List.{List, [], ◌∷◌, ◌++◌}
 use mathlib.Core.Logic.{◌⊎◌, inl, inr}
-use Prim.Native.Nat.{ℕ, ◌+◌, ◌*◌, ◌≤◌, ◌<◌}
+use Prim.Native.Nat.{ℕ, ◌*◌, ◌≤◌, ◌<◌}
 use native.Mathlib.Omega.{arith}
 use lib.ListN.{length, get_or, take, drop, length-take}
 use lib.Seq.{take-length, take-append_seam, get_or-take}
-use Rattle.words.specs.Kinds.{kind, payload, ident}
+use Rattle.words.specs.Kinds.{kind, payload}
 use Rattle.words.specs.Words.{words}
 use Rattle.words.specs.Tables.{part}
 use Rattle.words.proofs.Laws.{length-words}
 use Rattle.monomial.specs.Monomial.{front, Canonical, Starts, first}
-use Rattle.monomial.proofs.Canon.{IsVar, front-none, front-cases, front-end, front-var, front-short, var-is}
+use Rattle.monomial.proofs.Canon.{IsVar, front-none, front-cases, front-end, front-var, var-is}
 use Rattle.monomial.proofs.Laws.{front-canonical, canonical-front}
 use Rattle.monomial.proofs.Walks.{Rest, start, within}
 

@@ -2,7 +2,7 @@
 use mathlib.Core.Path.{◌≡◌, refl, sym, ap, ◌∙◌}
 use mathlib.Core.Bool.{cond}
 use mathlib.Core.List.{List, [], ◌∷◌, ◌++◌, append_assoc, append-nil}
-use Prim.Native.Nat.{ℕ, suc, max, ◌+◌, ◌-◌, ◌*◌, ◌%◌, ◌≤◌, ◌<◌}
+use Prim.Native.Nat.{ℕ, suc, max, ◌+◌, ◌*◌, ◌%◌, ◌≤◌, ◌<◌}
 use native.Mathlib.Omega.{arith}
 use native.Mathlib.Decide.{ℕ_discrete}
 use lib.Dec.{eqb}
@@ -12,12 +12,12 @@ use Rattle.words.specs.Kinds.{upper_half, var_word}
 use Rattle.words.specs.Words.{put_w, paste_w}
 use Rattle.words.proofs.Laws.{paste_w-snoc, put_w-paste, length-put_w}
 use Rattle.words.proofs.Tables.{paste-over, over-mid}
-use Rattle.monomial.specs.Monomial.{bias, Canonical, pow, vars_of, monomial_of}
+use Rattle.monomial.specs.Monomial.{bias, Canonical, vars_of, monomial_of}
 use Rattle.monomial.specs.Operations.{met, kind_of, powers, result_words}
 use Rattle.monomial.specs.Walk.{power_at, past}
 use Rattle.monomial.specs.declared.ordered_ops.Op.{Op}
 use Rattle.monomial.specs.declared.ordered_ops.Op.TheVariants.{Gcd, Product, Quotient, Ratio}
-use Rattle.monomial.proofs.Powers.{InRange, powers-in-range, vars-none, vars-some, vars-skip, vars-nil, vars-length}
+use Rattle.monomial.proofs.Powers.{powers-in-range, vars-none, vars-some, vars-skip, vars-nil, vars-length}
 use Rattle.monomial.proofs.Walks.{Rest, within, Turn, turn, Top, top, done-a, done-b}
 
 -- two absent variables meet in an absent one

@@ -1,16 +1,14 @@
 -- What a walk over a canonical list knows at a place of it. Every walk over one or two products goes by these. Assumes nothing.
 use mathlib.Core.Path.{◌≡◌, refl, sym, ap, ◌∙◌}
-use mathlib.Core.Bool.{cond}
-use mathlib.Core.List.{List, [], ◌∷◌}
+use mathlib.Core.List.{List, ◌∷◌}
 use mathlib.Core.Logic.{◌⊎◌, inl, inr}
 use Prim.Native.Nat.{ℕ, suc, max, ◌+◌, ◌-◌, ◌*◌, ◌≤◌, ◌<◌}
 use native.Mathlib.Omega.{arith}
 use native.Mathlib.Decide.{ℕ_discrete, dec_le}
-use lib.Dec.{eqb}
 use lib.ListN.{length, get_or, drop, length-drop}
 use Rattle.words.proofs.Laws.{word-and-rest}
 use borrow.Author.Tests.{eq-eqb, ne_eqb}
-use Rattle.words.specs.Kinds.{kind, payload, ident, power, upper_half}
+use Rattle.words.specs.Kinds.{kind, ident, power, upper_half}
 use Rattle.monomial.specs.Monomial.{bias, Canonical, pow}
 use Rattle.monomial.specs.Walk.{power_at, past}
 use Rattle.monomial.proofs.Canon.{IsVar, IsEnd, Canon, canon-of, canon-some, weaken, lower}

@@ -1,11 +1,11 @@
 -- Comparisons that are total orders, and how they are put together. Assumes nothing.
 use mathlib.Core.Path.{◌≡◌, refl, sym, ap, ◌∙◌}
-use Prim.Native.Nat.{ℕ, zero, suc, ◌<◌}
+use Prim.Native.Nat.{ℕ, zero, suc}
 use native.Mathlib.Omega.{arith}
 use Rattle.monomial_ordering.specs.Order.{compare, and_then, total, revlex, grevlex}
 use Rattle.monomial_ordering.specs.declared.CmpOrd.{CmpOrd}
 use Rattle.monomial_ordering.specs.declared.CmpOrd.TheVariants.{Less, Equal, Greater}
-use Rattle.monomial_ordering.proofs.Orders.{Trichotomy, less, equal, greater, trichotomy, compare-less, compare-equal, compare-greater, revlex-zero, revlex-suc}
+use Rattle.monomial_ordering.proofs.Orders.{Trichotomy, less, equal, greater, trichotomy, compare-less, compare-equal, compare-greater}
 
 abbrev pub flip : CmpOrd → CmpOrd
 flip Less = Greater

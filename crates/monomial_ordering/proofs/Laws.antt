@@ -2,10 +2,9 @@
 use mathlib.Core.Path.{◌≡◌, refl, sym, ◌∙◌}
 use mathlib.Core.List.{List}
 use mathlib.Core.Logic.{◌↔◌}
-use Prim.Native.Nat.{ℕ, zero, suc, ◌-◌, ◌<◌}
+use Prim.Native.Nat.{ℕ, zero, suc, ◌<◌}
 use native.Mathlib.Omega.{arith}
 use native.Mathlib.Decide.{ℕ_discrete, dec_le}
-use Rattle.words.specs.Words.{words}
 use Rattle.monomial.specs.Monomial.{Canonical, pow}
 use Rattle.monomial_ordering.specs.Order.{compare, and_then, total, revlex, grevlex, order}
 use Rattle.monomial_ordering.specs.declared.CmpOrd.{CmpOrd}

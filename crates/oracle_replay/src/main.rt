@@ -10,6 +10,7 @@
 ghost use Rattle.std.specs.Prelude.{◌≤◌, length};
 
 use monomial_work::Work;
+use std::io;
 
 // A record's numbers.
 #[derive(Clone, Copy)]
@@ -36,12 +37,10 @@ fn holds(out: &[u8; 704], after: &[u8]) -> bool {
     if 704 < after.len() {
         return false;
     }
-    let mut i: usize = 0;
-    while i < 704 {
+    for i in 0..704 {
         if out[i] != expected(after, i) {
             return false;
         }
-        i += 1;
     }
     true
 }
@@ -88,7 +87,7 @@ fn update(c: Head, a: &[u8], b: &[u8], after: &[u8]) -> bool {
     if 704 < n {
         return false;
     }
-    bytes::copy(a, &mut out);
+    out[..n].copy_from_slice(a);
     let r = divmask_work::divisor_index_divmask_update(c.variables, &mut out[..n], b);
     if r != c.number {
         return false;
@@ -118,7 +117,7 @@ fn comparer(c: Head, a: &[u8], b: &[u8], after: &[u8]) -> bool {
     if 704 < n {
         return false;
     }
-    bytes::copy(a, &mut out);
+    out[..n].copy_from_slice(a);
     let r = label_work::divisor_index_fast_compare_get_comparer(&mut out[..n], c.variables, b);
     if r / 4294967296 != c.number as u64 {
         return false;
@@ -135,7 +134,7 @@ fn rebuild(c: Head, a: &[u8], after: &[u8]) -> bool {
     if 704 < n {
         return false;
     }
-    bytes::copy(a, &mut out);
+    out[..n].copy_from_slice(a);
     let r = label_work::divisor_index_fast_compare_rebuild(&mut out[..n]);
     if r != c.number {
         return false;
@@ -255,38 +254,36 @@ fn unread(s: &[u8]) -> usize {
     }
 }
 
-fn line(name: &[u8], s: &[u8], operation: u32) {
+fn line(rt: &impl Print, name: &[u8], s: &[u8], operation: u32) -> io::Result<()> {
     let tally = replay(s, operation);
-    io::write_all(1, name);
-    io::write_all(1, b": ");
-    io::print_decimal(1, tally.vectors as u64);
-    io::write_all(1, b" vectors, ");
-    io::print_decimal(1, tally.differences as u64);
-    io::write_all(1, b" differences\n");
+    rt.write_all(name)?;
+    println!(rt;
+        ": {} vectors, {} differences",
+        tally.vectors, tally.differences
+    )
 }
 
-fn lines(s: &[u8]) {
-    line(b"gcd", s, 0);
-    line(b"whole_division", s, 1);
-    line(b"divides", s, 2);
-    line(b"fraction_division", s, 3);
-    line(b"mul", s, 4);
-    line(b"eq", s, 5);
-    line(b"ord", s, 6);
-    line(b"eq_ratio", s, 7);
-    line(b"ord_ratio", s, 8);
-    line(b"mask", s, 9);
-    line(b"mask_divides", s, 10);
-    line(b"update", s, 11);
-    line(b"growth", s, 12);
-    line(b"get_comparer", s, 13);
-    line(b"rebuild", s, 14);
+fn lines(rt: &impl Print, s: &[u8]) -> io::Result<()> {
+    line(rt, b"gcd", s, 0)?;
+    line(rt, b"whole_division", s, 1)?;
+    line(rt, b"divides", s, 2)?;
+    line(rt, b"fraction_division", s, 3)?;
+    line(rt, b"mul", s, 4)?;
+    line(rt, b"eq", s, 5)?;
+    line(rt, b"ord", s, 6)?;
+    line(rt, b"eq_ratio", s, 7)?;
+    line(rt, b"ord_ratio", s, 8)?;
+    line(rt, b"mask", s, 9)?;
+    line(rt, b"mask_divides", s, 10)?;
+    line(rt, b"update", s, 11)?;
+    line(rt, b"growth", s, 12)?;
+    line(rt, b"get_comparer", s, 13)?;
+    line(rt, b"rebuild", s, 14)
 }
 
-fn main() {
+fn main(rt: HostRuntime) -> io::Result<()> {
     let mut buf = [0u8; 81920];
-    let n = io::read_full(0, &mut buf);
-    lines(&buf[..n]);
-    io::print_decimal(1, unread(&buf[..n]) as u64);
-    io::write_all(1, b" bytes unread\n");
+    let n = program_io::read_full(&mut rt.reader(), &mut buf)?;
+    lines(&rt, &buf[..n])?;
+    println!(rt; "{} bytes unread", unread(&buf[..n]))
 }

@@ -1,9 +1,9 @@
 -- The limits of a query, written. Assumes nothing.
 use mathlib.Core.Path.{◌≡◌, refl, sym, ap, ◌∙◌}
-use mathlib.Core.Bool.{Bool, true, false}
+use mathlib.Core.Bool.{true, false}
 use mathlib.Core.List.{List}
 use mathlib.Core.Logic.{◌⊎◌, inl, inr}
-use Prim.Native.Nat.{ℕ, ◌+◌, ◌*◌, ◌/◌, ◌^◌, ◌≤◌, ◌<◌}
+use Prim.Native.Nat.{ℕ, ◌+◌, ◌*◌, ◌^◌, ◌≤◌, ◌<◌}
 use native.Mathlib.Decide.{ℕ_discrete, dec_le}
 use native.Mathlib.Omega.{arith}
 use lib.ListN.{length, get_or}
@@ -11,7 +11,7 @@ use lib.Seq.{get_or-set_same, get_or-set_other}
 use borrow.Author.Tests.{le-leb, lt-leb}
 use Rattle.words.specs.Kinds.{kind, ident, power}
 use Rattle.words.specs.Words.{words, put_w, paste_w}
-use Rattle.words.specs.Tables.{part, zeros}
+use Rattle.words.specs.Tables.{zeros}
 use Rattle.words.proofs.Laws.{length-words, words-put_w}
 use Rattle.words.proofs.Tables.{part-get, length-zeros, zeros-get, small-zeros}
 use Rattle.words.proofs.Pasting.{part-pasted, get_after}

@@ -4,35 +4,35 @@
 
 ghost use Rattle.std.specs.Prelude.{◌≤◌, length};
 
-fn line(w: u64) {
-    io::print_hex(1, w, 8);
-    io::write_all(1, b"\n");
+use std::io;
+
+fn line(rt: &impl Print, w: u64) -> io::Result<()> {
+    println!(rt; "{w:08x}")
 }
 
 // A line for each word.
-fn lines(answers: &[u8]) {
+fn lines(rt: &impl Print, answers: &[u8]) -> io::Result<()> {
     let n = answers.len() / 4;
-    let mut i: usize = 0;
-    while i < n {
-        line(words::get(answers, i) as u64);
-        i += 1;
+    for i in 0..n {
+        line(rt, words::get(answers, i) as u64)?;
     }
+    Ok(())
 }
 
 // Runs the list on the image and writes the answers: at most 4,096, since each call has a word.
-fn replay(image: &mut [u8], list: &[u8])
+fn replay(rt: &impl Print, image: &mut [u8], list: &[u8]) -> io::Result<()>
     requires { length list.now ≤ 16384 }
 {
     let mut answers = [0u8; 16384];
     let r = divisor_index::divisor_index_run(image, list, &mut answers);
     if r != 0 {
-        return line(0x50000000 + r as u64);
+        return line(rt, 0x50000000 + r as u64);
     }
     let n = 4 * call_list::count(list);
-    lines(&answers[..n]);
+    lines(rt, &answers[..n])
 }
 
-fn main() {
+fn main(rt: HostRuntime) -> io::Result<()> {
     let mut image = [0u8; 16384];
     divisor_index::divisor_index_open(
         0,
@@ -42,6 +42,6 @@ fn main() {
         &mut image,
     );
     let mut list = [0u8; 16384];
-    let n = io::read_full(0, &mut list);
-    replay(&mut image, &list[..n]);
+    let n = program_io::read_full(&mut rt.reader(), &mut list)?;
+    replay(&rt, &mut image, &list[..n])
 }

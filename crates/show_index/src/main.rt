@@ -2,19 +2,20 @@
 // their labels, and the tree.
 #![tactic(auto)]
 
-ghost use Rattle.std.specs.Prelude.{◌+◌, ◌*◌, ◌≤◌, ◌<◌, length};
+ghost use Rattle.std.specs.Prelude.{◌+◌, ◌*◌, ◌≤◌, ◌<◌, IfOk, length};
 ghost use Rattle.index_image.specs.Shape as at;
 
 use index_image::head::Head;
 use index_image::{Shape, fields};
+use std::io;
 
 // ---- monomials, signatures and ratios as text: x3·x2^2, x1·e2 with signature index 2, x3·e2/(x2^2·x1)
-fn text(s: &[u8]) {
-    io::write_all(1, s);
+fn text(rt: &impl Print, s: &[u8]) -> io::Result<()> {
+    rt.write_all(s)
 }
 
-fn number(n: u64) {
-    io::print_decimal(1, n);
+fn number(rt: &impl Print, n: u64) -> io::Result<()> {
+    print!(rt; "{n}")
 }
 
 // The power above the fraction bar of a ratio's variable, 0 where it stands below it.
@@ -36,40 +37,41 @@ fn power_on(w: u32, under: bool) -> u32 {
     if under { 0 } else { p }
 }
 
-fn times(first: bool) {
+fn times(rt: &impl Print, first: bool) -> io::Result<()> {
     if !first {
-        text(b"\xC2\xB7");
+        text(rt, b"\xC2\xB7")?;
     }
+    Ok(())
 }
 
 // Writes a power of the variable of w, if it is not 0, and returns how many factors that are.
-fn factor(w: u32, p: u32, first: bool) -> usize
-    ensures { result ≤ 1 }
+fn factor(rt: &impl Print, w: u32, p: u32, first: bool) -> io::Result<usize>
+    ensures { IfOk result (λ n. n ≤ 1) }
 {
     if p == 0 {
-        return 0;
+        return Ok(0);
     }
-    times(first);
-    text(b"x");
-    number(words::id(w) as u64);
+    times(rt, first)?;
+    text(rt, b"x")?;
+    number(rt, words::id(w) as u64)?;
     if 1 < p {
-        text(b"^");
-        number(p as u64);
+        text(rt, b"^")?;
+        number(rt, p as u64)?;
     }
-    1
+    Ok(1)
 }
 
 // Writes the factors on a side of the fraction bar, from first variable word to end word, and returns how many there are.
-fn factors(m: &[u8], under: bool) -> usize {
+fn factors(rt: &impl Print, m: &[u8], under: bool) -> io::Result<usize> {
     let end = m.len() / 4;
     let mut n: usize = 0;
     let mut i: usize = 0;
     while i + 1 < end {
         let w = words::get(m, i);
-        n += factor(w, power_on(w, under), n == 0);
+        n += factor(rt, w, power_on(w, under), n == 0)?;
         i += 1;
     }
-    n
+    Ok(n)
 }
 
 fn one_if(b: bool) -> usize
@@ -90,34 +92,35 @@ fn count_under(m: &[u8]) -> usize {
     n
 }
 
-fn show_monomial(m: &[u8]) {
-    if factors(m, false) == 0 {
-        text(b"1");
+fn show_monomial(rt: &impl Print, m: &[u8]) -> io::Result<()> {
+    if factors(rt, m, false)? == 0 {
+        text(rt, b"1")?;
     }
+    Ok(())
 }
 
 // A signature, or what of a ratio stands above the fraction bar.
-fn show_signature(index: u32, m: &[u8]) {
-    let n = factors(m, false);
-    times(n == 0);
-    text(b"e");
-    number(index as u64);
+fn show_signature(rt: &impl Print, index: u32, m: &[u8]) -> io::Result<()> {
+    let n = factors(rt, m, false)?;
+    times(rt, n == 0)?;
+    text(rt, b"e")?;
+    number(rt, index as u64)
 }
 
-fn show_ratio(index: u32, m: &[u8]) {
-    show_signature(index, m);
+fn show_ratio(rt: &impl Print, index: u32, m: &[u8]) -> io::Result<()> {
+    show_signature(rt, index, m)?;
     let n = count_under(m);
     if n == 0 {
-        return;
+        return Ok(());
     }
-    text(b"/");
+    text(rt, b"/")?;
     if n == 1 {
-        factors(m, true);
-        return;
+        factors(rt, m, true)?;
+        return Ok(());
     }
-    text(b"(");
-    factors(m, true);
-    text(b")");
+    text(rt, b"(")?;
+    factors(rt, m, true)?;
+    text(rt, b")")
 }
 
 // ---- calls of a ratio index: written into a list, and shown with their answers
@@ -240,127 +243,131 @@ fn put_call(
 }
 
 // A signature and a leading monomial.
-fn show_signed(index: u32, m: &[u8], lm: &[u8]) {
-    show_signature(index, m);
-    text(b", lm ");
-    show_monomial(lm);
+fn show_signed(rt: &impl Print, index: u32, m: &[u8], lm: &[u8]) -> io::Result<()> {
+    show_signature(rt, index, m)?;
+    text(rt, b", lm ")?;
+    show_monomial(rt, lm)
 }
 
 // A leading monomial, and how ratios are compared with a ratio.
-fn show_compared(lm: &[u8], how: &[u8], index: u32, m: &[u8]) {
-    show_monomial(lm);
-    text(how);
-    show_ratio(index, m);
+fn show_compared(rt: &impl Print, lm: &[u8], how: &[u8], index: u32, m: &[u8]) -> io::Result<()> {
+    show_monomial(rt, lm)?;
+    text(rt, how)?;
+    show_ratio(rt, index, m)
 }
 
 // A call in words: its number, index, and the two monomials behind that, the first of which can be a ratio.
-fn question(call: u32, index: u32, m: &[u8], lm: &[u8]) {
+fn question(rt: &impl Print, call: u32, index: u32, m: &[u8], lm: &[u8]) -> io::Result<()> {
     match call {
         INSERT => {
-            text(b"insert ");
-            show_signed(index, m, lm);
+            text(rt, b"insert ")?;
+            show_signed(rt, index, m, lm)?;
         }
         REDUCER => {
-            text(b"reducer of ");
-            show_compared(lm, b", ratio not above ", index, m);
+            text(rt, b"reducer of ")?;
+            show_compared(rt, lm, b", ratio not above ", index, m)?;
         }
         HIGH => {
-            text(b"high base divisor of ");
-            show_compared(lm, b", ratio above ", index, m);
+            text(rt, b"high base divisor of ")?;
+            show_compared(rt, lm, b", ratio above ", index, m)?;
         }
         LOW => {
-            text(b"low base divisor of ");
-            show_signature(index, m);
+            text(rt, b"low base divisor of ")?;
+            show_signature(rt, index, m)?;
         }
         _ => {
-            text(b"singular: ");
-            show_signed(index, m, lm);
+            text(rt, b"singular: ")?;
+            show_signed(rt, index, m, lm)?;
         }
     }
+    Ok(())
 }
 
-fn yes_or_no(payload: u32) {
+fn yes_or_no(rt: &impl Print, payload: u32) -> io::Result<()> {
     if payload == 1 {
-        text(b"yes");
+        text(rt, b"yes")?;
     } else {
-        text(b"no");
+        text(rt, b"no")?;
     }
+    Ok(())
 }
 
 // The entry that a search found, its number one less than the payload.
-fn entry(payload: u32) {
+fn entry(rt: &impl Print, payload: u32) -> io::Result<()> {
     if payload == 0 {
-        return text(b"none");
+        return text(rt, b"none");
     }
-    text(b"entry ");
-    number((payload - 1) as u64);
+    text(rt, b"entry ")?;
+    number(rt, (payload - 1) as u64)
 }
 
-fn reducer(payload: u32) {
+fn reducer(rt: &impl Print, payload: u32) -> io::Result<()> {
     if payload == 0 {
-        return text(b"none");
+        return text(rt, b"none");
     }
     if payload < SINGULAR_REDUCER {
-        entry(payload);
-        return text(b", regular");
+        entry(rt, payload)?;
+        return text(rt, b", regular");
     }
-    entry(payload - SINGULAR_REDUCER);
-    text(b", singular");
+    entry(rt, payload - SINGULAR_REDUCER)?;
+    text(rt, b", singular")
 }
 
-fn answer(call: u32, w: u32) {
+fn answer(rt: &impl Print, call: u32, w: u32) -> io::Result<()> {
     let payload = words::payload(w);
     if words::kind(w) == 5 {
-        text(b"refused, ");
-        return number(payload as u64);
+        text(rt, b"refused, ")?;
+        return number(rt, payload as u64);
     }
     match call {
         INSERT => {
-            text(b"entry ");
-            number(payload as u64);
+            text(rt, b"entry ")?;
+            number(rt, payload as u64)?;
         }
-        REDUCER => reducer(payload),
-        SINGULAR => yes_or_no(payload),
-        _ => entry(payload),
+        REDUCER => reducer(rt, payload)?,
+        SINGULAR => yes_or_no(rt, payload)?,
+        _ => entry(rt, payload)?,
     }
+    Ok(())
 }
 
 // The line of the call at word `at`, whose answer is w.
-fn call_line(list: &[u8], at: usize, w: u32)
+fn call_line(rt: &impl Print, list: &[u8], at: usize, w: u32) -> io::Result<()>
     requires { 4 * at + 8 ≤ length list.now }
 {
     let call = words::payload(words::get(list, at));
     let index = words::payload(words::get(list, at + 1));
     let m = monomial::known_at(list, at + 2);
     let next = at + 2 + m.len() / 4;
-    question(call, index, m, monomial::known_at(list, next));
-    text(b": ");
-    answer(call, w);
-    text(b"\n");
+    question(rt, call, index, m, monomial::known_at(list, next))?;
+    text(rt, b": ")?;
+    answer(rt, call, w)?;
+    text(rt, b"\n")
 }
 
 // Writes a line if a call begins at word `at`, and returns how many lines that are.
-fn line_at(list: &[u8], at: usize, w: u32) -> usize
+fn line_at(rt: &impl Print, list: &[u8], at: usize, w: u32) -> io::Result<usize>
     requires { 4 * at + 8 ≤ length list.now }
-    ensures { result ≤ 1 }
+    ensures { IfOk result (λ k. k ≤ 1) }
 {
     if words::kind(words::get(list, at)) != 6 {
-        return 0;
+        return Ok(0);
     }
-    call_line(list, at, w);
-    1
+    call_line(rt, list, at, w)?;
+    Ok(1)
 }
 
 // A line for each call in the first n words of the list, with its answer.
-fn lines(list: &[u8; 16384], n: usize, answers: &[u8; 16384])
+fn lines(rt: &impl Print, list: &[u8; 16384], n: usize, answers: &[u8; 16384]) -> io::Result<()>
     requires { n ≤ 4096 }
 {
     let mut k: usize = 0;
     let mut at: usize = 0;
     while at + 1 < n {
-        k += line_at(list, at, words::get(answers, k));
+        k += line_at(rt, list, at, words::get(answers, k))?;
         at += 1;
     }
+    Ok(())
 }
 
 // ---- what an image holds, read from its words alone: the label map of a ratio index, and the tree
@@ -392,78 +399,76 @@ fn row_of(image: &[u8], s: Shape, e: usize) -> u32
 }
 
 // The ratio in row r of the label map, and its label.
-fn labelled(image: &[u8], s: Shape, r: u32)
+fn labelled(rt: &impl Print, image: &[u8], s: Shape, r: u32) -> io::Result<()>
     requires { at.InRange s }
 {
     let row = label_row_at(s, r);
     let index = words::payload(word(image, row));
-    show_ratio(index, monomial::known_at(image, row + 1));
-    text(b", label ");
+    show_ratio(rt, index, monomial::known_at(image, row + 1))?;
+    text(rt, b", label ")?;
     let label = word(image, row + (s.variables + fields::LABEL));
-    io::print_hex(1, label as u64, 8);
+    print!(rt; "{label:08x}")
 }
 
-fn label_line(image: &[u8], s: Shape, r: u32)
+fn label_line(rt: &impl Print, image: &[u8], s: Shape, r: u32) -> io::Result<()>
     requires { at.InRange s }
 {
-    text(b"  ");
-    labelled(image, s, r);
-    text(b"\n");
+    text(rt, b"  ")?;
+    labelled(rt, image, s, r)?;
+    text(rt, b"\n")
 }
 
 // A line for each ratio, in rising order.
-fn labels(image: &[u8], s: Shape)
+fn labels(rt: &impl Print, image: &[u8], s: Shape) -> io::Result<()>
     requires { at.InRange s }
 {
     let n = word(image, s.labels_at() + fields::ROWS) as usize;
     let order = label_row_at(s, s.capacity as u32);
-    let mut i: usize = 0;
-    while i < n {
-        label_line(image, s, word(image, order + i));
-        i += 1;
+    for i in 0..n {
+        label_line(rt, image, s, word(image, order + i))?;
     }
+    Ok(())
 }
 
 // What a branch on dimension d parts its entries by: the ratio of an entry, or a power of a variable.
-fn split(image: &[u8], s: Shape, d: u32, key: u32)
+fn split(rt: &impl Print, image: &[u8], s: Shape, d: u32, key: u32) -> io::Result<()>
     requires { at.InRange s }
 {
     if d == 0 {
-        text(b", split by ratio at ");
-        labelled(image, s, row_of(image, s, key as usize));
-        return;
+        text(rt, b", split by ratio at ")?;
+        labelled(rt, image, s, row_of(image, s, key as usize))?;
+        return Ok(());
     }
-    text(b", split by x");
-    number((d - 1) as u64);
-    text(b" at ");
-    number(key as u64);
+    text(rt, b", split by x")?;
+    number(rt, (d - 1) as u64)?;
+    text(rt, b" at ")?;
+    number(rt, key as u64)
 }
 
-fn two_spaces() {
-    text(b"  ");
+fn two_spaces(rt: &impl Print) -> io::Result<()> {
+    text(rt, b"  ")
 }
 
-fn indent(depth: usize) {
-    let mut i: usize = 0;
-    while i < depth {
-        two_spaces();
-        i += 1;
+fn indent(rt: &impl Print, depth: usize) -> io::Result<()> {
+    for _ in 0..depth {
+        two_spaces(rt)?;
     }
+    Ok(())
 }
 
 // The line of the node whose row begins at word `row`.
-fn line(image: &[u8], s: Shape, row: usize)
+fn line(rt: &impl Print, image: &[u8], s: Shape, row: usize) -> io::Result<()>
     requires in_range { at.InRange s }
     requires row_bound { row ≤ 1099511627776 }
 {
-    number(word(image, row + fields::COUNT) as u64);
-    text(b" entries, gcd ");
-    show_monomial(monomial::known_at(image, row + fields::GCD));
+    number(rt, word(image, row + fields::COUNT) as u64)?;
+    text(rt, b" entries, gcd ")?;
+    show_monomial(rt, monomial::known_at(image, row + fields::GCD))?;
     let tag = word(image, row);
     if tag != 0 {
-        split(image, s, tag - 1, word(image, row + fields::KEY));
+        split(rt, image, s, tag - 1, word(image, row + fields::KEY))?;
     }
-    text(b"\n");
+    text(rt, b"\n")
 }
 
 // Where row k of the nodes begins.
@@ -476,28 +481,28 @@ fn node_row_at(s: Shape, k: usize) -> usize
 }
 
 // Row k of the nodes and all rows below it, the less side first.
-fn below(image: &[u8], s: Shape, k: usize, depth: usize)
+fn below(rt: &impl Print, image: &[u8], s: Shape, k: usize, depth: usize) -> io::Result<()>
     requires in_range { at.InRange s }
     requires depth_bound { depth ≤ k + 1 }
 {
     if s.nodes <= k {
-        return;
+        return Ok(());
     }
     let row = node_row_at(s, k);
-    indent(depth);
-    line(image, s, row);
+    indent(rt, depth)?;
+    line(rt, image, s, row)?;
     if word(image, row) == 0 {
-        return;
+        return Ok(());
     }
     let skip = word(image, row + fields::SKIP) as usize;
-    below(image, s, k + 1, depth + 1);
-    below(image, s, k + 1 + skip, depth + 1);
+    below(rt, image, s, k + 1, depth + 1)?;
+    below(rt, image, s, k + 1 + skip, depth + 1)
 }
 
-fn tree(image: &[u8], s: Shape)
+fn tree(rt: &impl Print, image: &[u8], s: Shape) -> io::Result<()>
     requires { at.InRange s }
 {
-    below(image, s, 0, 1);
+    below(rt, image, s, 0, 1)
 }
 
 // ---- the two indexes that are shown
@@ -564,22 +569,21 @@ fn many_inserts(list: &mut [u8; 16384]) -> usize
     ensures { result ≤ 4096 }
 {
     let mut at: usize = 0;
-    let mut i: u8 = 0;
-    while i < 240 {
+    for i in 0..240 {
         let sign = Powers(i % 7, 0, 0, 0);
         let lm = Powers(0, i % 5, i / 5 % 6, i / 30);
         at = put_call(list, at, INSERT, i % 3, sign, lm);
-        i += 1;
     }
     at
 }
 
-fn open(capacity: u32, image: &mut [u8; 65536]) {
+fn open(rt: &impl Print, capacity: u32, image: &mut [u8; 65536]) -> io::Result<()> {
     let ones = b"\x01\x00\x00\x00\x01\x00\x00\x00\x01\x00\x00\x00\x01\x00\x00\x00";
-    text(b"a ratio index of 4 variables, capacity ");
-    number(capacity as u64);
-    text(b"\n");
+    text(rt, b"a ratio index of 4 variables, capacity ")?;
+    number(rt, capacity as u64)?;
+    text(rt, b"\n")?;
     divisor_index::divisor_index_open(1, 4, capacity, ones, image);
+    Ok(())
 }
 
 // Runs the list, which has n words.
@@ -598,60 +602,68 @@ fn quiet_run(image: &mut [u8; 65536], list: &[u8; 16384], n: usize)
 }
 
 // Runs the list and shows its calls with their answers.
-fn show_run(image: &mut [u8; 65536], list: &[u8; 16384], n: usize)
+fn show_run(
+    rt: &impl Print,
+    image: &mut [u8; 65536],
+    list: &[u8; 16384],
+    n: usize,
+) -> io::Result<()>
     requires { n ≤ 4096 }
 {
     let mut answers = [0u8; 16384];
     run(image, list, n, &mut answers);
-    lines(list, n, &answers);
+    lines(rt, list, n, &answers)
 }
 
-fn show_labels(image: &[u8; 65536]) {
-    text(b"its ratios, rising\n");
+fn show_labels(rt: &impl Print, image: &[u8; 65536]) -> io::Result<()> {
+    text(rt, b"its ratios, rising\n")?;
     match index_image::head::read(image) {
-        Head::Image(s) => labels(image, s),
-        Head::Bad => text(b"no image\n"),
+        Head::Image(s) => labels(rt, image, s)?,
+        Head::Bad => text(rt, b"no image\n")?,
     }
+    Ok(())
 }
 
-fn show_tree(image: &[u8; 65536]) {
-    text(b"its tree, the less side first\n");
+fn show_tree(rt: &impl Print, image: &[u8; 65536]) -> io::Result<()> {
+    text(rt, b"its tree, the less side first\n")?;
     match index_image::head::read(image) {
-        Head::Image(s) => tree(image, s),
-        Head::Bad => text(b"no image\n"),
+        Head::Image(s) => tree(rt, image, s)?,
+        Head::Bad => text(rt, b"no image\n")?,
     }
+    Ok(())
 }
 
-fn linkage() {
+fn linkage(rt: &impl Print) -> io::Result<()> {
     let mut image = [0u8; 65536];
     let mut list = [0u8; 16384];
-    open(5, &mut image);
+    open(rt, 5, &mut image)?;
     let inserted = inserts(&mut list);
     let reduced = reducers(&mut list, inserted);
     let n = criteria(&mut list, reduced);
-    show_run(&mut image, &list, n);
-    show_labels(&image);
-    show_tree(&image);
+    show_run(rt, &mut image, &list, n)?;
+    show_labels(rt, &image)?;
+    show_tree(rt, &image)
 }
 
 // Inserts many elements and shows the tree, then again after a search that leaves out no side of a branch.
-fn many() {
+fn many(rt: &impl Print) -> io::Result<()> {
     let mut image = [0u8; 65536];
     let mut list = [0u8; 16384];
-    open(240, &mut image);
+    open(rt, 240, &mut image)?;
     let n = many_inserts(&mut list);
     quiet_run(&mut image, &list, n);
     text(
+        rt,
         b"insert x3^(i % 7)\xC2\xB7e(i % 3), lm x2^(i % 5)\xC2\xB7x1^(i / 5 % 6)\xC2\xB7x0^(i / 30), for i from 0 to 239\n",
-    );
-    show_tree(&image);
+    )?;
+    show_tree(rt, &image)?;
     let asked = put_call(&mut list, 0, HIGH, 0, ONE, Powers(9, 9, 9, 9));
-    show_run(&mut image, &list, asked);
-    show_tree(&image);
+    show_run(rt, &mut image, &list, asked)?;
+    show_tree(rt, &image)
 }
 
-fn main() {
-    linkage();
-    text(b"\n");
-    many();
+fn main(rt: HostRuntime) -> io::Result<()> {
+    linkage(&rt)?;
+    text(&rt, b"\n")?;
+    many(&rt)
 }

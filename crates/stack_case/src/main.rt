@@ -6,32 +6,35 @@
 
 ghost use Rattle.std.specs.Prelude.{◌≤◌};
 
+use std::io;
+use std::io::Read;
+
 // The answer, asked below as many frames of 64 KiB as are wanted. Each lends its array to a read, at the end of the input, and looks at it
 // behind the call: so no compiler leaves it out.
-fn below(image: &[u8], frames: usize) -> bool
+fn below(reader: &mut impl Read, image: &[u8], frames: usize) -> io::Result<bool>
     requires { frames ≤ 1000 }
 {
     let mut used = [0u8; 65536];
-    let n = io::read_full(0, &mut used);
+    let n = program_io::read_full(reader, &mut used)?;
     if n != 0 {
-        return false;
+        return Ok(false);
     }
     if frames == 0 {
-        return index_sound::sound(image);
+        return Ok(index_sound::sound(image));
     }
-    if below(image, frames - 1) {
-        used[frames] == 0
+    if below(reader, image, frames - 1)? {
+        Ok(used[frames] == 0)
     } else {
-        false
+        Ok(false)
     }
 }
 
-fn main() {
+fn main(rt: HostRuntime) -> io::Result<()> {
     let mut image = [0u8; 327680];
-    let n = io::read_full(0, &mut image);
-    if below(&image[..n], 106) {
-        io::write_all(1, b"sound\n");
-        return;
+    let mut reader = rt.reader();
+    let n = program_io::read_full(&mut reader, &mut image)?;
+    if below(&mut reader, &image[..n], 106)? {
+        return println!(rt; "sound");
     }
-    io::write_all(1, b"not sound\n");
+    println!(rt; "not sound")
 }

@@ -1,12 +1,12 @@
 -- The laws of `specs/Words.antt`. Assumes nothing.
 use mathlib.Core.Path.{◌≡◌, refl, sym, ap, ◌∙◌}
-use Prim.Native.Nat.{ℕ, zero, suc, ◌+◌, ◌-◌, ◌*◌, ◌/◌, ◌%◌, ◌^◌, ◌≤◌, ◌<◌}
+use Prim.Native.Nat.{ℕ, zero, suc, ◌+◌, ◌*◌, ◌/◌, ◌%◌, ◌^◌, ◌≤◌, ◌<◌}
 use native.Mathlib.Omega.{arith}
 use mathlib.Core.List.{List, [], ◌∷◌, ◌++◌, append_assoc}
 use native.Mathlib.Nat.{add-zero, zero-add}
 use lib.ListN.{length, get_or, set, take, drop, take-append-drop, length-append, length-set, length-take, length-drop}
 use native.Mathlib.Numerals.{add-one}
-use lib.Seq.{drop-cons, take_all, take_at, drop_at, drop-append-add, drop-append-le, drop-drop, take-add, take-take, get_or-take, length-take-le}
+use lib.Seq.{drop-cons, take_all, take_at, drop-append-add, drop-append-le, drop-drop, take-add, take-take, get_or-take, length-take-le}
 use Rattle.words.specs.Words.{word, words, bytes, put_w, paste_w}
 
 -- 4 * (i + 1) + k, as a list's clauses see it

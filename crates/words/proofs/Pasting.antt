@@ -1,15 +1,15 @@
 -- Words pasted into bytes: what stays, and what is pasted over again. Assumes nothing.
 use mathlib.Core.Path.{◌≡◌, refl, sym, ap, ◌∙◌}
 use mathlib.Core.List.{List, [], ◌∷◌, ◌++◌, append_assoc}
-use Prim.Native.Nat.{ℕ, zero, suc, ◌+◌, ◌-◌, ◌*◌, ◌≤◌, ◌<◌}
+use Prim.Native.Nat.{ℕ, zero, suc, ◌+◌, ◌-◌, ◌*◌, ◌≤◌}
 use native.Mathlib.Omega.{arith}
 use native.Mathlib.Decide.{dec_le}
 use lib.ListN.{length, get_or, take, drop, length-append, length-take, length-drop, take-append-drop, get_or-eq_default}
-use lib.Seq.{take_at, drop_at, take-add, drop-drop, take-take, get_or-take, get_or-drop, take-append-le, drop-append-le, drop-append-add, take-append-add, length-take-le}
-use Rattle.words.specs.Words.{words, bytes, put_w, paste_w}
-use Rattle.words.specs.Tables.{part, zeros, over}
-use Rattle.words.proofs.Laws.{Bytes, Words, length-words, length-bytes, words_take, words-drop, bytes-words, words-part, length-paste_w, words-paste_w}
-use Rattle.words.proofs.Tables.{paste-over, part-add, length_part}
+use lib.Seq.{take_at, drop_at, drop-drop, take-take, get_or-take, get_or-drop, drop-append-add, take-append-add, length-take-le}
+use Rattle.words.specs.Words.{words, bytes, paste_w}
+use Rattle.words.specs.Tables.{part, over}
+use Rattle.words.proofs.Laws.{Bytes, Words, length-words, length-bytes, words_take, words-drop, bytes-words, words-part, words-paste_w}
+use Rattle.words.proofs.Tables.{paste-over}
 
 -- ---- words in front of and behind what is pasted
 front_kept : (bs : List ℕ) (at : ℕ) (ws : List ℕ) → 4 * at ≤ length bs → take at (words (paste_w bs at ws)) ≡ take at (words bs)

@@ -15,7 +15,6 @@ use Rattle.index_image.specs.Rows.{monomial_in}
 use Rattle.index_image.proofs.Gcds.{in-canonical}
 use Rattle.index_image.proofs.Reading.{front-pasted, gcd-fits, gcd-small}
 use Rattle.branch_rows.proofs.Testing.{slots-gcd}
-use borrow.Author.Rules.{rules}
 use Rattle.branch_rows.proofs.branch_gcd_ok.Goals.{After-gcd-e, Start}
 use Rattle.branch_rows.proofs.branch_gcd_ok.Goals as goal
 

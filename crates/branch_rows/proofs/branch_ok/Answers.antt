@@ -1,6 +1,5 @@
 use native.Mathlib.Omega.{arith}
 use mathlib.Core.Path.{sym, ◌∙◌}
-use borrow.Author.Rules.{rules}
 use Rattle.words.proofs.Answers.{refuse, failed, passed}
 use Rattle.branch_rows.proofs.branch_ok.Goals as goal
 

@@ -1,7 +1,6 @@
 use native.Mathlib.Omega.{arith}
 use mathlib.Core.Path.{sym, ◌∙◌}
 use borrow.Author.Tests.{lt-ltb, ltb-true, le-leb, leb-true}
-use borrow.Author.Rules.{rules}
 use Rattle.words.proofs.Answers.{refuse}
 use Rattle.branch_rows.proofs.key_ok.Goals as goal
 

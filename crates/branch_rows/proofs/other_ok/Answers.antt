@@ -6,7 +6,6 @@ use Rattle.index_image.specs.Rows.{monomial_in}
 use Rattle.branch_rows.proofs.Testing.{other-answer}
 use Rattle.index_image.proofs.Gcds.{in-canonical}
 use Rattle.monomial.proofs.Firsts.{starts-wide, starts-whole, first-whole}
-use borrow.Author.Rules.{rules}
 use Rattle.branch_rows.proofs.other_ok.Goals.{Start}
 use Rattle.branch_rows.proofs.other_ok.Goals as goal
 

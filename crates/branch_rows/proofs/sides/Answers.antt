@@ -4,7 +4,6 @@ use mathlib.Core.Path.{sym, ◌∙◌}
 use Rattle.words.specs.Words.{words}
 use Rattle.words.proofs.Laws.{length-words}
 use Rattle.branch_rows.proofs.Limiting.{cut-ratio, cut-variable}
-use borrow.Author.Rules.{rules}
 use Rattle.branch_rows.proofs.sides.Goals as goal
 
 pub label_in-l-requires : goal.label_in-l-requires

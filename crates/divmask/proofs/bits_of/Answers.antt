@@ -1,6 +1,5 @@
 use native.Mathlib.Omega.{arith}
 use borrow.Author.Tests.{lt-ltb, le-ltb}
-use borrow.Author.Rules.{rules}
 use Rattle.divmask.proofs.bits_of.Goals as goal
 
 pub returns-then-v-extra : goal.returns-then-v-extra

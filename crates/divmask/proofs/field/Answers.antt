@@ -1,11 +1,9 @@
 use lib.Pow.{pow_pos}
 use native.Mathlib.Omega.{arith}
-use native.Mathlib.Nat.{mul-le-mul, div-one}
-use mathlib.Core.Logic.{⊎_elim}
+use native.Mathlib.Nat.{mul-le-mul}
 use mathlib.Core.Path.{◌≡◌, ap, ◌∙◌}
 use Prim.Native.Nat.{ℕ, ◌≤◌, ◌*◌, ◌+◌, ◌-◌, ◌/◌, min}
 use Rattle.divmask.proofs.Parts.{most, ones, field_is, least-div}
-use borrow.Author.Rules.{rules}
 use Rattle.divmask.proofs.field.Goals.{else-top-most, then-top-most}
 use Rattle.divmask.proofs.field.Goals as goal
 

@@ -1,6 +1,5 @@
 use native.Mathlib.Omega.{arith}
 use native.Mathlib.Nat.{mul-le-mul}
-use mathlib.Core.Logic.{⊎_elim}
 use Prim.Native.Nat.{◌≤◌, ◌*◌}
 use Rattle.divmask.proofs.first_bit.Goals.{else-v-extra, then-v-extra}
 use Rattle.divmask.proofs.first_bit.Goals as goal

@@ -1,16 +1,12 @@
-use mathlib.Core.List.{List}
-use borrow.Author.Rules.{rules}
 use Rattle.monomial.proofs.Firsts.{seen, first-bytes, first-canonical}
 use native.Mathlib.Omega.{arith}
-use lib.ListN.{length}
 use native.Mathlib.Nat.{div-le_self}
 use Rattle.words.specs.Words.{words}
 use Rattle.words.proofs.Fields.{is-end-true, is-end-false}
 use Rattle.words.proofs.Laws.{length-words}
 use Rattle.monomial.proofs.Walks.{within}
-use Rattle.divmask.proofs.Masks.{mask-small, Mapping, begin, mapped, step, bits_are, stepped, Step, Stepped}
+use Rattle.divmask.proofs.Masks.{mask-small, begin, mapped, step, bits_are, stepped}
 use Rattle.monomial.specs.Monomial.{pow, first}
-use Prim.Native.Nat.{◌-◌, ℕ}
 use Rattle.divmask.proofs.map.Goals as goal
 
 -- end of helpers

@@ -1,4 +1,4 @@
-use Rattle.std.proofs.Common.{div-le_self, arith, rules}
+use Rattle.std.proofs.Common.{div-le_self, arith}
 use Rattle.divmask_table.proofs.Tabling.{made}
 use Rattle.divmask.proofs.Masks.{bits_are}
 use Rattle.divmask.proofs.Places.{in_all, first-closed}

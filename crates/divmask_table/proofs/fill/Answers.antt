@@ -1,7 +1,7 @@
-use Rattle.std.proofs.Common.{◌≡◌, ◌+◌, ◌-◌, ◌*◌, ◌/◌, ◌%◌, ◌≤◌, length, sym, refl, ap, ◌∙◌, arith}
-use Rattle.words.specs.Words.{words, put_w}
+use Rattle.std.proofs.Common.{◌+◌, ◌*◌, ◌/◌, ◌%◌, length, sym, refl, ap, ◌∙◌, arith}
+use Rattle.words.specs.Words.{put_w}
 use Rattle.words.proofs.Laws.{length-put_w}
-use Rattle.divmask_table.proofs.Tabling.{Filled, filled_none, fill_more, tabled}
+use Rattle.divmask_table.proofs.Tabling.{filled_none, fill_more, tabled}
 use Rattle.divmask_table.proofs.fill.Goals as goal
 
 pub overflow_mul-n : goal.overflow_mul-n

@@ -1,7 +1,6 @@
-use Rattle.std.proofs.Common.{◌≡◌, ◌+◌, ◌-◌, ◌*◌, ◌/◌, ◌%◌, ◌≤◌, length, sym, refl, ap, ◌∙◌, arith}
-use Rattle.words.specs.Words.{words, put_w}
-use Rattle.words.proofs.Laws.{length-put_w}
-use Rattle.divmask_table.proofs.Tabling.{Filled, filled_none, fill_more, tabled}
+use Rattle.std.proofs.Common.{◌≡◌, ◌-◌, ◌*◌, ◌≤◌, length}
+use Rattle.words.specs.Words.{words}
+use Rattle.divmask_table.proofs.Tabling.{Filled}
 use Rattle.divmask_table.proofs.fill.Given as goal
 
 abbrev pub invariant-loop-k : goal.invariant-loop-k

@@ -1,8 +1,7 @@
-use Rattle.std.proofs.Common.{◌≡◌, ◌-◌, sym, refl, ◌∙◌, arith}
-use borrow.Author.Tests.{not-true, not-false}
+use Rattle.std.proofs.Common.{◌-◌, sym, refl, ◌∙◌, arith}
 use Rattle.words.specs.Words.{words}
 use Rattle.words.proofs.Laws.{length-words}
-use Rattle.divmask_table.proofs.Tabling.{Going, going, ran_out, judged, wrong-end, no_power, known, go_on}
+use Rattle.divmask_table.proofs.Tabling.{going, ran_out, judged, wrong-end, no_power, known, go_on}
 use Rattle.divmask_table.proofs.judge.Goals as goal
 
 pub loop-i-init : goal.loop-i-init

@@ -1,8 +1,6 @@
-use Rattle.std.proofs.Common.{◌≡◌, ◌-◌, sym, refl, ◌∙◌, arith}
-use borrow.Author.Tests.{not-true, not-false}
+use Rattle.std.proofs.Common.{◌-◌}
 use Rattle.words.specs.Words.{words}
-use Rattle.words.proofs.Laws.{length-words}
-use Rattle.divmask_table.proofs.Tabling.{Going, going, ran_out, judged, wrong-end, no_power, known, go_on}
+use Rattle.divmask_table.proofs.Tabling.{Going}
 use Rattle.divmask_table.proofs.judge.Given as goal
 
 abbrev pub invariant-loop-i : goal.invariant-loop-i

@@ -1,4 +1,4 @@
-use Rattle.std.proofs.Common.{◌∙◌, rules}
+use Rattle.std.proofs.Common.{◌∙◌}
 use Rattle.divmask_table.proofs.put_pair.Goals as goal
 
 pub returns : goal.returns

@@ -1,6 +1,5 @@
 use mathlib.Core.Path.{sym, ap, ◌∙◌}
 use Rattle.divmask_work.specs.Doors.{test_number}
-use borrow.Author.Rules.{rules}
 use Rattle.divmask_work.proofs.divisor_index_divmask_divides.Goals as goal
 
 pub returns-in-NotDivisible : goal.returns-in-NotDivisible

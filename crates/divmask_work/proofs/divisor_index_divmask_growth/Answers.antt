@@ -1,15 +1,13 @@
 use native.Mathlib.Omega.{arith}
 use mathlib.Core.Path.{◌≡◌, refl, sym, ◌∙◌}
-use borrow.Author.Tests.{not-true, not-false, le-leb, lt-leb}
+use borrow.Author.Tests.{le-leb, lt-leb}
 use lib.ListN.{length}
 use Rattle.divmask.proofs.Growth.{lent-maxima}
 use mathlib.Core.Bool.{cond}
-use mathlib.Core.Logic.{⊎_elim}
 use Rattle.words.specs.Words.{words}
 use Rattle.divmask.specs.Tracker.{grown}
 use Rattle.divmask_work.proofs.Served.{put_one}
 use Rattle.divmask_work.specs.Doors.{growth_number, growth_bytes}
-use borrow.Author.Rules.{rules}
 use Rattle.divmask_work.proofs.divisor_index_divmask_growth.Goals.{else-has_grown_beyond_percentage, then-has_grown_beyond_percentage}
 use Rattle.divmask_work.proofs.divisor_index_divmask_growth.Goals as goal
 

@@ -3,13 +3,12 @@ use Rattle.divmask.proofs.Masks.{mask-whole}
 use Rattle.words.specs.Words.{words}
 use native.Mathlib.Omega.{arith}
 use mathlib.Core.Path.{refl, sym, ◌∙◌}
-use borrow.Author.Tests.{not-true, not-false, le-leb, lt-leb}
+use borrow.Author.Tests.{le-leb, lt-leb}
 use lib.ListN.{length}
 use Rattle.divmask.proofs.Growth.{lent-maxima}
 use Rattle.monomial.proofs.Laws.{lent-canonical}
 use Rattle.divmask_work.proofs.Served.{put_one}
 use Rattle.divmask_work.specs.Doors.{mask_number, mask_bytes}
-use borrow.Author.Rules.{rules}
 use Rattle.divmask_work.proofs.divisor_index_divmask_mask.Goals as goal
 
 pub returns-then-not-maxima_good : goal.returns-then-not-maxima_good

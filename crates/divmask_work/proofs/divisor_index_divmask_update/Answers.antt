@@ -1,10 +1,8 @@
 use Rattle.monomial.proofs.Firsts.{starts-whole, first-whole}
 use mathlib.Core.Path.{refl, sym, ◌∙◌}
-use borrow.Author.Tests.{not-true, not-false}
 use Rattle.divmask.proofs.Growth.{lent-maxima}
 use Rattle.monomial.proofs.Laws.{lent-canonical}
 use Rattle.divmask_work.specs.Doors.{update_number, update_bytes}
-use borrow.Author.Rules.{rules}
 use Rattle.divmask_work.proofs.divisor_index_divmask_update.Goals as goal
 
 pub returns-then-not-maxima_good : goal.returns-then-not-maxima_good

@@ -10,7 +10,6 @@ use Rattle.fast_compare.specs.Layout.{row_at, value_at}
 use Rattle.fast_compare.proofs.Exact.{count_of}
 use Rattle.fast_compare.proofs.Scans.{row_fits, cmp-index, value-index}
 use Rattle.fast_compare.proofs.Reading.{HeadOf, head, row-used, value-of, ratio-of, has-ratio}
-use borrow.Author.Rules.{rules}
 use Rattle.fast_compare.proofs.compare.Goals.{Start}
 use Rattle.fast_compare.proofs.compare.Goals as goal
 

@@ -1,6 +1,5 @@
 use mathlib.Core.Path.{◌∙◌}
 use Rattle.fast_compare.proofs.Exact.{count_of}
-use borrow.Author.Rules.{rules}
 use Rattle.fast_compare.proofs.count.Goals as goal
 
 pub returns : goal.returns

@@ -2,7 +2,6 @@ use native.Mathlib.Omega.{arith}
 use mathlib.Core.Path.{◌∙◌}
 use Rattle.fast_compare.proofs.Exact.{count_of}
 use Rattle.fast_compare.proofs.Reading.{row_room, index_of}
-use borrow.Author.Rules.{rules}
 use Rattle.fast_compare.proofs.index_of.Goals as goal
 
 pub overflow_mul-row : goal.overflow_mul-row

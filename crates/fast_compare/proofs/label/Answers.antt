@@ -1,8 +1,7 @@
 use native.Mathlib.Omega.{arith}
-use mathlib.Core.Path.{◌≡◌, ◌∙◌}
+use mathlib.Core.Path.{◌∙◌}
 use Rattle.fast_compare.proofs.Exact.{count_of}
 use Rattle.fast_compare.proofs.Reading.{row_room, label-of}
-use borrow.Author.Rules.{rules}
 use Rattle.fast_compare.proofs.label.Goals as goal
 
 pub overflow_add-variables : goal.overflow_add-variables

@@ -1,6 +1,5 @@
 use native.Mathlib.Omega.{arith}
 use Rattle.fast_compare.proofs.Reading.{rows-small}
-use borrow.Author.Rules.{rules}
 use Rattle.fast_compare.proofs.length.Goals as goal
 
 pub overflow_mul-result : goal.overflow_mul-result

@@ -1,5 +1,4 @@
 use Rattle.fast_compare.proofs.Opening.{open_is}
-use borrow.Author.Rules.{rules}
 use Rattle.fast_compare.proofs.open.Goals as goal
 
 pub returns : goal.returns

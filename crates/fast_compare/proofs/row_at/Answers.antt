@@ -7,7 +7,6 @@ use lib.ListN.{length, get_or}
 use Rattle.words.specs.Words.{words}
 use Rattle.fast_compare.proofs.Exact.{count_of}
 use Rattle.fast_compare.proofs.Reading.{HeadOf, head, place_at, place_inside}
-use borrow.Author.Rules.{rules}
 use Rattle.fast_compare.proofs.row_at.Goals.{Start}
 use Rattle.fast_compare.proofs.row_at.Goals as goal
 

@@ -1,13 +1,9 @@
-use native.Mathlib.Omega.{arith}
-use Prim.Native.Nat.{◌+◌, ◌-◌, ◌/◌, ◌≤◌}
+use Prim.Native.Nat.{◌-◌, ◌≤◌}
 use lib.ListN.{get_or}
 use Rattle.words.specs.Words.{words}
-use Rattle.monomial.proofs.Firsts.{starts-whole, first-whole}
 use Rattle.fast_compare.specs.Map.{State, value_of}
 use Rattle.fast_compare.specs.Layout.{Is}
-use Rattle.fast_compare.proofs.Exact.{count_of}
-use Rattle.fast_compare.proofs.Reading.{head, Seeking, seek-start, mid-high, seek-less, seek-greater, seek-equal, seek-end}
-use borrow.Author.Rules.{rules}
+use Rattle.fast_compare.proofs.Reading.{Seeking}
 use Rattle.fast_compare.proofs.search.Given as goal
 
 abbrev pub invariant-loop-lo : goal.invariant-loop-lo

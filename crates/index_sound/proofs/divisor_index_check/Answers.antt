@@ -1,5 +1,4 @@
 use Rattle.index_sound.proofs.Steps.{judged-sound, judged-unsound}
-use borrow.Author.Rules.{rules}
 use Rattle.index_sound.proofs.divisor_index_check.Goals as goal
 
 pub returns-then-sound : goal.returns-then-sound

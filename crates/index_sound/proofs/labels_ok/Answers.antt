@@ -1,5 +1,4 @@
 use Rattle.index_sound.proofs.Steps.{monomial-holds, is-ratio, labels-is}
-use borrow.Author.Rules.{rules}
 use Rattle.index_sound.proofs.labels_ok.Goals as goal
 
 pub returns-then-s-eq0 : goal.returns-then-s-eq0

@@ -1,5 +1,4 @@
 use Rattle.index_sound.proofs.Steps.{maxima-is}
-use borrow.Author.Rules.{rules}
 use Rattle.index_sound.proofs.maxima_at.Goals as goal
 
 pub returns : goal.returns

@@ -1,4 +1,3 @@
-use borrow.Author.Rules.{rules}
 use Rattle.words.proofs.Answers.{passed, stop, last}
 use Rattle.index_sound.proofs.maxima_ok.Goals as goal
 

@@ -3,7 +3,6 @@ use mathlib.Core.Path.{◌∙◌}
 use Rattle.words.proofs.Answers.{passed, stop}
 use Rattle.words.specs.Words.{words}
 use Rattle.index_sound.proofs.Steps.{no-tree, tree_is, nodes-rest}
-use borrow.Author.Rules.{rules}
 use Rattle.index_sound.proofs.nodes_ok.Goals as goal
 
 pub overflow_add-node_at : goal.overflow_add-node_at

@@ -1,6 +1,5 @@
 use Rattle.words.proofs.Answers.{passed, stop, last}
 use Rattle.index_sound.proofs.Steps.{places-can}
-use borrow.Author.Rules.{rules}
 use Rattle.index_sound.proofs.permutation_ok.Goals as goal
 
 pub returns-then-not-in_range : goal.returns-then-not-in_range

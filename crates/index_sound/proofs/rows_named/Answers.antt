@@ -1,7 +1,6 @@
 use mathlib.Core.Path.{◌∙◌}
 use Rattle.words.specs.Words.{words}
 use Rattle.index_sound.proofs.Steps.{monomial-holds, is-ratio, rows-can, rows_is}
-use borrow.Author.Rules.{rules}
 use Rattle.index_sound.proofs.rows_named.Goals as goal
 
 pub returns-then-s-eq0 : goal.returns-then-s-eq0

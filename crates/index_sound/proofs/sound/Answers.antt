@@ -3,7 +3,6 @@ use Rattle.index_sound.proofs.Exact.{tables-sound, no-image}
 use Rattle.words.specs.Words.{words}
 use lib.ListN.{length}
 use Rattle.index_sound.proofs.Steps.{head-is}
-use borrow.Author.Rules.{rules}
 use Rattle.index_sound.proofs.sound.Goals as goal
 
 pub tables_ok-requires : goal.tables_ok-requires

@@ -1,6 +1,5 @@
 use Rattle.words.proofs.Answers.{passed, stop, last}
 use Rattle.index_sound.proofs.Steps.{tables-of, ready_of}
-use borrow.Author.Rules.{rules}
 use Rattle.index_sound.proofs.tables_ok.Goals as goal
 
 pub returns-then-not-maxima_ok : goal.returns-then-not-maxima_ok

@@ -3,7 +3,6 @@ use mathlib.Core.Path.{sym}
 use Prim.Native.Nat.{◌*◌}
 use lib.ListN.{replicate}
 use lib.Seq.{length-take-le}
-use borrow.Author.Rules.{rules}
 use Rattle.index_sound.proofs.tree_rows.Goals as goal
 
 pub slice_bounds-walk_from_root-end : goal.slice_bounds-walk_from_root-end

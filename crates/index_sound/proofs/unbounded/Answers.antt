@@ -1,10 +1,6 @@
 use native.Mathlib.Omega.{arith}
-use mathlib.Core.Path.{◌≡◌, refl, ◌∙◌}
-use Prim.Native.Nat.{ℕ, ◌-◌, ◌≤◌, ◌<◌}
-use lib.ListN.{length, get_or}
-use Rattle.words.specs.Words.{words}
+use mathlib.Core.Path.{refl, ◌∙◌}
 use Rattle.index_sound.proofs.Steps.{bound-more}
-use borrow.Author.Rules.{rules}
 use Rattle.index_sound.proofs.unbounded.Goals as goal
 
 pub loop-i-init : goal.loop-i-init

@@ -1,10 +1,7 @@
-use native.Mathlib.Omega.{arith}
-use mathlib.Core.Path.{◌≡◌, refl, ◌∙◌}
+use mathlib.Core.Path.{◌≡◌}
 use Prim.Native.Nat.{ℕ, ◌-◌, ◌≤◌, ◌<◌}
 use lib.ListN.{length, get_or}
 use Rattle.words.specs.Words.{words}
-use Rattle.index_sound.proofs.Steps.{bound-more}
-use borrow.Author.Rules.{rules}
 use Rattle.index_sound.proofs.unbounded.Given as goal
 
 abbrev pub invariant-loop-i : goal.invariant-loop-i

@@ -1,6 +1,5 @@
 use native.Mathlib.Omega.{arith}
 use Rattle.index_sound.proofs.Steps.{uppers-of, rooted}
-use borrow.Author.Rules.{rules}
 use Rattle.index_sound.proofs.walk_from_root.Goals as goal
 
 pub one_row-requires : goal.one_row-requires

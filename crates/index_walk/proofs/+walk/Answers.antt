@@ -1,5 +1,4 @@
 use native.Mathlib.Omega.{arith}
-use borrow.Author.Rules.{rules}
 use Rattle.words.proofs.Answers.{failed, passed}
 use Rattle.index_walk.proofs.Walks.{Row, Tagged, Less, One, Two, no_row, too_many, no-leaf, a-leaf, no_key, no-first, one-is, no_less, no_second, no-branch, two_is, a-branch}
 use mathlib.Core.Path.{◌≡◌, refl, sym, ap, ◌∙◌}
@@ -12,7 +11,7 @@ use Rattle.leaf_rows.specs.Leaves.{Uppers}
 use Rattle.branch_rows.specs.Branches.{KeyIn}
 use Rattle.index_image.proofs.Places.{node-room}
 use Rattle.index_walk.proofs.Uppers.{words-put, uppers-put, put_back}
-use Prim.Native.Nat.{ℕ, ◌+◌, ◌-◌, ◌*◌, ◌≤◌, ◌<◌}
+use Prim.Native.Nat.{ℕ, ◌+◌, ◌-◌, ◌*◌, ◌≤◌}
 use Rattle.index_walk.proofs.+walk.Goals.{After-count_at-all, After-exchange-old, After-get, After-get-c, After-node_at-at, After-slice_known-4-1, After-walk-t, After-walk-w, Else-not-key_ok, Else-t-eq0, Else-w-eq0, Start}
 use Rattle.index_walk.proofs.+walk.Goals as goal
 

@@ -4,7 +4,6 @@ use mathlib.Core.Path.{◌∙◌}
 use Prim.Native.Nat.{◌+◌, ◌*◌, ◌≤◌}
 use lib.ListN.{length}
 use Rattle.index_image.specs.Shape as shape
-use borrow.Author.Rules.{rules}
 use Rattle.index_walk.proofs.count_at.Goals.{Start}
 use Rattle.index_walk.proofs.count_at.Goals as goal
 

@@ -5,7 +5,6 @@ use lib.ListN.{length, get_or}
 use Rattle.words.specs.Words.{words}
 use Rattle.index_image.specs.Shape as shape
 use Rattle.index_image.proofs.Places.{node-room, row-behind}
-use borrow.Author.Rules.{rules}
 use Rattle.index_walk.proofs.count_behind.Goals.{Start}
 use Rattle.index_walk.proofs.count_behind.Goals as goal
 

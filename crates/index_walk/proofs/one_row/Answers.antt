@@ -7,7 +7,6 @@ use Rattle.index_image.specs.Shape as at
 use Rattle.words.proofs.Tables.{never}
 use Rattle.index_image.proofs.Places.{node-room}
 use Rattle.index_walk.proofs.Walks.{Row, Tagged, not-one, too_many, a-leaf, no-leaf}
-use borrow.Author.Rules.{rules}
 use Rattle.index_walk.proofs.one_row.Goals.{After-get-c, After-node_at-at, Else-s-c}
 use Rattle.index_walk.proofs.one_row.Goals as goal
 

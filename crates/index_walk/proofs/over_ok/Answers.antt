@@ -1,7 +1,6 @@
 use native.Mathlib.Omega.{arith}
 use Prim.Native.Nat.{◌+◌}
 use Rattle.index_image.proofs.Places.{node-room}
-use borrow.Author.Rules.{rules}
 use Rattle.index_walk.proofs.over_ok.Goals as goal
 
 pub node_at-requires : goal.node_at-requires

@@ -1,5 +1,4 @@
 use Rattle.kd_query.proofs.Calling.{contained-posed}
-use borrow.Author.Rules.{rules}
 use Rattle.kd_query.proofs.contained.Goals as goal
 
 pub returns : goal.returns

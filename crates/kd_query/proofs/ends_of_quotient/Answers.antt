@@ -5,7 +5,6 @@ use Rattle.monomial.specs.declared.ordered_ops.Op.{Op}
 use Rattle.index_image.proofs.Slots.{MadeAside}
 use Rattle.words.specs.Words.{words}
 use Rattle.kd_query.proofs.Calling.{ratio-fits, ratio-canonical, ratio-made, quotient-ends}
-use borrow.Author.Rules.{rules}
 use Rattle.kd_query.proofs.ends_of_quotient.Goals.{After-fraction_division-n}
 use Rattle.kd_query.proofs.ends_of_quotient.Goals as goal
 

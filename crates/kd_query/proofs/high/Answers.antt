@@ -1,7 +1,6 @@
 use Rattle.words.specs.Words.{words}
 use Rattle.fast_compare.specs.Map.{value_of}
 use Rattle.kd_query.proofs.Calling.{high-posed}
-use borrow.Author.Rules.{rules}
 use Rattle.kd_query.proofs.high.Goals as goal
 
 pub returns : goal.returns

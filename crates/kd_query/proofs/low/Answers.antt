@@ -1,5 +1,4 @@
 use Rattle.kd_query.proofs.Calling.{low-posed}
-use borrow.Author.Rules.{rules}
 use Rattle.kd_query.proofs.low.Goals as goal
 
 pub returns : goal.returns

@@ -1,6 +1,5 @@
 use native.Mathlib.Omega.{arith}
 use Rattle.kd_query.proofs.Standing.{number_small, map-good, all-written}
-use borrow.Author.Rules.{rules}
 use Rattle.kd_query.proofs.pose.Goals as goal
 
 pub masks_of-requires : goal.masks_of-requires

@@ -1,6 +1,5 @@
 use Rattle.words.specs.Words.{words}
 use Rattle.kd_query.proofs.Calling.{singular-posed}
-use borrow.Author.Rules.{rules}
 use Rattle.kd_query.proofs.singular.Goals as goal
 
 pub pose-requires : goal.pose-requires

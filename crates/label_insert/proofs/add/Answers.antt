@@ -1,11 +1,9 @@
 use native.Mathlib.Omega.{arith}
-use Prim.Native.Nat.{◌-◌}
 use Rattle.words.specs.Words.{words}
 use Rattle.fast_compare.specs.Map.{value_of}
 use Rattle.fast_compare.proofs.Reading.{head, cap-of}
 use Rattle.fast_compare.proofs.Giving.{before-place}
 use Rattle.label_insert.proofs.Answers.{gave-full, gave-none, gave-new}
-use borrow.Author.Rules.{rules}
 use Rattle.label_insert.proofs.add.Goals as goal
 
 pub get-requires : goal.get-requires

@@ -1,7 +1,5 @@
 use native.Mathlib.Omega.{arith}
-use mathlib.Core.Path.{◌∙◌, ap, sym}
-use Prim.Native.Nat.{◌-◌}
-use lib.ListN.{get_or}
+use mathlib.Core.Path.{◌∙◌, ap}
 use Rattle.words.specs.Words.{words}
 use Rattle.fast_compare.specs.Map as Map
 use Rattle.fast_compare.specs.Map.{value_of}
@@ -9,7 +7,6 @@ use Rattle.monomial.proofs.Firsts.{canonical-wide}
 use Rattle.fast_compare.proofs.Exact.{count_of}
 use Rattle.fast_compare.proofs.Giving.{at_place, before-place, known-row, place-few}
 use Rattle.label_insert.proofs.Answers.{gave-known}
-use borrow.Author.Rules.{rules}
 use Rattle.label_insert.proofs.get_comparer.Goals as goal
 
 pub search-place-requires : goal.search-place-requires

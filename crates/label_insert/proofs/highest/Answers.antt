@@ -1,10 +1,8 @@
 use native.Mathlib.Omega.{arith}
 use mathlib.Core.Path.{◌∙◌, ap, sym}
-use Prim.Native.Nat.{◌-◌}
 use Rattle.fast_compare.specs.Map as Map
 use Rattle.fast_compare.proofs.Exact.{count_of}
 use Rattle.fast_compare.proofs.Giving.{highest-none, highest-at}
-use borrow.Author.Rules.{rules}
 use Rattle.label_insert.proofs.highest.Goals as goal
 
 pub count-requires : goal.count-requires

@@ -1,10 +1,9 @@
 use native.Mathlib.Omega.{arith}
 use mathlib.Core.Path.{◌∙◌, ap, sym}
-use Prim.Native.Nat.{ℕ, ◌+◌, ◌-◌}
+use Prim.Native.Nat.{ℕ, ◌+◌}
 use Rattle.fast_compare.specs.Map as Map
 use Rattle.fast_compare.proofs.Exact.{count_of}
 use Rattle.fast_compare.proofs.Giving.{lowest-none, lowest-at}
-use borrow.Author.Rules.{rules}
 use Rattle.label_insert.proofs.lowest.Goals as goal
 
 pub returns-then-p-eq0 : goal.returns-then-p-eq0

@@ -1,11 +1,9 @@
 use lib.ListN.{length}
 use native.Mathlib.Omega.{arith}
-use borrow.Author.Rules.{rules}
-use mathlib.Core.Path.{◌≡◌}
-use Prim.Native.Nat.{ℕ, ◌+◌, ◌-◌, ◌*◌, ◌≤◌}
+use Prim.Native.Nat.{ℕ, ◌+◌, ◌*◌, ◌≤◌}
 use Rattle.fast_compare.proofs.Rising.{spaced-top}
-use Rattle.fast_compare.proofs.Reading.{Head, head, HeadOf}
-use Rattle.label_insert.proofs.Respacing.{Respacing, respace-start, respace-end, spot, respace-more, Spot}
+use Rattle.fast_compare.proofs.Reading.{head, HeadOf}
+use Rattle.label_insert.proofs.Respacing.{respace-start, respace-end, spot, respace-more, Spot}
 use Rattle.label_insert.proofs.rebuild.Goals.{After-get-n, After-get-row}
 use Rattle.label_insert.proofs.rebuild.Goals as goal
 

@@ -1,6 +1,5 @@
 use native.Mathlib.Omega.{arith}
 use Rattle.fast_compare.proofs.Rising.{spaced-top}
-use borrow.Author.Rules.{rules}
 use Rattle.label_insert.proofs.spaced.Goals as goal
 
 pub overflow_cast-result : goal.overflow_cast-result

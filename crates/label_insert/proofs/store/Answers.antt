@@ -1,6 +1,6 @@
 use mathlib.Core.List.{List}
 use native.Mathlib.Omega.{arith}
-use mathlib.Core.Path.{◌≡◌, ◌∙◌}
+use mathlib.Core.Path.{◌∙◌}
 use Prim.Native.Nat.{ℕ, ◌+◌, ◌*◌, ◌≤◌, ◌<◌}
 use lib.ListN.{length, get_or}
 use Rattle.words.specs.Words.{words}
@@ -11,7 +11,6 @@ use Rattle.monomial.proofs.Powers.{canonical-length}
 use Rattle.fast_compare.proofs.Exact.{count_of}
 use Rattle.fast_compare.proofs.Reading.{HeadOf, head, vars-of, cap-of}
 use Rattle.label_insert.proofs.Storing.{stored-call}
-use borrow.Author.Rules.{rules}
 use Rattle.label_insert.proofs.store.Goals.{After-get-n}
 use Rattle.label_insert.proofs.store.Goals as goal
 

@@ -1,7 +1,6 @@
 use native.Mathlib.Omega.{arith}
 use mathlib.Core.Path.{sym, ◌∙◌}
 use borrow.Author.Tests.{leb-true, le-leb}
-use borrow.Author.Rules.{rules}
 use Rattle.monomial.proofs.Sizing.{sizes-asked}
 use Rattle.words.proofs.Answers.{refuse, failed, passed}
 use Rattle.label_sound.proofs.head_ok.Goals as goal

@@ -1,10 +1,5 @@
-use native.Mathlib.Omega.{arith}
-use borrow.Author.Rules.{rules}
-use mathlib.Core.Path.{◌≡◌}
 use Prim.Native.Nat.{ℕ, ◌+◌, ◌-◌, ◌≤◌, ◌<◌}
 use lib.ListN.{get_or}
-use borrow.Author.Count.{below_more}
-use Rattle.words.proofs.Answers.{refuse, accept}
 use Rattle.words.specs.Words.{words}
 use Rattle.label_sound.proofs.numbers_ok.Given as goal
 

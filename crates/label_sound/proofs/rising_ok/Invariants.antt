@@ -1,12 +1,8 @@
-use native.Mathlib.Omega.{arith}
-use mathlib.Core.Path.{◌≡◌, refl, ap}
+use mathlib.Core.Path.{◌≡◌}
 use Prim.Native.Nat.{ℕ, suc, ◌+◌, ◌-◌, ◌≤◌, ◌<◌}
-use lib.ListN.{length, get_or}
-use Rattle.words.proofs.Answers.{refuse, accept, failed, passed}
+use lib.ListN.{get_or}
 use Rattle.words.specs.Words.{words}
 use Rattle.fast_compare.specs.Layout.{row_at, Rises, TotalAt}
-use Rattle.label_sound.proofs.Checks.{RowIn, pairs-none, pairs-more, Up, row-in}
-use borrow.Author.Rules.{rules}
 use Rattle.label_sound.proofs.rising_ok.Given as goal
 
 abbrev pub invariant-loop-i : goal.invariant-loop-i

@@ -5,7 +5,6 @@ use Rattle.words.proofs.Answers.{refuse}
 use Rattle.words.specs.Words.{words}
 use Rattle.words.specs.Kinds.{kind}
 use Rattle.fast_compare.proofs.Images.{ratio-within}
-use borrow.Author.Rules.{rules}
 use Rattle.label_sound.proofs.row_ok.Goals as goal
 
 pub returns-then-kind-ne3 : goal.returns-then-kind-ne3

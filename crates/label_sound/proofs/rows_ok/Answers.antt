@@ -1,12 +1,9 @@
 use native.Mathlib.Omega.{arith}
-use borrow.Author.Rules.{rules}
 use mathlib.Core.Path.{◌≡◌}
-use Prim.Native.Nat.{ℕ, ◌+◌, ◌-◌, ◌≤◌, ◌<◌}
+use Prim.Native.Nat.{◌+◌}
 use borrow.Author.Count.{below_more}
 use Rattle.words.proofs.Answers.{refuse, accept, failed, passed}
-use Rattle.words.specs.Words.{words}
 use Rattle.words.proofs.Tables.{row_fits}
-use Rattle.fast_compare.specs.Layout.{row_at, RowOk}
 use Rattle.fast_compare.proofs.Reading.{rows-small}
 use Rattle.label_sound.proofs.rows_ok.Goals as goal
 

@@ -2,7 +2,6 @@ use native.Mathlib.Omega.{arith}
 use mathlib.Core.Path.{sym}
 use Rattle.words.proofs.Answers.{refuse}
 use Rattle.fast_compare.proofs.Exact.{head_of, sound-long}
-use borrow.Author.Rules.{rules}
 use Rattle.label_sound.proofs.sound.Goals as goal
 
 pub returns-then-map-lt16 : goal.returns-then-map-lt16

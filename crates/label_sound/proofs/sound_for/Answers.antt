@@ -2,7 +2,6 @@ use native.Mathlib.Omega.{arith}
 use Rattle.words.proofs.Answers.{refuse, failed, passed}
 use Rattle.words.proofs.Laws.{words_small}
 use Rattle.fast_compare.proofs.Exact.{sound-for-iff}
-use borrow.Author.Rules.{rules}
 use Rattle.label_sound.proofs.sound_for.Goals as goal
 
 pub returns-then-not-head_ok : goal.returns-then-not-head_ok

@@ -3,7 +3,6 @@ use Prim.Native.Nat.{◌+◌}
 use Rattle.words.proofs.Answers.{refuse, failed, passed}
 use Rattle.words.proofs.Tables.{split_rows}
 use Rattle.fast_compare.proofs.Reading.{rows-small}
-use borrow.Author.Rules.{rules}
 use Rattle.label_sound.proofs.tables_ok.Goals as goal
 
 pub overflow_mul-order : goal.overflow_mul-order

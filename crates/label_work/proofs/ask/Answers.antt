@@ -1,12 +1,10 @@
 use native.Mathlib.Omega.{arith}
 use mathlib.Core.Path.{sym, ◌∙◌}
 use lib.ListN.{get_or}
-use borrow.Author.Tests.{not-true, not-false}
 use Rattle.words.proofs.Answers.{failed, passed}
 use Rattle.words.specs.Words.{words}
 use Rattle.fast_compare.proofs.Reading.{head, vars-of}
 use Rattle.label_work.proofs.Replies.{lent-good, large-index, bad-ratio, asking-unsound, asking-bad, asking-given}
-use borrow.Author.Rules.{rules}
 use Rattle.label_work.proofs.ask.Goals as goal
 
 pub returns-then-not-sound : goal.returns-then-not-sound

@@ -1,5 +1,4 @@
 use Rattle.label_work.proofs.Replies.{replied}
-use borrow.Author.Rules.{rules}
 use Rattle.label_work.proofs.divisor_index_fast_compare_get_comparer.Goals as goal
 
 pub returns : goal.returns

@@ -2,7 +2,6 @@ use mathlib.Core.Path.{◌∙◌}
 use Rattle.words.proofs.Answers.{failed, passed}
 use Rattle.label_work.proofs.Replies.{length-refused, length-served, length-small}
 use native.Mathlib.Omega.{arith}
-use borrow.Author.Rules.{rules}
 use Rattle.monomial.proofs.Sizing.{sizes-asked}
 use Rattle.label_work.proofs.divisor_index_fast_compare_length.Goals as goal
 

@@ -1,7 +1,6 @@
 use native.Mathlib.Omega.{arith}
 use Rattle.words.proofs.Answers.{failed, passed}
 use Rattle.label_work.proofs.Replies.{open-unasked, open-short, open-served}
-use borrow.Author.Rules.{rules}
 use Rattle.monomial.proofs.Sizing.{sizes-asked}
 use Rattle.label_work.proofs.divisor_index_fast_compare_open.Goals as goal
 

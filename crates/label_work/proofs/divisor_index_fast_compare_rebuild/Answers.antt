@@ -1,6 +1,5 @@
 use Rattle.words.proofs.Answers.{failed, passed}
 use Rattle.label_work.proofs.Replies.{rebuilt-unsound, rebuilt-served}
-use borrow.Author.Rules.{rules}
 use Rattle.label_work.proofs.divisor_index_fast_compare_rebuild.Goals as goal
 
 pub returns-then-not-sound : goal.returns-then-not-sound

@@ -3,7 +3,6 @@ use native.Mathlib.Omega.{arith}
 use Rattle.index_image.proofs.Places.{entry-room}
 use Rattle.index_image.proofs.Reading.{lm-read}
 use Rattle.leaf_rows.proofs.Testing.{no-powers, no-labels, too-low, by-label}
-use borrow.Author.Rules.{rules}
 use Rattle.leaf_rows.proofs.entry_ok.Goals as goal
 
 pub monomial_from-lm-requires : goal.monomial_from-lm-requires

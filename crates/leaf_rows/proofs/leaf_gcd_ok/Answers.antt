@@ -7,7 +7,6 @@ use Rattle.words.specs.Words.{words}
 use Rattle.index_image.specs.Rows.{entries_from}
 use Rattle.index_image.proofs.Gcds.{gcd-canonical, image-powers}
 use Rattle.index_image.proofs.Reading.{front-words}
-use borrow.Author.Rules.{rules}
 use Rattle.leaf_rows.proofs.leaf_gcd_ok.Goals as goal
 
 pub overflow_mul-e : goal.overflow_mul-e

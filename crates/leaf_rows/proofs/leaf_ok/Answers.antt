@@ -1,5 +1,4 @@
 use mathlib.Core.Path.{sym, ◌∙◌}
-use borrow.Author.Rules.{rules}
 use Rattle.words.proofs.Answers.{refuse, failed, passed}
 use Rattle.leaf_rows.proofs.leaf_ok.Goals as goal
 

@@ -4,7 +4,7 @@ use mathlib.Core.Path.{◌≡◌, sym, ◌∙◌}
 use Rattle.words.specs.Tables.{part}
 use Rattle.monomial.proofs.Firsts.{starts-whole}
 use Rattle.divmask.proofs.Masks.{mask-whole}
-use Prim.Native.Nat.{ℕ, ◌+◌, ◌-◌, ◌*◌, ◌/◌, ◌≤◌}
+use Prim.Native.Nat.{◌+◌, ◌-◌, ◌*◌, ◌/◌, ◌≤◌}
 use lib.ListN.{length, take, drop}
 use Rattle.words.specs.Words.{words}
 use Rattle.words.proofs.Laws.{length-words}
@@ -12,7 +12,6 @@ use Rattle.monomial.proofs.Powers.{canonical-length}
 use Rattle.index_image.specs.Shape as at
 use Rattle.index_image.proofs.Slots.{range-words}
 use Rattle.leaf_rows.proofs.Testing.{RowRead, other-mask, other-words, by-zeros}
-use borrow.Author.Rules.{rules}
 use Rattle.leaf_rows.proofs.node_ok.Goals.{After-map, Start}
 use Rattle.leaf_rows.proofs.node_ok.Goals as goal
 

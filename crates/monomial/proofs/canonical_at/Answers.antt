@@ -1,12 +1,10 @@
 use native.Mathlib.Omega.{arith}
-use mathlib.Core.Path.{◌≡◌, refl, sym, ap, ◌∙◌}
+use mathlib.Core.Path.{◌≡◌}
 use Prim.Native.Nat.{◌+◌, ◌-◌, ◌*◌}
-use lib.ListN.{take, drop}
 use Rattle.words.specs.Words.{words}
 use Rattle.words.proofs.Laws.{length-words}
 use Rattle.monomial.specs.Monomial.{found}
 use Rattle.monomial.proofs.Canon.{front-within}
-use borrow.Author.Rules.{rules}
 use Rattle.monomial.proofs.canonical_at.Goals as goal
 
 pub returns-then-n-eq0 : goal.returns-then-n-eq0

@@ -1,14 +1,8 @@
-use native.Mathlib.Omega.{arith}
-use mathlib.Core.Path.{◌≡◌, refl, sym, ◌∙◌}
-use Prim.Native.Nat.{◌+◌, ◌-◌, ◌/◌, ◌≤◌, min}
-use lib.ListN.{length, drop, drop_of_length-le}
-use borrow.Author.Tests.{not-true, not-false}
+use mathlib.Core.Path.{◌≡◌}
+use Prim.Native.Nat.{◌+◌, ◌-◌, ◌≤◌, min}
+use lib.ListN.{drop}
 use Rattle.words.specs.Words.{words}
-use Rattle.words.proofs.Fields.{is-end-true, is-end-false}
-use Rattle.words.proofs.Laws.{length-words, word-and-rest}
 use Rattle.monomial.specs.Monomial.{front}
-use Rattle.monomial.proofs.Canon.{is-var, front-none, front-end, front-bad-end, front-var, front-bad-var}
-use borrow.Author.Rules.{rules}
 use Rattle.monomial.proofs.canonical_words.Given as goal
 
 abbrev pub invariant-loop-i : goal.invariant-loop-i

@@ -1,15 +1,8 @@
 use Rattle.monomial.specs.Monomial.{first}
-use Rattle.monomial.proofs.Firsts.{begins, seen, first-bytes}
-use native.Mathlib.Omega.{arith}
 use Prim.Native.Nat.{◌-◌}
-use mathlib.Core.Path.{refl}
-use lib.ListN.{length, get_or}
+use lib.ListN.{length}
 use Rattle.words.specs.Words.{words}
-use Rattle.words.proofs.Fields.{is-end-true, is-end-false}
-use Rattle.words.proofs.Laws.{length-words}
-use Rattle.monomial.proofs.Walks.{within}
-use Rattle.monomial.proofs.Divisions.{Dividing, begin, all-passed, exceeds, goes_on}
-use borrow.Author.Rules.{rules}
+use Rattle.monomial.proofs.Divisions.{Dividing}
 use Rattle.monomial.proofs.divides.Given as goal
 
 abbrev pub invariant-loop-i : goal.invariant-loop-i

@@ -1,12 +1,8 @@
-use native.Mathlib.Omega.{arith}
-use borrow.Author.Rules.{rules}
-use mathlib.Core.Path.{◌≡◌, refl, sym, ◌∙◌}
+use mathlib.Core.Path.{◌≡◌}
 use Prim.Native.Nat.{◌-◌, ◌≤◌}
-use lib.ListN.{length, drop}
+use lib.ListN.{drop}
 use Rattle.words.specs.Words.{words}
-use Rattle.words.proofs.Laws.{length-words}
 use Rattle.monomial.specs.Operations.{equal}
-use Rattle.monomial.proofs.Divisions.{equal-at, differ-at, equal-end, other_length}
 use Rattle.monomial.proofs.eq.Given as goal
 
 abbrev pub invariant-loop-i : goal.invariant-loop-i

@@ -5,7 +5,6 @@ use Rattle.words.specs.Words.{words}
 use Rattle.words.proofs.Laws.{length-words}
 use Rattle.monomial.specs.Monomial.{lent}
 use Rattle.monomial.proofs.Canon.{front-short}
-use borrow.Author.Rules.{rules}
 use Rattle.monomial.proofs.is_canonical.Goals as goal
 
 pub returns-then-s-eq0 : goal.returns-then-s-eq0

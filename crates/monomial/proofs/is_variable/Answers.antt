@@ -2,7 +2,6 @@ use native.Mathlib.Omega.{arith}
 use borrow.Author.Tests.{eq-eqb, ne_eqb, lt-ltb, le-ltb, le-leb, lt-leb}
 use Rattle.monomial.specs.Monomial.{is_var}
 use Rattle.words.specs.Kinds.{power}
-use borrow.Author.Rules.{rules}
 use Rattle.monomial.proofs.is_variable.Goals as goal
 
 pub returns-then-kind : goal.returns-then-kind

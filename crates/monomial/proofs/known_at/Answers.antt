@@ -5,7 +5,6 @@ use Rattle.words.specs.Words.{words}
 use Rattle.words.proofs.Laws.{length-words}
 use Rattle.monomial.specs.Monomial.{ended}
 use Rattle.monomial.proofs.Ends.{end-within}
-use borrow.Author.Rules.{rules}
 use Rattle.monomial.proofs.known_at.Goals as goal
 
 pub returns-then-n-eq0 : goal.returns-then-n-eq0

@@ -1,7 +1,5 @@
 use mathlib.Core.Path.{sym, ap, ◌∙◌}
-use Rattle.words.specs.Words.{words}
 use Rattle.monomial.specs.Monomial.{pow, power_of}
-use borrow.Author.Rules.{rules}
 use Rattle.monomial.proofs.power_of.Goals as goal
 
 pub returns-in_default : goal.returns-in_default

@@ -1,7 +1,6 @@
 use Rattle.monomial.specs.declared.Division.TheVariants.{Whole}
 use mathlib.Core.Path.{refl, sym, ap, ◌∙◌}
 use Rattle.monomial.specs.Operations.{divided}
-use borrow.Author.Rules.{rules}
 use Rattle.monomial.proofs.whole_division.Goals as goal
 
 pub returns-then-divides : goal.returns-then-divides

@@ -1,13 +1,12 @@
 use native.Mathlib.Omega.{arith}
-use mathlib.Core.Path.{◌≡◌, refl, sym, ap, ◌∙◌}
-use Prim.Native.Nat.{ℕ, ◌+◌, ◌-◌, ◌≤◌}
+use mathlib.Core.Path.{◌≡◌, sym, ap, ◌∙◌}
+use Prim.Native.Nat.{ℕ, ◌+◌, ◌-◌}
 use lib.ListN.{drop, drop_of_length-le}
 use Rattle.words.specs.Words.{words}
 use Rattle.words.proofs.Fields.{is-end-true, is-end-false}
 use Rattle.words.proofs.Laws.{length-words, word-and-rest}
 use Rattle.monomial.specs.Monomial.{to_end}
 use Rattle.monomial.proofs.Ends.{end_none, end-here, end-past}
-use borrow.Author.Rules.{rules}
 use Rattle.monomial.proofs.words_to_end.Goals as goal
 
 pub loop-i-init : goal.loop-i-init

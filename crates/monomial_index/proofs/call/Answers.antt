@@ -1,9 +1,7 @@
 use Rattle.index_replies.proofs.Calling.{refuses, serves, of-monomials, six-monomials, bad-monomial, inserts-monomial, asks-contained}
 use Rattle.index_replies.proofs.Queries.{few-variables}
 use Rattle.call_list.proofs.Parting.{found-whole}
-use borrow.Author.Tests.{not-true, not-false}
 use native.Mathlib.Omega.{arith}
-use borrow.Author.Rules.{rules}
 use Rattle.monomial_index.proofs.call.Goals as goal
 
 pub returns-then-number-gt1 : goal.returns-then-number-gt1

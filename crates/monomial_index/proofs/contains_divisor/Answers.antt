@@ -1,6 +1,5 @@
 use Rattle.index_replies.proofs.Queries.{head_of, sound-of, ready, replied, yes-none, yes-some}
 use mathlib.Core.Path.{sym, ◌∙◌}
-use borrow.Author.Rules.{rules}
 use Rattle.monomial_index.proofs.contains_divisor.Goals as goal
 
 pub contained-requires : goal.contained-requires

@@ -1,6 +1,5 @@
 use Rattle.index_replies.proofs.Inserts.{with-room, refused, accepted, number_small}
 use native.Mathlib.Omega.{arith}
-use borrow.Author.Rules.{rules}
 use Rattle.monomial_index.proofs.insert.Goals as goal
 
 pub returns-then-s : goal.returns-then-s

@@ -3,7 +3,6 @@ use borrow.Author.Tests.{lt-ltb, le-ltb}
 use Rattle.words.specs.Kinds.{upper_half}
 use Rattle.monomial_ordering.specs.Order.{differing}
 use mathlib.Core.Path.{◌∙◌}
-use borrow.Author.Rules.{rules}
 use Rattle.monomial_ordering.proofs.differ.Goals as goal
 
 pub returns-then-u-v : goal.returns-then-u-v

@@ -1,5 +1,3 @@
-use native.Mathlib.Omega.{arith}
-use borrow.Author.Rules.{rules}
 use Rattle.monomial_ordering.proofs.ord.Goals as goal
 
 pub ord_by_totals-requires : goal.ord_by_totals-requires

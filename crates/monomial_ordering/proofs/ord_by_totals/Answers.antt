@@ -1,9 +1,6 @@
 use native.Mathlib.Omega.{arith}
-use mathlib.Core.Path.{◌≡◌, sym, ap, ◌∙◌}
-use Rattle.words.specs.Words.{words}
-use Rattle.monomial.specs.Monomial.{first}
+use mathlib.Core.Path.{◌∙◌}
 use Rattle.monomial_ordering.proofs.Orders.{by_less, by-greater, by-revlex}
-use borrow.Author.Rules.{rules}
 use Rattle.monomial_ordering.proofs.ord_by_totals.Goals as goal
 
 pub returns-then-s-t : goal.returns-then-s-t

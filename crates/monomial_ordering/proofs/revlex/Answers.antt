@@ -1,12 +1,8 @@
 use native.Mathlib.Omega.{arith}
-use mathlib.Core.Path.{◌≡◌, sym, ap, ◌∙◌}
-use lib.ListN.{length, get_or}
-use Prim.Native.Nat.{ℕ, ◌<◌, ◌-◌}
-use Rattle.words.specs.Words.{words}
-use Rattle.monomial.specs.Monomial.{first}
+use mathlib.Core.Path.{◌∙◌}
+use Prim.Native.Nat.{◌-◌}
 use Rattle.monomial.proofs.Firsts.{begins, first-bytes, read}
-use Rattle.monomial_ordering.proofs.Orders.{Matching, match-begin, all-equal, right-alone, left_alone, differs, matches}
-use borrow.Author.Rules.{rules}
+use Rattle.monomial_ordering.proofs.Orders.{match-begin, all-equal, right-alone, left_alone, differs, matches}
 use Rattle.monomial_ordering.proofs.revlex.Goals as goal
 
 pub loop-m-init : goal.loop-m-init

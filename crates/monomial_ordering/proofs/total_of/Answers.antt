@@ -1,13 +1,8 @@
 use native.Mathlib.Omega.{arith}
-use Prim.Native.Nat.{◌-◌}
-use lib.ListN.{length}
-use Rattle.words.specs.Words.{words}
 use Rattle.words.proofs.Fields.{is-end-true, is-end-false}
-use Rattle.monomial.specs.Monomial.{first}
 use Rattle.monomial.proofs.Walks.{within}
 use Rattle.monomial.proofs.Firsts.{begins, seen, first-bytes, first-canonical}
-use Rattle.monomial_ordering.proofs.Orders.{Totalling, total-begin, totalled, counted}
-use borrow.Author.Rules.{rules}
+use Rattle.monomial_ordering.proofs.Orders.{total-begin, totalled, counted}
 use Rattle.monomial_ordering.proofs.total_of.Goals as goal
 
 pub loop-kind-init : goal.loop-kind-init

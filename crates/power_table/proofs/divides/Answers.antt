@@ -1,13 +1,10 @@
 use Rattle.monomial.specs.Monomial.{first}
 use Rattle.monomial.proofs.Firsts.{seen, first-bytes}
 use native.Mathlib.Omega.{arith}
-use Prim.Native.Nat.{◌-◌}
-use lib.ListN.{length}
 use Rattle.words.specs.Words.{words}
 use Rattle.words.proofs.Fields.{is-end-true, is-end-false}
 use Rattle.monomial.proofs.Walks.{within}
-use Rattle.power_table.proofs.Tabling.{Passing, pass-start, pass-end, pass-more}
-use borrow.Author.Rules.{rules}
+use Rattle.power_table.proofs.Tabling.{pass-start, pass-end, pass-more}
 use Rattle.power_table.proofs.divides.Goals as goal
 
 pub loop-i-init : goal.loop-i-init

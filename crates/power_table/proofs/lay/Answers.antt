@@ -1,12 +1,10 @@
 use native.Mathlib.Omega.{arith}
-use Prim.Native.Nat.{◌-◌}
-use lib.ListN.{length}
-use mathlib.Core.Path.{◌≡◌, refl, ◌∙◌}
+use mathlib.Core.Path.{refl, ◌∙◌}
 use Rattle.words.specs.Words.{words}
 use Rattle.words.proofs.Fields.{is-end-true, is-end-false}
 use Rattle.words.proofs.Laws.{length-words}
 use Rattle.monomial.proofs.Walks.{within}
-use Rattle.power_table.proofs.Tabling.{Laying, lay-start, lay-end, lay-more}
+use Rattle.power_table.proofs.Tabling.{lay-start, lay-end, lay-more}
 use borrow.Author.Rules.{rules}
 use Rattle.power_table.proofs.lay.Goals as goal
 

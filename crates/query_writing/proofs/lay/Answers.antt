@@ -1,7 +1,5 @@
 use native.Mathlib.Omega.{arith}
-use mathlib.Core.Path.{◌≡◌, refl, sym, ap, ◌∙◌}
 use Rattle.query_writing.proofs.Posing.{shape-small, all_laid}
-use borrow.Author.Rules.{rules}
 use Rattle.query_writing.proofs.lay.Goals as goal
 
 pub overflow_add-label-3 : goal.overflow_add-label-3

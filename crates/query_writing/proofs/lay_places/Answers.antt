@@ -1,7 +1,6 @@
 use native.Mathlib.Omega.{arith}
-use mathlib.Core.Path.{◌≡◌, refl, sym, ap, ◌∙◌}
+use mathlib.Core.Path.{refl}
 use Rattle.query_writing.proofs.Posing.{shape-small, places-laid}
-use borrow.Author.Rules.{rules}
 use Rattle.query_writing.proofs.lay_places.Goals as goal
 
 pub put_six-requires : goal.put_six-requires

@@ -1,7 +1,6 @@
 use native.Mathlib.Omega.{arith}
 use Prim.Native.Nat.{◌%◌, ◌/◌}
 use Rattle.query_writing.proofs.Posing.{node-small, masks-written}
-use borrow.Author.Rules.{rules}
 use Rattle.query_writing.proofs.put_masks.Goals as goal
 
 pub put_six-requires : goal.put_six-requires

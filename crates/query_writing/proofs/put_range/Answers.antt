@@ -1,5 +1,4 @@
 use Rattle.query_writing.specs.Written.{range_words}
-use borrow.Author.Rules.{rules}
 use Rattle.query_writing.proofs.put_range.Goals as goal
 
 pub returns : goal.returns

@@ -1,5 +1,4 @@
 use Rattle.words.proofs.Laws.{six-written}
-use borrow.Author.Rules.{rules}
 use Rattle.query_writing.proofs.put_six.Goals as goal
 
 pub returns : goal.returns

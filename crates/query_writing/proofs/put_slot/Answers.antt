@@ -1,6 +1,5 @@
 use native.Mathlib.Omega.{arith}
 use Rattle.query_writing.proofs.Posing.{slot_small, slot-written}
-use borrow.Author.Rules.{rules}
 use Rattle.query_writing.proofs.put_slot.Goals as goal
 
 pub overflow_cast-slot : goal.overflow_cast-slot

@@ -1,5 +1,4 @@
 use Rattle.query_writing.proofs.Posing.{lm-slot, sign-slot}
-use borrow.Author.Rules.{rules}
 use Rattle.query_writing.proofs.slot_of.Goals as goal
 
 pub returns-then-lm : goal.returns-then-lm

@@ -1,6 +1,5 @@
 use Rattle.index_replies.proofs.Calling.{refuses, of-ratioed, six-below, six-above, two-or-six}
 use mathlib.Core.Logic.{inl, inr}
-use borrow.Author.Rules.{rules}
 use Rattle.ratio_monomial_index.proofs.call.Goals as goal
 
 pub returns-then-number-lt2 : goal.returns-then-number-lt2

@@ -2,7 +2,6 @@ use Rattle.index_replies.proofs.Queries.{head_of, sound-of, ready, replied, smal
 use Rattle.monomial.proofs.Firsts.{canonical-wide}
 use mathlib.Core.Path.{sym, ◌∙◌}
 use native.Mathlib.Omega.{arith}
-use borrow.Author.Rules.{rules}
 use Rattle.ratio_monomial_index.proofs.find_a_reducer.Goals as goal
 
 pub reducer-requires : goal.reducer-requires

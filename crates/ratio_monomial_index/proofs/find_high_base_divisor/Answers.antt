@@ -1,7 +1,6 @@
 use Rattle.index_replies.proofs.Queries.{head_of, sound-of, ready, replied, small, found_as}
 use Rattle.monomial.proofs.Firsts.{canonical-wide}
 use native.Mathlib.Omega.{arith}
-use borrow.Author.Rules.{rules}
 use Rattle.ratio_monomial_index.proofs.find_high_base_divisor.Goals as goal
 
 pub high-requires : goal.high-requires

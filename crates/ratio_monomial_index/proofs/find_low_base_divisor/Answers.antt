@@ -1,6 +1,5 @@
 use Rattle.index_replies.proofs.Queries.{head_of, sound-of, ready, replied, small, found_as}
 use native.Mathlib.Omega.{arith}
-use borrow.Author.Rules.{rules}
 use Rattle.ratio_monomial_index.proofs.find_low_base_divisor.Goals as goal
 
 pub low-requires : goal.low-requires

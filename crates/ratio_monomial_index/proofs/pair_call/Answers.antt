@@ -4,7 +4,6 @@ use Rattle.words.proofs.Laws.{length-words}
 use borrow.Author.Tests.{not-true, not-false}
 use mathlib.Core.Path.{refl}
 use native.Mathlib.Omega.{arith}
-use borrow.Author.Rules.{rules}
 use Rattle.ratio_monomial_index.proofs.pair_call.Goals as goal
 
 pub overflow_add-at : goal.overflow_add-at

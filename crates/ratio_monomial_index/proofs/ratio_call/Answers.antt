@@ -3,7 +3,6 @@ use Rattle.index_replies.proofs.Queries.{few-variables}
 use Rattle.words.proofs.Laws.{length-words}
 use borrow.Author.Tests.{not-true, not-false}
 use native.Mathlib.Omega.{arith}
-use borrow.Author.Rules.{rules}
 use Rattle.ratio_monomial_index.proofs.ratio_call.Goals as goal
 
 pub overflow_cast-v : goal.overflow_cast-v

@@ -4,7 +4,6 @@ use Rattle.call_list.proofs.Parting.{found-whole}
 use Rattle.words.proofs.Laws.{length-words}
 use borrow.Author.Tests.{not-true, not-false}
 use native.Mathlib.Omega.{arith}
-use borrow.Author.Rules.{rules}
 use Rattle.ratio_monomial_index.proofs.signed_call.Goals as goal
 
 pub overflow_cast-v : goal.overflow_cast-v

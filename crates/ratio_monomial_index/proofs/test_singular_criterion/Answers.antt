@@ -1,6 +1,5 @@
 use Rattle.index_replies.proofs.Queries.{head_of, sound-of, ready, replied, yes-none, yes-some}
 use mathlib.Core.Path.{sym, ◌∙◌}
-use borrow.Author.Rules.{rules}
 use Rattle.ratio_monomial_index.proofs.test_singular_criterion.Goals as goal
 
 pub singular-requires : goal.singular-requires

@@ -1,7 +1,6 @@
 use native.Mathlib.Omega.{arith}
 use Rattle.words.specs.Words.{word}
 use Rattle.words.proofs.Laws.{words-at}
-use borrow.Author.Rules.{rules}
 use Rattle.words.proofs.get.Goals as goal
 
 pub returns : goal.returns

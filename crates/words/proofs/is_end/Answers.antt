@@ -1,4 +1,3 @@
-use borrow.Author.Rules.{rules}
 use Rattle.words.proofs.is_end.Goals as goal
 
 pub returns : goal.returns

@@ -1,6 +1,5 @@
 use lib.Pow.{pow_pos}
 use native.Mathlib.Omega.{arith}
-use mathlib.Core.Logic.{⊎_elim}
 use Prim.Native.Nat.{min}
 use mathlib.Core.Path.{◌≡◌}
 use Rattle.divmask.proofs.Parts.{ones}

@@ -2,7 +2,6 @@ use native.Mathlib.Omega.{arith}
 use Rattle.words.specs.Words.{words}
 use Rattle.divmask.specs.Tracker.{grown}
 use Rattle.divmask.proofs.Growth.{total-low, total-high}
-use borrow.Author.Rules.{rules}
 use Rattle.divmask.proofs.tracker.has_grown_beyond_percentage.Goals as goal
 
 pub overflow_sub-result : goal.overflow_sub-result

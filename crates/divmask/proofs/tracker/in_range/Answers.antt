@@ -1,11 +1,8 @@
 use native.Mathlib.Omega.{arith}
-use borrow.Author.Rules.{rules}
-use lib.ListN.{drop, drop_of_length-le}
-use Prim.Native.Nat.{◌-◌}
-use mathlib.Core.Path.{◌≡◌, refl, sym, ◌∙◌}
+use lib.ListN.{drop_of_length-le}
+use mathlib.Core.Path.{refl, sym, ◌∙◌}
 use Rattle.words.specs.Words.{words}
 use Rattle.words.proofs.Laws.{length-words, word-and-rest}
-use Rattle.divmask.specs.Tracker.{all_in_range}
 use Rattle.divmask.proofs.Growth.{range-low, range-high, range-in, range-nil}
 use Rattle.divmask.proofs.tracker.in_range.Goals as goal
 

@@ -1,11 +1,10 @@
-use borrow.Author.Tests.{eq-eqb, ne_eqb, not-true, not-false}
+use borrow.Author.Tests.{eq-eqb, ne_eqb}
 use native.Mathlib.Omega.{arith}
 use mathlib.Core.Path.{sym, ◌∙◌}
 use lib.ListN.{length}
 use Prim.Native.Nat.{◌*◌}
 use Rattle.monomial.proofs.Sizing.{variables-fit}
 use Rattle.divmask.specs.Tracker.{maxima_lent}
-use borrow.Author.Rules.{rules}
 use Rattle.divmask.proofs.tracker.maxima_good.Goals as goal
 
 pub returns-then-not-variables_fit : goal.returns-then-not-variables_fit

@@ -1,11 +1,8 @@
-use native.Mathlib.Omega.{arith}
 use lib.ListN.{drop}
 use Prim.Native.Nat.{◌-◌, ◌+◌}
 use mathlib.Core.Path.{◌≡◌}
 use Rattle.words.specs.Words.{words}
-use Rattle.words.proofs.Laws.{length-words}
 use Rattle.divmask.specs.Tracker.{total}
-use Rattle.divmask.proofs.Growth.{total-step, total-all, total-high}
 use Rattle.divmask.proofs.tracker.total.Given as goal
 
 abbrev pub invariant-loop-i : goal.invariant-loop-i

@@ -1,5 +1,5 @@
 use native.Mathlib.Omega.{arith}
-use mathlib.Core.Path.{◌≡◌, sym, ap, ◌∙◌}
+use mathlib.Core.Path.{sym, ap, ◌∙◌}
 use Prim.Native.Nat.{◌+◌}
 use Rattle.words.specs.Words.{words}
 use Rattle.monomial_ordering.specs.Order.{order}
@@ -7,7 +7,6 @@ use Rattle.monomial.specs.Monomial.{first}
 use Rattle.fast_compare.specs.Map.{value_of}
 use Rattle.fast_compare.specs.Layout.{value_at}
 use Rattle.fast_compare.proofs.Scans.{row_fits, total-lent, ratio-starts, ratio-first, cmp-less, cmp-greater, cmp-ratio, value-index, value-ratio}
-use borrow.Author.Rules.{rules}
 use Rattle.fast_compare.proofs.rows.compare_at.Goals as goal
 
 pub get-requires : goal.get-requires

@@ -11,7 +11,6 @@ use Rattle.fast_compare.specs.Map.{Value, value_of, cmp}
 use Rattle.fast_compare.specs.Layout.{value_at, HasRatio}
 use Rattle.fast_compare.proofs.Ranks.{less_equal, less-greater}
 use Rattle.fast_compare.proofs.Scans.{ratio-starts, ratio-first, total-lent, value-parts}
-use borrow.Author.Rules.{rules}
 use Rattle.fast_compare.proofs.rows.rises.Goals.{After-compare_at-c}
 use Rattle.fast_compare.proofs.rows.rises.Goals as goal
 

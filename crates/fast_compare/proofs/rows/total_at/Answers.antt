@@ -1,7 +1,6 @@
 use native.Mathlib.Omega.{arith}
 use Rattle.fast_compare.proofs.Scans.{row_fits, ratio-starts, total-lent}
 use Prim.Native.Nat.{◌+◌}
-use borrow.Author.Rules.{rules}
 use Rattle.fast_compare.proofs.rows.total_at.Goals as goal
 
 pub overflow_add-a : goal.overflow_add-a

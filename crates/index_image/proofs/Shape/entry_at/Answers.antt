@@ -1,6 +1,5 @@
 use native.Mathlib.Omega.{arith}
 use Rattle.index_image.proofs.Bounds.{entries-small}
-use borrow.Author.Rules.{rules}
 use Rattle.index_image.proofs.Shape.entry_at.Goals as goal
 
 pub overflow_mul-result-2 : goal.overflow_mul-result-2

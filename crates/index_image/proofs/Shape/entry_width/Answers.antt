@@ -1,6 +1,5 @@
 use native.Mathlib.Omega.{arith}
 use Rattle.index_image.proofs.Bounds.{width_small}
-use borrow.Author.Rules.{rules}
 use Rattle.index_image.proofs.Shape.entry_width.Goals as goal
 
 pub overflow_mul-result : goal.overflow_mul-result

@@ -1,6 +1,5 @@
 use native.Mathlib.Omega.{arith}
 use Rattle.index_image.proofs.Bounds.{rows-small, labels-small}
-use borrow.Author.Rules.{rules}
 use Rattle.index_image.proofs.Shape.labels_size.Goals as goal
 
 pub overflow_mul-result : goal.overflow_mul-result

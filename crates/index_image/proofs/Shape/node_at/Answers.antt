@@ -1,6 +1,5 @@
 use native.Mathlib.Omega.{arith}
 use Rattle.index_image.proofs.Bounds.{entries-small, labels-small, nodes-small}
-use borrow.Author.Rules.{rules}
 use Rattle.index_image.proofs.Shape.node_at.Goals as goal
 
 pub overflow_add-result : goal.overflow_add-result

@@ -1,7 +1,6 @@
 use native.Mathlib.Omega.{arith}
 use Rattle.words.proofs.Answers.{refuse, accept, failed, passed}
 use Rattle.monomial.proofs.Sizing.{sizes-asked}
-use borrow.Author.Rules.{rules}
 use Rattle.index_image.proofs.head.in_range.Goals as goal
 
 pub returns-then-s-gt1 : goal.returns-then-s-gt1

@@ -3,10 +3,8 @@ use mathlib.Core.Path.{sym, ◌∙◌}
 use lib.ListN.{length}
 use Rattle.words.specs.Words.{words}
 use Rattle.words.proofs.Tables.{never}
-use borrow.Author.Tests.{not-true, not-false}
 use Rattle.index_image.proofs.Bounds.{size_small}
 use Rattle.index_image.proofs.Heads.{long-enough, bad, out_of_range, too_short, good}
-use borrow.Author.Rules.{rules}
 use Rattle.index_image.proofs.head.read.Goals as goal
 
 pub returns-then-image : goal.returns-then-image

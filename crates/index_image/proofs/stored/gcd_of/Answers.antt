@@ -1,9 +1,8 @@
 use native.Mathlib.Omega.{arith}
 use Rattle.monomial.specs.Monomial.{first}
 use Rattle.monomial.proofs.Firsts.{starts-wide}
-use borrow.Author.Rules.{rules}
 use mathlib.Core.Path.{◌≡◌, sym, ap}
-use Prim.Native.Nat.{ℕ, ◌+◌, ◌-◌, ◌*◌, ◌/◌, ◌≤◌}
+use Prim.Native.Nat.{◌+◌, ◌*◌, ◌/◌, ◌≤◌}
 use lib.ListN.{length}
 use Rattle.words.specs.Words.{words}
 use Rattle.words.proofs.Laws.{length-words}
@@ -12,7 +11,7 @@ use Rattle.index_image.specs.Walk.{lm_in}
 use Rattle.index_image.proofs.Gcds.{lm-canonical}
 use Rattle.index_image.proofs.Places.{EntryAt, entry-room, place-room, place-fits, entry-at-place}
 use Rattle.monomial.proofs.Powers.{canonical-length}
-use Rattle.index_image.proofs.Reading.{lm-read, Folding, fold-none, fold-canonical, lm-64, fold-one, fold_more}
+use Rattle.index_image.proofs.Reading.{lm-read, fold-none, fold-canonical, lm-64, fold-one, fold_more}
 use Rattle.index_image.proofs.stored.gcd_of.Goals.{After-get-e, After-get-e-in-loop-i, After-monomial_from, After-monomial_in-first, Start}
 use Rattle.index_image.proofs.stored.gcd_of.Goals as goal
 

@@ -2,7 +2,6 @@ use native.Mathlib.Omega.{arith}
 use Rattle.words.specs.Words.{words}
 use Rattle.index_image.proofs.Bounds.{Spots, spots}
 use Rattle.index_image.proofs.Reading.{label-at}
-use borrow.Author.Rules.{rules}
 use Rattle.index_image.proofs.stored.label_in.Goals.{After-get-r, Start}
 use Rattle.index_image.proofs.stored.label_in.Goals as goal
 

@@ -11,7 +11,6 @@ use Rattle.monomial.specs.Operations.{result_words}
 use Rattle.monomial.specs.declared.ordered_ops.Op.TheVariants.{Gcd}
 use Rattle.monomial.proofs.Firsts.{starts-wide, starts-whole, first-whole}
 use Rattle.index_image.proofs.Reading.{front-words, front-pasted, gcd-fits, gcd-small}
-use borrow.Author.Rules.{rules}
 use Rattle.index_image.proofs.stored.make_gcd.Goals.{After-gcd-r, Start}
 use Rattle.index_image.proofs.stored.make_gcd.Goals as goal
 

@@ -3,7 +3,6 @@ use Prim.Native.Nat.{◌+◌, ◌-◌, ◌*◌}
 use Rattle.index_image.specs.Shape as at
 use Rattle.words.proofs.Drafts.{part_of}
 use Rattle.monomial.proofs.Firsts.{starts-whole, first-whole}
-use borrow.Author.Rules.{rules}
 use Rattle.index_image.proofs.stored.masks_of.Goals as goal
 
 pub map-requires : goal.map-requires

@@ -6,7 +6,6 @@ use Prim.Native.Nat.{◌*◌}
 use lib.Seq.{length-take-le}
 use Rattle.monomial.proofs.Firsts.{starts-wide, starts-whole, first-whole}
 use Rattle.index_image.proofs.Reading.{front-words, gcd-held}
-use borrow.Author.Rules.{rules}
 use Rattle.index_image.proofs.stored.meet.Goals as goal
 
 pub slice_bounds-divides-end-2 : goal.slice_bounds-divides-end-2

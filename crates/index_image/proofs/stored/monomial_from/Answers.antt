@@ -1,7 +1,6 @@
 use mathlib.Core.Path.{refl}
 use Prim.Native.Nat.{◌*◌}
 use Rattle.index_image.proofs.Reading.{begins}
-use borrow.Author.Rules.{rules}
 use Rattle.index_image.proofs.stored.monomial_from.Goals as goal
 
 pub returns : goal.returns

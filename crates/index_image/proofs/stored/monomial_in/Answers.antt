@@ -1,7 +1,6 @@
 use mathlib.Core.Path.{◌∙◌}
 use Rattle.monomial.proofs.Ends.{ended-found}
 use Rattle.index_image.proofs.Reading.{taken}
-use borrow.Author.Rules.{rules}
 use Rattle.index_image.proofs.stored.monomial_in.Goals as goal
 
 pub returns : goal.returns

@@ -1,12 +1,10 @@
 use native.Mathlib.Omega.{arith}
 use mathlib.Core.Path.{sym, ◌∙◌, refl}
-use borrow.Author.Tests.{not-true, not-false}
 use Rattle.words.proofs.Answers.{refuse}
 use Rattle.words.proofs.Tables.{never}
 use Rattle.index_image.specs.Shape as shape
 use Rattle.index_image.proofs.Bounds.{rest}
 use Rattle.index_image.proofs.Slots.{range-words}
-use borrow.Author.Rules.{rules}
 use Rattle.index_tables.proofs.entries.entries_ok.Goals as goal
 
 pub overflow_mul-rest : goal.overflow_mul-rest

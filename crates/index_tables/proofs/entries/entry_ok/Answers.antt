@@ -1,10 +1,8 @@
 use native.Mathlib.Omega.{arith}
 use mathlib.Core.Path.{refl, sym, ◌∙◌}
-use borrow.Author.Tests.{not-true, not-false}
 use Rattle.words.proofs.Answers.{refuse}
 use Rattle.words.proofs.Tables.{never}
 use Rattle.index_image.proofs.Bounds.{inside}
-use borrow.Author.Rules.{rules}
 use Rattle.index_tables.proofs.entries.entry_ok.Goals as goal
 
 pub entry_at-e-requires : goal.entry_at-e-requires

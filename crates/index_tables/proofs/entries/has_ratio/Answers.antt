@@ -2,10 +2,9 @@ use Rattle.index_tables.proofs.Ratios.{Read, other-index, asks, answered}
 use Rattle.fast_compare.specs.Layout as labels
 use native.Mathlib.Omega.{arith}
 use mathlib.Core.Path.{◌∙◌}
-use Prim.Native.Nat.{ℕ, ◌+◌}
+use Prim.Native.Nat.{◌+◌}
 use Rattle.words.proofs.Answers.{refuse}
 use Rattle.index_image.proofs.Bounds.{Spots, spots}
-use borrow.Author.Rules.{rules}
 use Rattle.index_tables.proofs.entries.has_ratio.Goals.{After-get-2, After-get-row, Start}
 use Rattle.index_tables.proofs.entries.has_ratio.Goals as goal
 

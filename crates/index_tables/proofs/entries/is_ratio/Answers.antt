@@ -1,9 +1,7 @@
-use borrow.Author.Rules.{rules}
 use native.Mathlib.Omega.{arith}
 use mathlib.Core.Path.{sym, ◌∙◌}
 use Prim.Native.Nat.{◌+◌, ◌-◌, ◌≤◌}
 use lib.ListN.{length}
-use borrow.Author.Tests.{not-true, not-false}
 use Rattle.words.specs.Words.{words}
 use Rattle.words.proofs.Laws.{length-words}
 use Rattle.words.proofs.Answers.{refuse}
@@ -13,7 +11,7 @@ use Rattle.monomial.specs.Walk.{power_at}
 use Rattle.monomial.specs.declared.ordered_ops.Op.{Op}
 use Rattle.monomial.proofs.Firsts.{begins, seen, first-bytes, first-canonical}
 use Rattle.monomial.proofs.Walks.{falls}
-use Rattle.index_tables.proofs.Merging.{Merging, MergeFits, begin, fits, finished, powered, stopped, again}
+use Rattle.index_tables.proofs.Merging.{MergeFits, begin, fits, finished, powered, stopped, again}
 use Rattle.index_tables.proofs.entries.is_ratio.Goals.{At-loop-i, Else-u-eq0, Start}
 use Rattle.index_tables.proofs.entries.is_ratio.Goals as goal
 

@@ -1,13 +1,11 @@
 use native.Mathlib.Omega.{arith}
 use mathlib.Core.Path.{sym, ◌∙◌}
-use borrow.Author.Tests.{not-true, not-false}
 use Rattle.words.specs.Words.{words}
 use Rattle.words.specs.Tables.{part}
 use Rattle.words.proofs.Answers.{refuse}
 use Rattle.words.proofs.Laws.{words_small}
 use Rattle.words.proofs.Tables.{never}
 use Rattle.index_image.proofs.Slots.{found-slot, masked-iff, range-words}
-use borrow.Author.Rules.{rules}
 use Rattle.index_tables.proofs.entries.masked_slot.Goals as goal
 
 pub judge-found-requires : goal.judge-found-requires

@@ -1,6 +1,5 @@
 use native.Mathlib.Omega.{arith}
 use borrow.Author.Tests.{eq-eqb, ne_eqb}
-use borrow.Author.Rules.{rules}
 use Rattle.index_tables.proofs.entries.place_after.Goals as goal
 
 pub returns-then-p-eq32768 : goal.returns-then-p-eq32768

@@ -4,14 +4,12 @@ use Prim.Native.Nat.{◌<◌}
 use lib.ListN.{get_or}
 use Rattle.words.specs.Kinds.{kind}
 use Rattle.index_image.specs.Shape as at
-use borrow.Author.Tests.{not-true, not-false}
 use Rattle.words.proofs.Answers.{refuse}
 use Rattle.words.specs.Words.{words}
 use Rattle.words.proofs.Tables.{never}
 use Rattle.index_image.specs.Walk.{row_in}
 use Rattle.index_image.specs.Door as door
 use Rattle.index_image.proofs.Bounds.{Spots, spots}
-use borrow.Author.Rules.{rules}
 use Rattle.index_tables.proofs.entries.ratio_ok.Goals.{After-get-2, After-get-3, After-kind, Start}
 use Rattle.index_tables.proofs.entries.ratio_ok.Goals as goal
 

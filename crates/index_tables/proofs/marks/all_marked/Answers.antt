@@ -1,9 +1,6 @@
 use native.Mathlib.Omega.{arith}
-use borrow.Author.Rules.{rules}
-use mathlib.Core.Path.{◌≡◌, refl}
-use Prim.Native.Nat.{ℕ, ◌-◌, ◌<◌, ◌≤◌}
+use mathlib.Core.Path.{refl}
 use borrow.Author.Count.{below_more}
-use lib.ListN.{get_or}
 use Rattle.words.proofs.Answers.{refuse}
 use Rattle.index_tables.proofs.marks.all_marked.Goals as goal
 

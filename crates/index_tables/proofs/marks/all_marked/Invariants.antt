@@ -1,10 +1,6 @@
-use native.Mathlib.Omega.{arith}
-use borrow.Author.Rules.{rules}
-use mathlib.Core.Path.{◌≡◌, refl}
+use mathlib.Core.Path.{◌≡◌}
 use Prim.Native.Nat.{ℕ, ◌-◌, ◌<◌, ◌≤◌}
-use borrow.Author.Count.{below_more}
 use lib.ListN.{get_or}
-use Rattle.words.proofs.Answers.{refuse}
 use Rattle.index_tables.proofs.marks.all_marked.Given as goal
 
 abbrev pub invariant-loop-j : goal.invariant-loop-j

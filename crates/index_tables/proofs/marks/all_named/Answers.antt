@@ -1,5 +1,4 @@
 use Rattle.index_tables.proofs.Marking.{blank-array, named-marked}
-use borrow.Author.Rules.{rules}
 use Rattle.index_tables.proofs.marks.all_named.Goals as goal
 
 pub mark-requires : goal.mark-requires

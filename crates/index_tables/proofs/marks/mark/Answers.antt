@@ -1,10 +1,7 @@
 use native.Mathlib.Omega.{arith}
-use borrow.Author.Rules.{rules}
 use mathlib.Core.Path.{◌≡◌, refl}
-use Prim.Native.Nat.{◌-◌, ◌≤◌}
-use lib.ListN.{length, length-set}
+use lib.ListN.{length-set}
 use Rattle.words.specs.Words.{words}
-use Rattle.index_image.specs.Marks.{Marked}
 use Rattle.index_image.proofs.Bounds.{times}
 use Rattle.index_tables.proofs.Marking.{none-marked, one_more}
 use Rattle.index_tables.proofs.marks.mark.Goals as goal

@@ -1,5 +1,4 @@
 use native.Mathlib.Omega.{arith}
-use borrow.Author.Rules.{rules}
 use Rattle.monomial.proofs.ordered_ops.meet.Goals as goal
 
 pub returns-then-x-y : goal.returns-then-x-y

@@ -1,7 +1,6 @@
 use Prim.Native.Nat.{◌*◌, ◌-◌}
 use borrow.Author.Tests.{eq-eqb, ne_eqb}
-use mathlib.Core.Path.{refl, ◌∙◌}
-use borrow.Author.Rules.{rules}
+use mathlib.Core.Path.{◌∙◌}
 use Rattle.monomial.proofs.ordered_ops.push.Goals as goal
 
 pub returns-then-p-kind : goal.returns-then-p-kind

@@ -1,7 +1,6 @@
 use mathlib.Core.Path.{sym, ◌∙◌}
 use borrow.Author.Tests.{eq-eqb, ne_eqb}
 use Rattle.monomial.specs.Walk.{past}
-use borrow.Author.Rules.{rules}
 use Rattle.monomial.proofs.ordered_ops.step.Goals as goal
 
 pub returns-then-upper_half-u : goal.returns-then-upper_half-u

@@ -1,14 +1,8 @@
-use Rattle.monomial.specs.Monomial.{first}
 use Rattle.monomial.proofs.Firsts.{begins, seen, first-bytes, first-canonical}
 use native.Mathlib.Omega.{arith}
-use borrow.Author.Rules.{rules}
-use mathlib.Core.Path.{◌≡◌, sym, ap, ◌∙◌}
-use Prim.Native.Nat.{◌+◌, ◌-◌}
-use lib.ListN.{length}
-use Rattle.words.specs.Words.{words}
-use Rattle.words.proofs.Laws.{length-words}
+use mathlib.Core.Path.{◌∙◌}
 use Rattle.monomial.proofs.Walks.{falls}
-use Rattle.monomial.proofs.Sums.{Summing, begin, fits, finished, powered, again, kind-small}
+use Rattle.monomial.proofs.Sums.{begin, fits, finished, powered, again, kind-small}
 use Rattle.monomial.proofs.ordered_ops.sum.Goals as goal
 
 pub loop-op-init : goal.loop-op-init

@@ -1,14 +1,8 @@
 use Rattle.monomial.specs.Monomial.{first}
-use Rattle.monomial.proofs.Firsts.{begins, seen, first-bytes, first-canonical}
-use native.Mathlib.Omega.{arith}
-use borrow.Author.Rules.{rules}
-use mathlib.Core.Path.{◌≡◌, sym, ap, ◌∙◌}
 use Prim.Native.Nat.{◌+◌, ◌-◌}
 use lib.ListN.{length}
 use Rattle.words.specs.Words.{words}
-use Rattle.words.proofs.Laws.{length-words}
-use Rattle.monomial.proofs.Walks.{falls}
-use Rattle.monomial.proofs.Sums.{Summing, begin, fits, finished, powered, again, kind-small}
+use Rattle.monomial.proofs.Sums.{Summing}
 use Rattle.monomial.proofs.ordered_ops.sum.Given as goal
 
 abbrev pub invariant-loop-op : goal.invariant-loop-op

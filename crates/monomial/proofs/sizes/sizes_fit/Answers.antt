@@ -1,8 +1,7 @@
-use borrow.Author.Tests.{le-leb, lt-leb, not-true, not-false}
+use borrow.Author.Tests.{le-leb, lt-leb}
 use native.Mathlib.Omega.{arith}
 use mathlib.Core.Path.{sym, ◌∙◌}
-use Rattle.monomial.specs.Sizes.{variables_fit, sizes_fit}
-use borrow.Author.Rules.{rules}
+use Rattle.monomial.specs.Sizes.{sizes_fit}
 use Rattle.monomial.proofs.sizes.sizes_fit.Goals as goal
 
 pub returns-then-not-variables_fit : goal.returns-then-not-variables_fit

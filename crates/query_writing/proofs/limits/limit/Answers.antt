@@ -1,8 +1,6 @@
 use Rattle.words.specs.Words.{words}
 use Rattle.query_writing.proofs.Limiting.{pass_all}
-use mathlib.Core.Path.{sym}
 use native.Mathlib.Omega.{arith}
-use borrow.Author.Rules.{rules}
 use Rattle.query_writing.proofs.limits.limit.Goals as goal
 
 pub set_powers-requires : goal.set_powers-requires

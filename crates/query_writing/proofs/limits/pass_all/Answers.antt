@@ -1,8 +1,6 @@
 use native.Mathlib.Omega.{arith}
-use Prim.Native.Nat.{ℕ, ◌+◌, ◌-◌, ◌≤◌}
-use lib.ListN.{length}
-use mathlib.Core.Path.{◌≡◌, refl}
-use Rattle.query_writing.proofs.Limiting.{AllPass, pass-more, pass-end}
+use mathlib.Core.Path.{refl}
+use Rattle.query_writing.proofs.Limiting.{pass-more, pass-end}
 use Rattle.query_writing.proofs.limits.pass_all.Goals as goal
 
 pub loop-v-init : goal.loop-v-init

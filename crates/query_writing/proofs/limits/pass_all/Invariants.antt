@@ -1,8 +1,7 @@
-use native.Mathlib.Omega.{arith}
-use Prim.Native.Nat.{ℕ, ◌+◌, ◌-◌, ◌≤◌}
+use Prim.Native.Nat.{◌-◌, ◌≤◌}
 use lib.ListN.{length}
-use mathlib.Core.Path.{◌≡◌, refl}
-use Rattle.query_writing.proofs.Limiting.{AllPass, pass-more, pass-end}
+use mathlib.Core.Path.{◌≡◌}
+use Rattle.query_writing.proofs.Limiting.{AllPass}
 use Rattle.query_writing.proofs.limits.pass_all.Given as goal
 
 abbrev pub invariant-loop-v : goal.invariant-loop-v

@@ -1,13 +1,9 @@
-use borrow.Author.Rules.{rules}
 use native.Mathlib.Omega.{arith}
-use Prim.Native.Nat.{ℕ, ◌+◌, ◌-◌, ◌≤◌}
-use lib.ListN.{length}
-use mathlib.Core.Path.{◌≡◌, refl, ap, ◌∙◌}
+use mathlib.Core.Path.{refl, ◌∙◌}
 use Rattle.words.specs.Words.{words}
-use Rattle.words.specs.Kinds.{ident}
 use Rattle.words.proofs.Laws.{length-words}
 use Rattle.monomial.proofs.Walks.{within}
-use Rattle.query_writing.proofs.Limiting.{Setting, top-few, set-start, set-end, set_more}
+use Rattle.query_writing.proofs.Limiting.{top-few, set-start, set-end, set_more}
 use Rattle.query_writing.proofs.limits.set_powers.Goals as goal
 
 pub get-requires : goal.get-requires

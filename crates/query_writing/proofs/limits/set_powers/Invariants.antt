@@ -1,13 +1,8 @@
-use borrow.Author.Rules.{rules}
-use native.Mathlib.Omega.{arith}
-use Prim.Native.Nat.{ℕ, ◌+◌, ◌-◌, ◌≤◌}
+use Prim.Native.Nat.{◌-◌}
 use lib.ListN.{length}
-use mathlib.Core.Path.{◌≡◌, refl, ap, ◌∙◌}
+use mathlib.Core.Path.{◌≡◌}
 use Rattle.words.specs.Words.{words}
-use Rattle.words.specs.Kinds.{ident}
-use Rattle.words.proofs.Laws.{length-words}
-use Rattle.monomial.proofs.Walks.{within}
-use Rattle.query_writing.proofs.Limiting.{Setting, top-few, set-start, set-end, set_more}
+use Rattle.query_writing.proofs.Limiting.{Setting}
 use Rattle.query_writing.proofs.limits.set_powers.Given as goal
 
 abbrev pub invariant-loop-s : goal.invariant-loop-s

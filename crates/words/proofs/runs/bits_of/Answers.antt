@@ -1,12 +1,8 @@
 use native.Mathlib.Omega.{arith}
-use mathlib.Core.Logic.{◌↔◌}
 use mathlib.Core.Path.{◌≡◌}
-use Prim.Native.Nat.{◌-◌, ◌≤◌}
 use Rattle.words.specs.Words.{words}
-use Rattle.words.specs.Tables.{part, zeros}
 use Rattle.words.proofs.Laws.{length-words}
 use Rattle.words.proofs.Tables.{bits_none, bits-more}
-use borrow.Author.Rules.{rules}
 use Rattle.words.proofs.runs.bits_of.Goals as goal
 
 pub loop-i-init : goal.loop-i-init

@@ -1,11 +1,8 @@
-use native.Mathlib.Omega.{arith}
-use borrow.Author.Rules.{rules}
-use mathlib.Core.Path.{◌≡◌, refl, ap, ◌∙◌}
-use Prim.Native.Nat.{ℕ, ◌-◌, ◌≤◌}
+use mathlib.Core.Path.{◌≡◌}
+use Prim.Native.Nat.{◌-◌, ◌≤◌}
 use lib.ListN.{length}
 use Rattle.words.specs.Words.{paste_w}
 use Rattle.words.specs.Tables.{zeros}
-use Rattle.words.proofs.Tables.{clear_none, clear-more}
 use Rattle.words.proofs.runs.clear.Given as goal
 
 abbrev pub invariant-loop-i : goal.invariant-loop-i

@@ -6,7 +6,6 @@ use Rattle.words.specs.Words.{words}
 use Rattle.words.specs.Tables.{part}
 use Rattle.words.proofs.Laws.{length-words}
 use Rattle.words.proofs.Tables.{length_part, paste_w-cons}
-use borrow.Author.Rules.{rules}
 use Rattle.words.proofs.runs.insert.Goals as goal
 
 pub returns : goal.returns

@@ -2,7 +2,6 @@ use borrow.Author.Tests.{eqb-true, eq-eqb}
 use mathlib.Core.Path.{◌≡◌}
 use mathlib.Core.Bool.{true}
 use lib.Dec.{eqb}
-use borrow.Author.Rules.{rules}
 use Rattle.words.proofs.runs.is_blank.Goals as goal
 
 pub returns : goal.returns

@@ -1,12 +1,7 @@
-use native.Mathlib.Omega.{arith}
-use borrow.Author.Rules.{rules}
-use mathlib.Core.Path.{◌≡◌, refl, sym, ap, ◌∙◌}
-use Prim.Native.Nat.{◌+◌, ◌-◌, ◌≤◌, ◌<◌}
-use native.Mathlib.Numerals.{add-one}
-use lib.ListN.{length, get_or, take}
-use lib.Seq.{take-suc, take_all, length-take-le}
+use mathlib.Core.Path.{◌≡◌}
+use Prim.Native.Nat.{◌-◌, ◌≤◌}
+use lib.ListN.{length, take}
 use Rattle.words.specs.Words.{words, paste_w}
-use Rattle.words.proofs.Laws.{length-words, paste_w-nil, paste_w-snoc}
 use Rattle.words.proofs.runs.paste.Given as goal
 
 abbrev pub invariant-loop-i : goal.invariant-loop-i
