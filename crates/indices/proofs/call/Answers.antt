@@ -1,5 +1,4 @@
 use Rattle.index_replies.proofs.Queries.{two-kinds}
-use borrow.Author.Rules.{rules}
 use Rattle.indices.proofs.call.Goals as goal
 
 pub call-requires : goal.call-requires

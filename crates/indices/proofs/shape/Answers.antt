@@ -1,6 +1,5 @@
 use Rattle.index_replies.proofs.Queries.{root-of, head-room}
 use native.Mathlib.Omega.{arith}
-use borrow.Author.Rules.{rules}
 use Rattle.indices.proofs.shape.Goals as goal
 
 pub get-requires : goal.get-requires
