@@ -17,7 +17,6 @@ use Rattle.index_theory.specs.State.{ratioed, State, opened}
 use Rattle.index_theory.specs.Calls.{calls}
 use Rattle.index_theory.specs.Listing.{listing}
 use Rattle.index_image.specs.Layout.{code, encode, Is, Sound}
-use Rattle.index_image.specs.Shape as at
 use Rattle.index_image.specs.Size.{empty_shape, bytes}
 use Rattle.index_image.specs.declared.Shape.{Shape}
 use Rattle.index_image.proofs.Bounds.{size_small}

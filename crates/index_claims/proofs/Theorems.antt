@@ -20,7 +20,7 @@ use Rattle.kd_theory.specs.Tree.{inorder}
 use Rattle.index_theory.specs.Entries.{Entry, entry_at}
 use Rattle.index_theory.specs.State.{Kind, State, Valid, opened}
 use Rattle.index_theory.specs.Searches.{Query, containment, reducing, high, low, singular}
-use Rattle.index_theory.specs.Calls.{Call, calls, listed, Request, insertion, query, insert_number, Asked, refused, asks, ask, Done, step, after, answers}
+use Rattle.index_theory.specs.Calls.{Call, listed, Request, insertion, query, insert_number, Asked, refused, asks, ask, Done, step, after, answers}
 use Rattle.index_theory.specs.Claims as claims
 use Rattle.index_theory.specs.Claims.{YesNo, ReducerIs, no_reducer, a_regular, a_singular, BaseIs, no_divisor, the_largest, CallOf, Finds, AnswerIs, Ties}
 use Rattle.index_theory.specs.Demand3.{Answered, NotUnsaid}

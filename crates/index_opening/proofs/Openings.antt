@@ -19,7 +19,7 @@ use Rattle.fast_compare.specs.Map as map
 use Rattle.fast_compare.proofs.Opening.{empty-words}
 use Rattle.kd_theory.specs.Tree.{leaf, nodes}
 use Rattle.kd_theory.specs.Bifurcate.{least}
-use Rattle.index_theory.specs.State.{Kind, State, power_in, opened}
+use Rattle.index_theory.specs.State.{Kind, power_in, opened}
 use Rattle.index_image.specs.Layout.{code, header, slot, gcd_powers, gcd_of, node_words, tree_words, label_words, encode}
 use Rattle.index_image.specs.Shape as at
 use Rattle.index_image.specs.declared.Shape.{Shape}

@@ -1,8 +1,6 @@
 use Rattle.divisor_index.proofs.Replying.{length-refused, length-small, length-is, one-kind, sizes}
-use borrow.Author.Tests.{not-true, not-false}
 use mathlib.Core.Path.{sym, ◌∙◌}
 use native.Mathlib.Omega.{arith}
-use borrow.Author.Rules.{rules}
 use Rattle.divisor_index.proofs.divisor_index_length.Goals as goal
 
 pub returns-then-not-opening_good : goal.returns-then-not-opening_good

@@ -1,6 +1,4 @@
 use Rattle.divisor_index.proofs.Replying.{clash, listing-three, listing-six, listing-five, listing-room, listing-served}
-use borrow.Author.Tests.{not-true, not-false}
-use borrow.Author.Rules.{rules}
 use Rattle.divisor_index.proofs.divisor_index_list.Goals as goal
 
 pub returns-then-not-sound : goal.returns-then-not-sound

@@ -1,9 +1,7 @@
 use Rattle.divisor_index.proofs.Replying.{open-one, open-two, open-served, one-kind, sizes, maxima}
 use Rattle.index_image.proofs.Shapes.{empty-range}
-use borrow.Author.Tests.{not-true, not-false}
 use mathlib.Core.Path.{sym, ◌∙◌}
 use native.Mathlib.Omega.{arith}
-use borrow.Author.Rules.{rules}
 use Rattle.divisor_index.proofs.divisor_index_open.Goals as goal
 
 pub returns-then-not-opening_good : goal.returns-then-not-opening_good

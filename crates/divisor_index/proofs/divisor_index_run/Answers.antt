@@ -1,7 +1,5 @@
 use Rattle.divisor_index.proofs.Replying.{clash, run-three, run-four, run-five, run-served}
-use borrow.Author.Tests.{not-true, not-false}
 use native.Mathlib.Omega.{arith}
-use borrow.Author.Rules.{rules}
 use Rattle.divisor_index.proofs.divisor_index_run.Goals as goal
 
 pub returns-then-not-sound : goal.returns-then-not-sound

@@ -1,7 +1,5 @@
 use mathlib.Core.Path.{sym, ◌∙◌}
-use borrow.Author.Tests.{not-true, not-false}
 use Rattle.divisor_index.proofs.Replying.{bad_kind, bad-sizes, good-is}
-use borrow.Author.Rules.{rules}
 use Rattle.divisor_index.proofs.opening_good.Goals as goal
 
 pub returns-then-kind-gt1 : goal.returns-then-kind-gt1

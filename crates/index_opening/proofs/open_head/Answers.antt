@@ -1,6 +1,5 @@
 use Rattle.index_opening.proofs.Openings.{head-written}
 use native.Mathlib.Omega.{arith}
-use borrow.Author.Rules.{rules}
 use Rattle.index_opening.proofs.open_head.Goals as goal
 
 pub clear-requires : goal.clear-requires

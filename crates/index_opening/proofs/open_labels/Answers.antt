@@ -2,7 +2,6 @@ use Rattle.index_opening.proofs.Openings.{labels-none, labels-written, asked-lab
 use Prim.Native.Nat.{◌*◌, ◌+◌, ◌-◌}
 use mathlib.Core.Path.{ap}
 use native.Mathlib.Omega.{arith}
-use borrow.Author.Rules.{rules}
 use Rattle.index_opening.proofs.open_labels.Goals as goal
 
 pub returns-then-s-eq0 : goal.returns-then-s-eq0

@@ -1,5 +1,4 @@
 use Rattle.index_opening.proofs.Openings.{opened-tables}
-use borrow.Author.Rules.{rules}
 use Rattle.index_opening.proofs.open_tables.Goals as goal
 
 pub returns : goal.returns

@@ -5,7 +5,6 @@ use Rattle.word_reader.specs.declared.Step.{Step}
 use Rattle.word_reader.proofs.Places.{end-of-call}
 use mathlib.Core.Path.{ap, ◌∙◌}
 use native.Mathlib.Omega.{arith}
-use borrow.Author.Rules.{rules}
 use Rattle.index_run.proofs.call_at.Goals as goal
 
 pub overflow_add-at : goal.overflow_add-at

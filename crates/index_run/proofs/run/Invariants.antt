@@ -1,12 +1,8 @@
-use borrow.Author.Rules.{rules}
-use native.Mathlib.Omega.{arith}
-use mathlib.Core.Path.{◌≡◌, refl, ◌∙◌}
-use Prim.Native.Nat.{◌-◌, ◌<◌}
+use mathlib.Core.Path.{◌≡◌}
+use Prim.Native.Nat.{◌-◌}
 use lib.ListN.{length}
 use Rattle.words.specs.Words.{words}
-use Rattle.words.proofs.Laws.{length-words}
-use Rattle.word_reader.proofs.Places.{end-inside}
-use Rattle.index_run.proofs.Running.{Running, running_none, running-sound, place-small, running-next, running-all, list-first, part_room}
+use Rattle.index_run.proofs.Running.{Running}
 use Rattle.index_run.proofs.run.Given as goal
 
 abbrev pub invariant-loop-at : goal.invariant-loop-at
