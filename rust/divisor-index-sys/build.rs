@@ -4,22 +4,17 @@
 //! package's folder if it is relative, else in the repository's target/c. The folder
 //! of the header is given to build scripts of dependents as DEP_DIVISOR_INDEX_INCLUDE.
 
-use std::{env, fs, path::PathBuf};
+use std::{env, path::PathBuf};
 
 const DEFAULT_LIB: &str = "../../target/c";
-
-/// A function that the archive of `rt staticlib divisor_index`, which has the same
-/// name, lacks: that one is of one crate alone.
-const OF_ANOTHER_CRATE: &[u8] = b"divisor_index_check";
 
 fn main() {
     let package = PathBuf::from(env::var_os("CARGO_MANIFEST_DIR").unwrap());
     let folder = package.join(env::var_os("DIVISOR_INDEX_LIB").unwrap_or(DEFAULT_LIB.into()));
     let archive = folder.join("libdivisor_index.a");
-    let bytes = fs::read(&archive).unwrap_or_default();
     assert!(
-        bytes.windows(OF_ANOTHER_CRATE.len()).any(|name| name == OF_ANOTHER_CRATE),
-        "{} is not there or not whole: run rust/archive in the repository, or name the archive's folder by DIVISOR_INDEX_LIB",
+        archive.is_file(),
+        "{} is not there: run rust/archive in the repository, or name the archive's folder by DIVISOR_INDEX_LIB",
         archive.display()
     );
 
