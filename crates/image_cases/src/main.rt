@@ -162,7 +162,7 @@ fn lines(rt: &impl Print, s: &mut [u8]) -> io::Result<usize> {
 
 fn main(rt: HostRuntime) -> io::Result<()> {
     let mut buf = [0u8; 131072];
-    let n = program_io::read_full(&mut rt.reader(), &mut buf)?;
+    let n = program_io::read_full(&mut rt.stdin(), &mut buf)?;
     if n == 131072 {
         return println!(rt; "standard input is too long");
     }

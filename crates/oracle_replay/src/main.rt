@@ -283,7 +283,7 @@ fn lines(rt: &impl Print, s: &[u8]) -> io::Result<()> {
 
 fn main(rt: HostRuntime) -> io::Result<()> {
     let mut buf = [0u8; 81920];
-    let n = program_io::read_full(&mut rt.reader(), &mut buf)?;
+    let n = program_io::read_full(&mut rt.stdin(), &mut buf)?;
     lines(&rt, &buf[..n])?;
     println!(rt; "{} bytes unread", unread(&buf[..n]))
 }

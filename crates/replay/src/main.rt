@@ -42,6 +42,6 @@ fn main(rt: HostRuntime) -> io::Result<()> {
         &mut image,
     );
     let mut list = [0u8; 16384];
-    let n = program_io::read_full(&mut rt.reader(), &mut list)?;
+    let n = program_io::read_full(&mut rt.stdin(), &mut list)?;
     replay(&rt, &mut image, &list[..n])
 }

@@ -1,5 +1,6 @@
-// Judges the deepest tree that an image can hold, a chain of 4,096 levels, on 1 MiB of stack, which the C header promises to suffice.
-// A program cannot limit its stack, so its own frames use up the rest of the 8 MiB that it has by default.
+// Judges the deepest tree that an image can hold, a chain of 4,096 levels. A program cannot limit its stack, so its own frames use up most
+// of the 8 MiB that it has by default. What they leave has to do for either compiler: as LLVM builds it a level takes 163 bytes, as Rattle's
+// own compiler does 520. That 1 MiB suffices in the archive for C, which LLVM builds, is judged by rust/harness/tests/stack.rs.
 //
 // Standard input is the image of a full index of one variable (rust/make-replay).
 #![tactic(auto)]
@@ -31,9 +32,9 @@ fn below(reader: &mut impl Read, image: &[u8], frames: usize) -> io::Result<bool
 
 fn main(rt: HostRuntime) -> io::Result<()> {
     let mut image = [0u8; 327680];
-    let mut reader = rt.reader();
+    let mut reader = rt.stdin();
     let n = program_io::read_full(&mut reader, &mut image)?;
-    if below(&mut reader, &image[..n], 106)? {
+    if below(&mut reader, &image[..n], 74)? {
         return println!(rt; "sound");
     }
     println!(rt; "not sound")
