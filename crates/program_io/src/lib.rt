@@ -8,7 +8,8 @@ use std::io;
 use std::io::Read;
 
 /// Reads until `buf` is full or the input ends, and returns how many bytes it put at the front of `buf`. It asks for no byte past
-/// these. A read that fails ends it.
+/// these. A read that fails ends it. What stands in `buf` behind them, or after a failure, is up to the reader, of whose `read` no
+/// clause says it.
 pub fn read_full<R: Read>(reader: &mut R, buf: &mut [u8]) -> io::Result<usize>
     ensures bound { IfOk result (λ n. n ≤ length buf.new) }
     ensures bytes { IfOk result (λ n. Consumes (R.remaining reader.old) (R.remaining reader.new) (take n buf.new)) }

@@ -183,10 +183,25 @@ pub shape_of-hi-then-t-eq0 : goal.shape_of-hi-then-t-eq0
 shape_of-hi-then-t-eq0 t c = ap length (kept (goal.at.shape_of-hi-then-t-eq0 t c).After-slice_known-4-1)
 
 pub returns-then-t-eq0 : goal.returns-then-t-eq0
-returns-then-t-eq0 t c = record { walked = no-first c.requires.ready (less (goal.at.returns-then-t-eq0 t c).After-walk-t (tagged (goal.at.returns-then-t-eq0 t c).After-get (row (goal.at.returns-then-t-eq0 t c).After-get-c)) (keyed (goal.at.returns-then-t-eq0 t c).Else-not-key_ok)) c.if-t-eq0.true; hi_unchanged = kept (goal.at.returns-then-t-eq0 t c).After-slice_known-4-1 }
+returns-then-t-eq0 t c = record {
+  walked = no-first c.requires.ready
+      (less (goal.at.returns-then-t-eq0 t c).After-walk-t (tagged (goal.at.returns-then-t-eq0 t c).After-get (row (goal.at.returns-then-t-eq0 t c).After-get-c)) (keyed (goal.at.returns-then-t-eq0 t c).Else-not-key_ok)) c.if-t-eq0.true;
+  hi_unchanged = kept (goal.at.returns-then-t-eq0 t c).After-slice_known-4-1;
+}
 
 pub count_behind-ca-requires : goal.count_behind-ca-requires
-count_behind-ca-requires t c = record { ready = c.requires.ready; k_bound = (omega (arith, (one (goal.at.count_behind-ca-requires t c).Else-t-eq0 (less (goal.at.count_behind-ca-requires t c).After-walk-t (tagged (goal.at.count_behind-ca-requires t c).After-get (row (goal.at.count_behind-ca-requires t c).After-get-c)) (keyed (goal.at.count_behind-ca-requires t c).Else-not-key_ok))).inside, c.if-t-eq0.false), c.node_at-at.ensures) }
+count_behind-ca-requires t c = record {
+  ready = c.requires.ready;
+  k_bound = (
+    omega (
+      arith,
+      (one (goal.at.count_behind-ca-requires t c).Else-t-eq0
+          (less (goal.at.count_behind-ca-requires t c).After-walk-t (tagged (goal.at.count_behind-ca-requires t c).After-get (row (goal.at.count_behind-ca-requires t c).After-get-c)) (keyed (goal.at.count_behind-ca-requires t c).Else-not-key_ok))).inside,
+      c.if-t-eq0.false,
+    ),
+    c.node_at-at.ensures,
+  );
+}
 
 pub shape_of-hi-then-ca-eq0 : goal.shape_of-hi-then-ca-eq0
 shape_of-hi-then-ca-eq0 t c = ap length (kept (goal.at.shape_of-hi-then-ca-eq0 t c).After-slice_known-4-1)
@@ -194,7 +209,8 @@ shape_of-hi-then-ca-eq0 t c = ap length (kept (goal.at.shape_of-hi-then-ca-eq0 t
 pub returns-then-ca-eq0 : goal.returns-then-ca-eq0
 returns-then-ca-eq0 t c =
     let some = c.if-t-eq0.false in
-    let less-entries = no_less c.requires.ready (less (goal.at.returns-then-ca-eq0 t c).After-walk-t (tagged (goal.at.returns-then-ca-eq0 t c).After-get (row (goal.at.returns-then-ca-eq0 t c).After-get-c)) (keyed (goal.at.returns-then-ca-eq0 t c).Else-not-key_ok)) (omega (arith, some)) c.count_behind-ca.ensures c.if-ca-eq0.true in record { walked = less-entries; hi_unchanged = kept (goal.at.returns-then-ca-eq0 t c).After-slice_known-4-1 }
+    let less-entries = no_less c.requires.ready
+    (less (goal.at.returns-then-ca-eq0 t c).After-walk-t (tagged (goal.at.returns-then-ca-eq0 t c).After-get (row (goal.at.returns-then-ca-eq0 t c).After-get-c)) (keyed (goal.at.returns-then-ca-eq0 t c).Else-not-key_ok)) (omega (arith, some)) c.count_behind-ca.ensures c.if-ca-eq0.true in record { walked = less-entries; hi_unchanged = kept (goal.at.returns-then-ca-eq0 t c).After-slice_known-4-1 }
 
 pub count_at-all-requires : goal.count_at-all-requires
 count_at-all-requires t c = record { ready = c.requires.ready; k_lt_nodes = omega (arith, c.if-s-k.false) }
@@ -205,15 +221,34 @@ overflow_add-k-2 t c =
 
 pub overflow_add-k-3 : goal.overflow_add-k-3
 overflow_add-k-3 t c =
-    omega (arith, (one (goal.at.overflow_add-k-3 t c).Else-t-eq0 (less (goal.at.overflow_add-k-3 t c).After-walk-t (tagged (goal.at.overflow_add-k-3 t c).After-get (row (goal.at.overflow_add-k-3 t c).After-get-c)) (keyed (goal.at.overflow_add-k-3 t c).Else-not-key_ok))).inside, numbers (goal.at.overflow_add-k-3 t c).Start)
+    omega (
+      arith,
+      (one (goal.at.overflow_add-k-3 t c).Else-t-eq0
+          (less (goal.at.overflow_add-k-3 t c).After-walk-t (tagged (goal.at.overflow_add-k-3 t c).After-get (row (goal.at.overflow_add-k-3 t c).After-get-c)) (keyed (goal.at.overflow_add-k-3 t c).Else-not-key_ok))).inside,
+      numbers (goal.at.overflow_add-k-3 t c).Start,
+    )
 
 pub overflow_add-lo : goal.overflow_add-lo
 overflow_add-lo t c =
     let if2 = c.if-avail-c in
-    omega (arith, (one (goal.at.overflow_add-lo t c).Else-t-eq0 (less (goal.at.overflow_add-lo t c).After-walk-t (tagged (goal.at.overflow_add-lo t c).After-get (row (goal.at.overflow_add-lo t c).After-get-c)) (keyed (goal.at.overflow_add-lo t c).Else-not-key_ok))).few, c.count_behind-ca.ensures, c.requires.k_le_nodes.1, if2.false, numbers (goal.at.overflow_add-lo t c).Start)
+    omega (
+      arith,
+      (one (goal.at.overflow_add-lo t c).Else-t-eq0
+          (less (goal.at.overflow_add-lo t c).After-walk-t (tagged (goal.at.overflow_add-lo t c).After-get (row (goal.at.overflow_add-lo t c).After-get-c)) (keyed (goal.at.overflow_add-lo t c).Else-not-key_ok))).few,
+      c.count_behind-ca.ensures,
+      c.requires.k_le_nodes.1,
+      if2.false,
+      numbers (goal.at.overflow_add-lo t c).Start,
+    )
 
 pub overflow_sub-all : goal.overflow_sub-all
-overflow_sub-all t c = omega (arith, count_same (goal.at.overflow_sub-all t c).After-count_at-all (row (goal.at.overflow_sub-all t c).After-get-c), (one (goal.at.overflow_sub-all t c).Else-t-eq0 (less (goal.at.overflow_sub-all t c).After-walk-t (tagged (goal.at.overflow_sub-all t c).After-get (row (goal.at.overflow_sub-all t c).After-get-c)) (keyed (goal.at.overflow_sub-all t c).Else-not-key_ok))).few, c.count_behind-ca.ensures)
+overflow_sub-all t c = omega (
+  arith,
+  count_same (goal.at.overflow_sub-all t c).After-count_at-all (row (goal.at.overflow_sub-all t c).After-get-c),
+  (one (goal.at.overflow_sub-all t c).Else-t-eq0
+      (less (goal.at.overflow_sub-all t c).After-walk-t (tagged (goal.at.overflow_sub-all t c).After-get (row (goal.at.overflow_sub-all t c).After-get-c)) (keyed (goal.at.overflow_sub-all t c).Else-not-key_ok))).few,
+  c.count_behind-ca.ensures,
+)
 
 pub walk-w-requires : goal.walk-w-requires
 walk-w-requires t c =
@@ -242,20 +277,38 @@ pub returns-then-w-eq0 : goal.returns-then-w-eq0
 returns-then-w-eq0 t c =
     let found = less (goal.at.returns-then-w-eq0 t c).After-walk-t (tagged (goal.at.returns-then-w-eq0 t c).After-get (row (goal.at.returns-then-w-eq0 t c).After-get-c)) (keyed (goal.at.returns-then-w-eq0 t c).Else-not-key_ok) in
     let some = c.if-t-eq0.false in
-    let count-behind = c.count_behind-ca in record { walked = no_second c.requires.ready found (omega (arith, some)) count-behind.ensures (other (goal.at.returns-then-w-eq0 t c).After-walk-w (kept (goal.at.returns-then-w-eq0 t c).After-slice_known-4-1) (count_same (goal.at.returns-then-w-eq0 t c).After-count_at-all (row (goal.at.returns-then-w-eq0 t c).After-get-c))) c.if-w-eq0.true; hi_unchanged = c.walk-w.ensures.hi_unchanged ∙ kept (goal.at.returns-then-w-eq0 t c).After-slice_known-4-1 }
+    let count-behind = c.count_behind-ca in record {
+      walked = no_second c.requires.ready found (omega (arith, some)) count-behind.ensures
+          (other (goal.at.returns-then-w-eq0 t c).After-walk-w (kept (goal.at.returns-then-w-eq0 t c).After-slice_known-4-1) (count_same (goal.at.returns-then-w-eq0 t c).After-count_at-all (row (goal.at.returns-then-w-eq0 t c).After-get-c))) c.if-w-eq0.true;
+      hi_unchanged = c.walk-w.ensures.hi_unchanged ∙ kept (goal.at.returns-then-w-eq0 t c).After-slice_known-4-1;
+    }
 
 pub over_ok-requires : goal.over_ok-requires
 over_ok-requires t c =
     let Node-at = c.node_at-at in
-    let both = two (goal.at.over_ok-requires t c).Else-w-eq0 (less (goal.at.over_ok-requires t c).After-walk-t (tagged (goal.at.over_ok-requires t c).After-get (row (goal.at.over_ok-requires t c).After-get-c)) (keyed (goal.at.over_ok-requires t c).Else-not-key_ok)) (other (goal.at.over_ok-requires t c).After-walk-w (kept (goal.at.over_ok-requires t c).After-slice_known-4-1) (count_same (goal.at.over_ok-requires t c).After-count_at-all (row (goal.at.over_ok-requires t c).After-get-c))) in record { ready = c.requires.ready; t_bound = omega (arith, both.inside, c.if-w-eq0.false); key_in = rw Node-at.ensures at (keyed (goal.at.over_ok-requires t c).Else-not-key_ok); slots = both.slots }
+    let both = two (goal.at.over_ok-requires t c).Else-w-eq0
+    (less (goal.at.over_ok-requires t c).After-walk-t (tagged (goal.at.over_ok-requires t c).After-get (row (goal.at.over_ok-requires t c).After-get-c)) (keyed (goal.at.over_ok-requires t c).Else-not-key_ok))
+    (other (goal.at.over_ok-requires t c).After-walk-w (kept (goal.at.over_ok-requires t c).After-slice_known-4-1) (count_same (goal.at.over_ok-requires t c).After-count_at-all (row (goal.at.over_ok-requires t c).After-get-c))) in record { ready = c.requires.ready; t_bound = omega (arith, both.inside, c.if-w-eq0.false); key_in = rw Node-at.ensures at (keyed (goal.at.over_ok-requires t c).Else-not-key_ok); slots = both.slots }
 
 pub overflow_add-result : goal.overflow_add-result
 overflow_add-result t c =
-    omega (arith, (two (goal.at.overflow_add-result t c).Else-w-eq0 (less (goal.at.overflow_add-result t c).After-walk-t (tagged (goal.at.overflow_add-result t c).After-get (row (goal.at.overflow_add-result t c).After-get-c)) (keyed (goal.at.overflow_add-result t c).Else-not-key_ok)) (other (goal.at.overflow_add-result t c).After-walk-w (kept (goal.at.overflow_add-result t c).After-slice_known-4-1) (count_same (goal.at.overflow_add-result t c).After-count_at-all (row (goal.at.overflow_add-result t c).After-get-c)))).inside, numbers (goal.at.overflow_add-result t c).Start)
+    omega (
+      arith,
+      (two (goal.at.overflow_add-result t c).Else-w-eq0
+          (less (goal.at.overflow_add-result t c).After-walk-t (tagged (goal.at.overflow_add-result t c).After-get (row (goal.at.overflow_add-result t c).After-get-c)) (keyed (goal.at.overflow_add-result t c).Else-not-key_ok))
+          (other (goal.at.overflow_add-result t c).After-walk-w (kept (goal.at.overflow_add-result t c).After-slice_known-4-1) (count_same (goal.at.overflow_add-result t c).After-count_at-all (row (goal.at.overflow_add-result t c).After-get-c)))).inside,
+      numbers (goal.at.overflow_add-result t c).Start,
+    )
 
 pub overflow_add-result-then-over_ok : goal.overflow_add-result-then-over_ok
 overflow_add-result-then-over_ok t c =
-    omega (arith, (two (goal.at.overflow_add-result-then-over_ok t c).Else-w-eq0 (less (goal.at.overflow_add-result-then-over_ok t c).After-walk-t (tagged (goal.at.overflow_add-result-then-over_ok t c).After-get (row (goal.at.overflow_add-result-then-over_ok t c).After-get-c)) (keyed (goal.at.overflow_add-result-then-over_ok t c).Else-not-key_ok)) (other (goal.at.overflow_add-result-then-over_ok t c).After-walk-w (kept (goal.at.overflow_add-result-then-over_ok t c).After-slice_known-4-1) (count_same (goal.at.overflow_add-result-then-over_ok t c).After-count_at-all (row (goal.at.overflow_add-result-then-over_ok t c).After-get-c)))).inside, numbers (goal.at.overflow_add-result-then-over_ok t c).Start)
+    omega (
+      arith,
+      (two (goal.at.overflow_add-result-then-over_ok t c).Else-w-eq0
+          (less (goal.at.overflow_add-result-then-over_ok t c).After-walk-t (tagged (goal.at.overflow_add-result-then-over_ok t c).After-get (row (goal.at.overflow_add-result-then-over_ok t c).After-get-c)) (keyed (goal.at.overflow_add-result-then-over_ok t c).Else-not-key_ok))
+          (other (goal.at.overflow_add-result-then-over_ok t c).After-walk-w (kept (goal.at.overflow_add-result-then-over_ok t c).After-slice_known-4-1) (count_same (goal.at.overflow_add-result-then-over_ok t c).After-count_at-all (row (goal.at.overflow_add-result-then-over_ok t c).After-get-c)))).inside,
+      numbers (goal.at.overflow_add-result-then-over_ok t c).Start,
+    )
 
 pub shape_of-hi-then-over_ok : goal.shape_of-hi-then-over_ok
 shape_of-hi-then-over_ok t c =
@@ -267,7 +320,8 @@ returns-then-over_ok t c =
     let some = c.if-t-eq0.false in
     let count-behind = c.count_behind-ca in
     let some-other = c.if-w-eq0.false in record {
-      walked = a-branch c.requires.ready found (omega (arith, some)) count-behind.ensures (other (goal.at.returns-then-over_ok t c).After-walk-w (kept (goal.at.returns-then-over_ok t c).After-slice_known-4-1) (count_same (goal.at.returns-then-over_ok t c).After-count_at-all (row (goal.at.returns-then-over_ok t c).After-get-c))) (omega (arith, some-other))
+      walked = a-branch c.requires.ready found (omega (arith, some)) count-behind.ensures
+          (other (goal.at.returns-then-over_ok t c).After-walk-w (kept (goal.at.returns-then-over_ok t c).After-slice_known-4-1) (count_same (goal.at.returns-then-over_ok t c).After-count_at-all (row (goal.at.returns-then-over_ok t c).After-get-c))) (omega (arith, some-other))
           (c.over_ok.ensures.0 c.if-over_ok.true);
       hi_unchanged = c.walk-w.ensures.hi_unchanged ∙ kept (goal.at.returns-then-over_ok t c).After-slice_known-4-1;
     }

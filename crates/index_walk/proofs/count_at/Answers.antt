@@ -11,7 +11,6 @@ use Rattle.index_walk.proofs.count_at.Goals as goal
 room : (a : Start) → 4 * (shape.node_at a.args.s a.args.k + shape.node_width a.args.s.variables) ≤ length a.args.image.now
 room a = node-room a.args.image.now a.args.s a.requires.ready a.args.k a.requires.k_lt_nodes
 
--- end of helpers
 pub node_at-requires : goal.node_at-requires
 node_at-requires c =
     let range = c.requires.ready.range in record { in_range = range; k_bound = omega (arith, room (goal.at.node_at-requires c).Start, range.nodes-to, range.cap-to) }

@@ -13,7 +13,6 @@ room : (a : Start) → 4 * (a.args.at + (shape.node_width a.args.s.variables + s
 room a =
     omega (arith, node-room a.args.image.now a.args.s a.requires.ready (a.args.k + 1) a.requires.k_bound.0, row-behind a.args.s a.args.k, a.requires.k_bound.1)
 
--- end of helpers
 pub overflow_add-get : goal.overflow_add-get
 overflow_add-get c = omega (arith, room (goal.at.overflow_add-get c).Start)
 

@@ -7,7 +7,6 @@ use Rattle.label_insert.proofs.Respacing.{respace-start, respace-end, spot, resp
 use Rattle.label_insert.proofs.rebuild.Goals.{After-get-n, After-get-row}
 use Rattle.label_insert.proofs.rebuild.Goals as goal
 
--- helpers
 record Fit (len v k n : ℕ) : Type 0 where
   vars : v ≤ 64
   cap : k ≤ 4096
@@ -30,7 +29,6 @@ spot-at c =
     spot c.args.map.now l.map l.k l.invariant c.requires (omega (arith, e.ensures)) _ _ e.result _
     c.get-variables.ensures c.get-capacity.ensures e.ensures c.get-row.ensures
 
--- end of helpers
 pub get-variables-requires : goal.get-variables-requires
 get-variables-requires c = omega (arith, (head c.args.map.now c.requires).room)
 

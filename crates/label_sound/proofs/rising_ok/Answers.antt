@@ -20,7 +20,6 @@ row-of s k x h e =
 front : (s : Start) (x : ℕ) → x ≡ get_or (words s.args.map.now) s.args.at 0 → x ≡ get_or (words s.args.map.now) (s.args.at + 0) 0
 front s x e = let z : s.args.at + 0 ≡ s.args.at = omega arith in rw z e
 
--- end of helpers
 pub returns-then-n-eq0 : goal.returns-then-n-eq0
 returns-then-n-eq0 c = accept (λ k h. absurd (omega arith))
 

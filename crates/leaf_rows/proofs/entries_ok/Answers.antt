@@ -9,8 +9,6 @@ use Rattle.index_image.proofs.Places.{place-room, place-fits}
 use Rattle.leaf_rows.proofs.Bounding.{bounded-part, not-bounded}
 use Rattle.leaf_rows.proofs.entries_ok.Goals as goal
 
--- helpers
--- end of helpers
 pub permutation_at-requires : goal.permutation_at-requires
 permutation_at-requires c = c.requires.ready.range
 

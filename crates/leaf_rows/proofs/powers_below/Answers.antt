@@ -19,7 +19,6 @@ variable c =
     at-variable c.requires.uppers.some loop.invariant (seen _ loop.invariant.ra c.get-w.ensures)
     (is-end-false _ c.is_end.ensures c.if-is_end.false)
 
--- end of helpers
 pub loop-variables-init : goal.loop-variables-init
 loop-variables-init c =
     passing (first 1 (words c.args.lm.now)) (words c.args.hi.now) c.requires.variables_bound (first-canonical (omega arith) c.requires.starts)

@@ -5,13 +5,38 @@ use Rattle.words.specs.Words.{words}
 use Rattle.words.proofs.Fields.{is-end-true, is-end-false}
 use Rattle.words.proofs.Laws.{length-words}
 use Rattle.monomial.proofs.Walks.{within}
-use Rattle.divmask.proofs.Masks.{mask-small, begin, mapped, step, bits_are, stepped}
+use Rattle.divmask.proofs.Masks.{mask-small, begin, mapped, step, bits_are, stepped, Step, Stepped}
 use Rattle.divmask.proofs.Vectors.{vector-small, vector-mapped, short-stepped}
 use Rattle.divmask.specs.Mask.{bit_counts}
 use Rattle.monomial.specs.Monomial.{pow, first}
+use Rattle.divmask.proofs.pairs.map.Goals.{After-field, After-short_field, Else-is_end}
 use Rattle.divmask.proofs.pairs.map.Goals as goal
 
--- end of helpers
+variable : (c : Else-is_end) → (Step ((c.args.variables)) (words c.args.maxima.now) ((first 1 (words c.args.monomial.now))) c.loop-variables.i c.loop-variables.mask c.get-w.result)
+variable c =
+    let loop = c.loop-variables in
+    step loop.invariant.0 (seen _ loop.invariant.0.ra c.get-w.ensures) (is-end-false _ c.is_end.ensures c.if-is_end.false)
+
+stepped-at : (c : After-field) → (Stepped ((c.args.variables)) (words c.args.maxima.now) ((first 1 (words c.args.monomial.now))) c.loop-variables.i c.loop-variables.mask c.first_bit-t.result c.field.result)
+stepped-at c =
+    let id = c.id-v in
+    let power = c.power-p in
+    let get2 = c.get-x in
+    let loop = c.loop-variables in
+    stepped loop.invariant.0 (seen _ loop.invariant.0.ra c.get-w.ensures)
+    (is-end-false _ c.is_end.ensures c.if-is_end.false) id.ensures power.ensures get2.ensures
+    c.bits_of-b.ensures c.field.ensures c.first_bit-t.ensures
+
+short-at : (c : After-short_field) → (Stepped ((c.args.variables)) (bit_counts ((c.args.variables))) ((first 1 (words c.args.monomial.now))) c.loop-variables.i c.loop-variables.vector c.first_bit-t.result c.short_field.result)
+short-at c =
+    let id = c.id-v in
+    let power = c.power-p in
+    let bits_of = c.bits_of-b in
+    let loop = c.loop-variables in
+    short-stepped loop.invariant.1 (seen _ loop.invariant.0.ra c.get-w.ensures)
+    (is-end-false _ c.is_end.ensures c.if-is_end.false) id.ensures power.ensures bits_of.ensures c.short_field.ensures
+    c.first_bit-t.ensures
+
 pub nonzero_div-whole : goal.nonzero_div-whole
 nonzero_div-whole c = omega (arith, c.requires.maxima.some)
 
@@ -63,7 +88,7 @@ overflow_cast-v c = omega arith
 
 pub get-x-requires : goal.get-x-requires
 get-x-requires c =
-    omega (arith, ((let loop = c.loop-variables in step loop.invariant.0 (seen _ loop.invariant.0.ra c.get-w.ensures) (is-end-false _ c.is_end.ensures c.if-is_end.false))).known, c.id-v.ensures, length-words c.args.maxima.now, c.requires.maxima.one_each)
+    omega (arith, (variable (goal.at.get-x-requires c).Else-is_end).known, c.id-v.ensures, length-words c.args.maxima.now, c.requires.maxima.one_each)
 
 pub bits_of-b-requires : goal.bits_of-b-requires
 bits_of-b-requires c = div-le_self 32 c.args.variables
@@ -73,7 +98,7 @@ first_bit-t-requires c = (
   div-le_self 32 c.args.variables,
   omega (
     arith,
-    ((let loop = c.loop-variables in step loop.invariant.0 (seen _ loop.invariant.0.ra c.get-w.ensures) (is-end-false _ c.is_end.ensures c.if-is_end.false))).known,
+    (variable (goal.at.first_bit-t-requires c).Else-is_end).known,
     c.id-v.ensures,
     c.requires.maxima.few,
   ),
@@ -84,7 +109,7 @@ field-requires c =
     let get2 = c.get-x in
     let power = c.power-p in
     let id = c.id-v in
-    let k = (let loop = c.loop-variables in step loop.invariant.0 (seen _ loop.invariant.0.ra c.get-w.ensures) (is-end-false _ c.is_end.ensures c.if-is_end.false)) in
+    let k = variable (goal.at.field-requires c).Else-is_end in
     let e = bits_are c.args.variables id.result c.bits_of-b.result c.bits_of-b.ensures in
     let p = c.requires.maxima in
     let v = id.result in record {
@@ -102,16 +127,16 @@ pub overflow_cast-mask : goal.overflow_cast-mask
 overflow_cast-mask c = omega arith
 
 pub overflow_shl-mask : goal.overflow_shl-mask
-overflow_shl-mask c = omega (arith, ((let id = c.id-v in let power = c.power-p in let get2 = c.get-x in let loop = c.loop-variables in stepped loop.invariant.0 (seen _ loop.invariant.0.ra c.get-w.ensures) (is-end-false _ c.is_end.ensures c.if-is_end.false) id.ensures power.ensures get2.ensures c.bits_of-b.ensures c.field.ensures c.first_bit-t.ensures)).shift)
+overflow_shl-mask c = omega (arith, (stepped-at (goal.at.overflow_shl-mask c).After-field).shift)
 
 pub overflow_add-mask : goal.overflow_add-mask
-overflow_add-mask c = omega (arith, ((let id = c.id-v in let power = c.power-p in let get2 = c.get-x in let loop = c.loop-variables in stepped loop.invariant.0 (seen _ loop.invariant.0.ra c.get-w.ensures) (is-end-false _ c.is_end.ensures c.if-is_end.false) id.ensures power.ensures get2.ensures c.bits_of-b.ensures c.field.ensures c.first_bit-t.ensures)).fits)
+overflow_add-mask c = omega (arith, (stepped-at (goal.at.overflow_add-mask c).After-field).fits)
 
 pub short_field-requires : goal.short_field-requires
 short_field-requires c =
     let bits_of = c.bits_of-b in
     let id = c.id-v in
-    let k = (let loop = c.loop-variables in step loop.invariant.0 (seen _ loop.invariant.0.ra c.get-w.ensures) (is-end-false _ c.is_end.ensures c.if-is_end.false)) in
+    let k = variable (goal.at.short_field-requires c).Else-is_end in
     let e = bits_are c.args.variables id.result bits_of.result bits_of.ensures in
     omega (arith, rw id.ensures at e, k.few)
 
@@ -119,10 +144,10 @@ pub overflow_cast-vector : goal.overflow_cast-vector
 overflow_cast-vector c = omega arith
 
 pub overflow_shl-vector : goal.overflow_shl-vector
-overflow_shl-vector c = omega (arith, ((let id = c.id-v in let power = c.power-p in let bits_of = c.bits_of-b in let loop = c.loop-variables in short-stepped loop.invariant.1 (seen _ loop.invariant.0.ra c.get-w.ensures) (is-end-false _ c.is_end.ensures c.if-is_end.false) id.ensures power.ensures bits_of.ensures c.short_field.ensures c.first_bit-t.ensures)).shift)
+overflow_shl-vector c = omega (arith, (short-at (goal.at.overflow_shl-vector c).After-short_field).shift)
 
 pub overflow_add-vector : goal.overflow_add-vector
-overflow_add-vector c = omega (arith, ((let id = c.id-v in let power = c.power-p in let bits_of = c.bits_of-b in let loop = c.loop-variables in short-stepped loop.invariant.1 (seen _ loop.invariant.0.ra c.get-w.ensures) (is-end-false _ c.is_end.ensures c.if-is_end.false) id.ensures power.ensures bits_of.ensures c.short_field.ensures c.first_bit-t.ensures)).fits)
+overflow_add-vector c = omega (arith, (short-at (goal.at.overflow_add-vector c).After-short_field).fits)
 
 pub overflow_add-i : goal.overflow_add-i
 overflow_add-i c =
@@ -132,16 +157,4 @@ pub loop-variables-smaller : goal.loop-variables-smaller
 loop-variables-smaller c = omega (arith, within c.loop-variables.invariant.0.ra)
 
 pub loop-variables-preserved : goal.loop-variables-preserved
-loop-variables-preserved c = (((let id = c.id-v in let power = c.power-p in let get2 = c.get-x in let loop = c.loop-variables in stepped loop.invariant.0 (seen _ loop.invariant.0.ra c.get-w.ensures) (is-end-false _ c.is_end.ensures c.if-is_end.false) id.ensures power.ensures get2.ensures c.bits_of-b.ensures c.field.ensures c.first_bit-t.ensures)).rest, ((let id = c.id-v in let power = c.power-p in let bits_of = c.bits_of-b in let loop = c.loop-variables in short-stepped loop.invariant.1 (seen _ loop.invariant.0.ra c.get-w.ensures) (is-end-false _ c.is_end.ensures c.if-is_end.false) id.ensures power.ensures bits_of.ensures c.short_field.ensures c.first_bit-t.ensures)).rest)
-
--- MANUAL helper
--- abbrev Added : tie.At-loop invariant-loop decreases-loop → ℕ → ℕ → Type 0
--- Added c t f = Stepped (M c) (words c.before.before.before.args.maxima.now) (A c) c.loop.i c.loop.mask t f
-
--- MANUAL helper
--- abbrev AddedShort : tie.At-loop invariant-loop decreases-loop → ℕ → ℕ → Type 0
--- AddedShort c t f = Stepped (M c) (bit_counts (M c)) (A c) c.loop.i c.loop.vector t f
-
--- MANUAL helper
--- abbrev Known : tie.At-loop invariant-loop decreases-loop → ℕ → Type 0
--- Known c w = Step (M c) (words c.before.before.before.args.maxima.now) (A c) c.loop.i c.loop.mask w
+loop-variables-preserved c = ((stepped-at (goal.at.loop-variables-preserved c).After-field).rest, (short-at (goal.at.loop-variables-preserved c).After-short_field).rest)

@@ -48,7 +48,6 @@ next-lm c =
     lm-read _ c.args.s
     c.get-e-in-loop-i.result c.entry_at-in-loop-i.result _ c.entry_at-in-loop-i.ensures c.monomial_from.ensures.is
 
--- end of helpers
 pub put-requires : goal.put-requires
 put-requires c = omega (arith, c.requires.acc_len)
 

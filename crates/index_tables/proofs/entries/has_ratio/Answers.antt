@@ -32,7 +32,6 @@ all_read c =
       index-of-row = c.get-2.ensures;
     }
 
--- end of helpers
 pub entry_at-e-requires : goal.entry_at-e-requires
 entry_at-e-requires c = record { in_range = c.requires.in_range; i_le_capacity = omega (arith, c.requires.kind_value.1, c.requires.in_range.few) }
 

@@ -34,7 +34,6 @@ small c =
     (first-canonical (omega arith) c.requires.starts_2) in
     (k.a_small, k.b-small)
 
--- end of helpers
 pub loop-i-init : goal.loop-i-init
 loop-i-init c =
     begin (words c.args.c.now) (begins (omega arith) c.requires.starts) (begins (omega arith) c.requires.starts_2)

@@ -29,7 +29,6 @@ row_read c = rw c.entry_at-e.ensures at c.get-3.ensures
 rows-read : (c : After-get-2) → c.get-2.result ≡ door.rows_in (words c.args.image.now) c.args.s
 rows-read c = rw c.labels_at.ensures at c.get-2.ensures
 
--- end of helpers
 pub entry_at-e-requires : goal.entry_at-e-requires
 entry_at-e-requires c = record { in_range = c.requires.in_range; i_le_capacity = omega (arith, c.requires.kind_value.1, c.requires.in_range.few) }
 
