@@ -1,0 +1,112 @@
+#!/usr/bin/env python3
+"""Prints, for docs/DESIGN-PASS.md, each public signature, clause, type, definition and theorem that differs from those of a commit, old (-) and new (+):
+`tools/changes.py COMMIT`. It reads by the rules of the kit's contracts.py; the theorems of proofs/ are read here."""
+import os
+import re
+import subprocess
+import sys
+import tempfile
+
+sys.path.insert(0, "/opt/rattle/port")
+import contracts
+
+
+def theorems(root):
+    """The statements of proofs/*.antt by crate and name; answers and invariants of one function are no theorems."""
+    out = {}
+    for folder, _, names in os.walk(os.path.join(root, "crates")):
+        parts = os.path.relpath(folder, root).split(os.sep)
+        if len(parts) < 3 or parts[2] != "proofs" or "out" in parts:
+            continue
+        for f in names:
+            if not f.endswith(".antt") or f in ("Answers.antt", "Invariants.antt", "Proof.antt", "Lib.antt"):
+                continue
+            lines = open(os.path.join(folder, f), encoding="utf-8").read().split("\n")
+            for i, line in enumerate(lines):
+                m = re.match(r"(?:(?:pub|abbrev|unfoldable) )*(?:(record|data) )?([^\s:(){},=|]+)(?: .*)? :(?: |$)", line) or re.match(r"(?:(?:pub|abbrev|unfoldable) )*(record|data) ([^\s:]+)", line) or re.match(r"(?:pub )?()([^\s:(){},=|]+)$", line)
+                if not m or line.startswith(("use ", "pub mod", "mod ", "--")):
+                    continue
+                text = [line]
+                for after in lines[i + 1 :]:
+                    if not after.startswith(" "):
+                        break
+                    text.append(after)
+                out.setdefault((parts[1], m[2]), []).append(contracts.squeeze(" ".join(text)))
+    return out
+
+
+def types(root):
+    """The declarations of structs, enums and traits in src/."""
+    out = {}
+    for folder, _, names in os.walk(os.path.join(root, "crates")):
+        parts = os.path.relpath(folder, root).split(os.sep)
+        if len(parts) < 3 or parts[2] != "src":
+            continue
+        for f in names:
+            if not f.endswith(".rt"):
+                continue
+            raw = open(os.path.join(folder, f), encoding="utf-8").read()
+            t = contracts.blank(raw)
+            for m in re.finditer(r"^pub (?:struct|enum|trait) (\w+)", t, re.M):
+                j = re.compile(r"[{;(]").search(t, m.end()).start()
+                end = contracts.closing(t, j) if t[j] == "{" else t.find(";", j) + 1
+                text = "\n".join(re.sub(r"\s*//.*", "", l) for l in raw[m.start() : end].split("\n"))
+                out.setdefault((parts[1], m[1]), []).append(contracts.squeeze(text))
+    return out
+
+
+def show(title, rows):
+    if rows:
+        print(f"### {title}\n")
+        for name, old, new in rows:
+            print(f"{name}\n")
+            print("\n".join([f"    - {x}" for x in old] + [f"    + {x}" for x in new]) + "\n")
+
+
+def beside(old, new):
+    """Rows of what changed, went or came; what only moved to another crate, with the same text, is none."""
+    rows = []
+    texts = {(k[1], x) for k, v in new.items() for x in v}
+    for k in sorted(set(old) | set(new)):
+        a = sorted(x for x in old.get(k, []) if x not in new.get(k, []) and (k[1], x) not in texts)
+        b = sorted(x for x in new.get(k, []) if x not in old.get(k, []) and not any(x in v and q[1] == k[1] for q, v in old.items()))
+        if a or b:
+            rows.append(("`" + " ".join(k) + "`", a, b))
+    return rows
+
+
+def main():
+    commit = sys.argv[1]
+    with tempfile.TemporaryDirectory() as d:
+        subprocess.run(f"git archive {commit} crates crates.txt | tar -x -C {d}", shell=True, check=True)
+        n = os.path.join(d, "new")
+        os.mkdir(n)
+        subprocess.run(f"git ls-files crates crates.txt | tar -c -T - 2>/dev/null | tar -x -C {n}", shell=True, check=True)
+        r = contracts.compare(d, n)
+        signs = {x[0]: x for x in r["signatures changed"]}
+        clauses = {x[0]: x for x in r["contracts changed"]}
+        rows = []
+        for name in sorted(set(signs) | set(clauses)):
+            old, new = [], []
+            if name in signs:
+                old.append("fn" + signs[name][1])
+                new.append("fn" + signs[name][2])
+            if name in clauses:
+                for word, i in (("requires", 1), ("ensures", 2)):
+                    a, b = ([(c[0] + " " + c[1]).strip() for c in clauses[name][k]] for k in (i, i + 2))
+                    ta, tb = [c[1] for c in clauses[name][i]], [c[1] for c in clauses[name][i + 2]]
+                    old += [f"{word} {{ {c} }}" for c in ta if c not in tb]
+                    new += [f"{word} {{ {c} }}" for c in tb if c not in ta]
+            if old or new:
+                rows.append(("`" + name + "`", old, new))
+        show("Functions", rows)
+        show("Functions that are not found again", [(f"`{x}`", [], []) for x in r["functions not found again"]])
+        show("Types", beside(types(d), types(n)))
+        ghosts = r["ghost items and constants"]
+        show("Ghost items and constants", [("`" + " ".join(x[:-2]) + "`", x[-2], x[-1]) for x in ghosts["changed"]] + [("`" + " ".join(x) + "`, gone", [], []) for x in ghosts["gone"]])
+        specs = [contracts.read(x)[3] for x in (d, n)]
+        show("Definitions of specs/", beside(*specs))
+        show("Theorems and lemmas of proofs/", beside(theorems(d), theorems(n)))
+
+
+main()
