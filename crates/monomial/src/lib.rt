@@ -61,11 +61,9 @@ pub fn is_variable(w: u32, kind: Kind, bound: u32) -> bool
 pub fn canonical_words(s: &[u8], at: usize, kind: Kind, variables: u32) -> Option<usize>
     ensures { result ≡ some_words (front (number kind) variables 0 (drop at (words s.now))) }
 {
-    let end = s.len() / 4;
-    let mut i = at;
     let mut bound = variables;
     let mut n: u32 = 0;
-    while i < end {
+    for i in at..s.len() / 4 {
         let w = words::get(s, i);
         if words::is_end(w) {
             if words::payload(w) == n {
@@ -78,7 +76,6 @@ pub fn canonical_words(s: &[u8], at: usize, kind: Kind, variables: u32) -> Optio
         }
         bound = words::id(w);
         n += 1;
-        i += 1;
     }
     None
 }
@@ -111,6 +108,7 @@ pub fn canonical_at(s: &[u8], at: usize, kind: Kind, variables: u32) -> &[u8]
     words_at(s, at, canonical_words(s, at, kind, variables))
 }
 
+// `canonical_at` under the original's two names.
 pub fn monomial_at(s: &[u8], at: usize, variables: u32) -> &[u8]
     ensures { result.now ≡ found 1 variables s.now at }
 {
@@ -127,13 +125,10 @@ pub fn ratio_at(s: &[u8], at: usize, variables: u32) -> &[u8]
 fn words_to_end(s: &[u8], at: usize) -> Option<usize>
     ensures { result ≡ some_words (to_end 0 (drop at (words s.now))) }
 {
-    let end = s.len() / 4;
-    let mut i = at;
-    while i < end {
+    for i in at..s.len() / 4 {
         if words::is_end(words::get(s, i)) {
             return Some(i - at + 1);
         }
-        i += 1;
     }
     None
 }
@@ -181,6 +176,7 @@ pub fn divides(a: &[u8], b: &[u8]) -> bool
 {
     let mut i: usize = 0;
     let mut j: usize = 0;
+    // A merge: whether a place moves on depends on the words at both, so no iterator gives the steps.
     loop {
         let x = words::get(a, i);
         if words::is_end(x) {
@@ -195,7 +191,7 @@ pub fn divides(a: &[u8], b: &[u8]) -> bool
     }
 }
 
-// Whether a and b are the same words.
+// Whether a and b are the same words. `==` on the slices would compare byte by byte, in four times the steps.
 pub fn eq(a: &[u8], b: &[u8]) -> bool
     ensures { result ≡ ops.equal (words a.now) (words b.now) }
 {
@@ -203,16 +199,15 @@ pub fn eq(a: &[u8], b: &[u8]) -> bool
     if n != b.len() / 4 {
         return false;
     }
-    let mut i: usize = 0;
-    while i < n {
+    for i in 0..n {
         if words::get(a, i) != words::get(b, i) {
             return false;
         }
-        i += 1;
     }
     true
 }
 
+// The operations below are `ordered_ops::sum` under the original's names.
 // Writes the greatest common divisor, and returns its length in words.
 pub fn gcd(a: &[u8], b: &[u8], out: &mut [u8]) -> usize
     requires starts { Starts 1 4096 (words a.now) }
@@ -247,6 +242,7 @@ pub fn fraction_division(a: &[u8], b: &[u8], out: &mut [u8]) -> usize
 }
 
 // Writes the quotient a / b where b divides a; else nothing.
+#[tactic(auto, unfolding(crate::specs::Operations::divided))]
 pub fn whole_division(a: &[u8], b: &[u8], out: &mut [u8]) -> Option<usize>
     requires starts { Starts 1 4096 (words a.now) }
     requires starts_2 { Starts 1 4096 (words b.now) }
