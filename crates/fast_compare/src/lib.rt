@@ -15,6 +15,7 @@ ghost use Rattle.fast_compare.specs.Map.{refusal};
 ghost use Rattle.fast_compare.specs.Layout.{size, encode, Is, Sound};
 ghost use Rattle.fast_compare.specs.Halving.{Halved};
 
+use monomial::Kind;
 use monomial_ordering::Total;
 use refusals::Refusal;
 use std::cmp::Ordering;
@@ -152,7 +153,7 @@ pub fn search(map: &[u8], index: u32, ratio: &[u8]) -> Result<usize, usize>
     requires canonical { Canonical 2 4096 (words ratio.now) }
     ensures { (st : State) → Is st map.now → result ≡ place st.rows (value_of index (words ratio.now)) }
 {
-    let t = monomial_ordering::total_of(ratio, 2);
+    let t = monomial_ordering::total_of(ratio, Kind::Ratio);
     halve(count(map), |p| compare_position(map, p, index, ratio, t))
 }
 

@@ -6,6 +6,7 @@ ghost use Rattle.fast_compare.specs.Map.{value_of, cmp};
 ghost use Rattle.fast_compare.specs.Layout.{TotalAt, ratio_words, HasRatio, value_at, RowOk, Rises};
 ghost use Rattle.monomial_ordering.specs.Order.{TotalOf};
 
+use monomial::Kind;
 use monomial_ordering::Total;
 use std::cmp::Ordering;
 
@@ -15,7 +16,7 @@ pub fn total_at(map: &[u8], at: usize) -> Total
     ensures { TotalAt (words map.now) at result }
 {
     let a = 4 * (at + 1);
-    monomial_ordering::total_of(&map[a..], 2)
+    monomial_ordering::total_of(&map[a..], Kind::Ratio)
 }
 
 // The value of the row at word `at`, compared with another, whose ratio stands at the front of a slice. Both ratios come with their totals.
@@ -30,7 +31,7 @@ pub fn compare_at(map: &[u8], at: usize, s: Total, index: u32, ratio: &[u8], t: 
     match i.cmp(&index) {
         Ordering::Equal => {
             let a = 4 * (at + 1);
-            monomial_ordering::ord_by_totals(&map[a..], s, ratio, t, 2)
+            monomial_ordering::ord_by_totals(&map[a..], s, ratio, t, Kind::Ratio)
         }
         by_index => by_index,
     }

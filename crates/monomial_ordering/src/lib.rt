@@ -3,10 +3,11 @@
 
 ghost use Rattle.std.specs.Prelude.{◌≡◌, ◌+◌, ◌≤◌, length};
 ghost use Rattle.words.specs.Words.{words};
-ghost use Rattle.monomial.specs.Monomial.{Starts, first, pow};
+ghost use Rattle.monomial.specs.Monomial.{number, Starts, first, pow};
 ghost use Rattle.monomial_ordering.specs.Order.{TotalOf, revlex, order};
 ghost use Rattle.monomial_ordering.specs.Order.{differing};
 
+use monomial::Kind;
 use std::cmp::Ordering;
 
 // The sum of a monomial's powers and its number of variables. In a ratio each of the 4,096 powers has 32,768 added, those of absent ones too.
@@ -17,13 +18,13 @@ pub struct Total {
 }
 
 // The total of the monomial or ratio at the front of a slice.
-pub fn total_of(s: &[u8], kind: u32) -> Total
-    requires le_kind { (1 ≤ kind) × (kind ≤ 2) }
-    requires starts { Starts kind 4096 (words s.now) }
-    ensures { TotalOf kind (first kind (words s.now)) result }
+pub fn total_of(s: &[u8], kind: Kind) -> Total
+    requires starts { Starts (number kind) 4096 (words s.now) }
+    ensures { TotalOf (number kind) (first (number kind) (words s.now)) result }
 {
-    let absent = 32768 * (kind - 1);
+    let absent = kind.bias();
     let mut sum: u32 = 0;
+    // Not over `variables_of`: it would test each word against the slice's end, and the count stays.
     let mut i: usize = 0;
     loop {
         let w = words::get(s, i);
@@ -51,14 +52,13 @@ fn differ(x: u32, y: u32, absent: u32) -> Ordering
 }
 
 // The reverse lexicographic order of two with i and j variables. Ids fall, so the first difference from the end is the one at the smallest id.
-fn revlex(a: &[u8], i: usize, b: &[u8], j: usize, kind: u32) -> Ordering
-    requires le_kind { (1 ≤ kind) × (kind ≤ 2) }
-    requires starts { Starts kind 4096 (words a.now) }
-    requires starts_2 { Starts kind 4096 (words b.now) }
-    requires i_value { (i + 1 ≡ length (first kind (words a.now))) × (j + 1 ≡ length (first kind (words b.now))) }
-    ensures { result ≡ revlex 4096 (pow kind (first kind (words a.now))) (pow kind (first kind (words b.now))) }
+fn revlex(a: &[u8], i: usize, b: &[u8], j: usize, kind: Kind) -> Ordering
+    requires starts { Starts (number kind) 4096 (words a.now) }
+    requires starts_2 { Starts (number kind) 4096 (words b.now) }
+    requires i_value { (i + 1 ≡ length (first (number kind) (words a.now))) × (j + 1 ≡ length (first (number kind) (words b.now))) }
+    ensures { result ≡ revlex 4096 (pow (number kind) (first (number kind) (words a.now))) (pow (number kind) (first (number kind) (words b.now))) }
 {
-    let absent = 32768 * (kind - 1);
+    let absent = kind.bias();
     for k in 0..i.min(j) {
         let x = words::get(a, i - k - 1);
         let y = words::get(b, j - k - 1);
@@ -73,15 +73,14 @@ fn revlex(a: &[u8], i: usize, b: &[u8], j: usize, kind: u32) -> Ordering
     }
 }
 
-// Compares two monomials (kind 1) or two ratios (kind 2) whose totals are known: by these, then from their ends.
+// Compares two monomials or two ratios whose totals are known: by these, then from their ends.
 #[tactic(auto, unfolding(crate::specs::Order::order, crate::specs::Order::grevlex))]
-pub fn ord_by_totals(a: &[u8], s: Total, b: &[u8], t: Total, kind: u32) -> Ordering
-    requires le_kind { (1 ≤ kind) × (kind ≤ 2) }
-    requires starts { Starts kind 4096 (words a.now) }
-    requires total_of { TotalOf kind (first kind (words a.now)) s }
-    requires starts_2 { Starts kind 4096 (words b.now) }
-    requires total_of_2 { TotalOf kind (first kind (words b.now)) t }
-    ensures { result ≡ order kind (first kind (words a.now)) (first kind (words b.now)) }
+pub fn ord_by_totals(a: &[u8], s: Total, b: &[u8], t: Total, kind: Kind) -> Ordering
+    requires starts { Starts (number kind) 4096 (words a.now) }
+    requires total_of { TotalOf (number kind) (first (number kind) (words a.now)) s }
+    requires starts_2 { Starts (number kind) 4096 (words b.now) }
+    requires total_of_2 { TotalOf (number kind) (first (number kind) (words b.now)) t }
+    ensures { result ≡ order (number kind) (first (number kind) (words a.now)) (first (number kind) (words b.now)) }
 {
     s.sum
         .cmp(&t.sum)
@@ -89,11 +88,10 @@ pub fn ord_by_totals(a: &[u8], s: Total, b: &[u8], t: Total, kind: u32) -> Order
 }
 
 // Compares two monomials or two ratios.
-pub fn ord(a: &[u8], b: &[u8], kind: u32) -> Ordering
-    requires le_kind { (1 ≤ kind) × (kind ≤ 2) }
-    requires starts { Starts kind 4096 (words a.now) }
-    requires starts_2 { Starts kind 4096 (words b.now) }
-    ensures { result ≡ order kind (first kind (words a.now)) (first kind (words b.now)) }
+pub fn ord(a: &[u8], b: &[u8], kind: Kind) -> Ordering
+    requires starts { Starts (number kind) 4096 (words a.now) }
+    requires starts_2 { Starts (number kind) 4096 (words b.now) }
+    ensures { result ≡ order (number kind) (first (number kind) (words a.now)) (first (number kind) (words b.now)) }
 {
     let s = total_of(a, kind);
     let t = total_of(b, kind);

@@ -29,7 +29,7 @@ pub slice_bounds-ord_by_totals-start : goal.slice_bounds-ord_by_totals-start
 slice_bounds-ord_by_totals-start c = omega (arith, row_fits c.args.map.now c.args.at c.requires.has_ratio)
 
 pub ord_by_totals-requires : goal.ord_by_totals-requires
-ord_by_totals-requires c = record { le_kind = (omega arith, omega arith); starts = ratio-starts c.args.map.now c.requires.has_ratio.vars (c.args.at + 1) c.requires.has_ratio.some; total_of = (total-lent c.args.map.now c.args.at c.args.s).0 c.requires.total_at; starts_2 = c.requires.starts; total_of_2 = c.requires.total_of }
+ord_by_totals-requires c = record { starts = ratio-starts c.args.map.now c.requires.has_ratio.vars (c.args.at + 1) c.requires.has_ratio.some; total_of = (total-lent c.args.map.now c.args.at c.args.s).0 c.requires.total_at; starts_2 = c.requires.starts; total_of_2 = c.requires.total_of }
 
 pub returns-in-Equal : goal.returns-in-Equal
 returns-in-Equal c = λ m s. let W = words c.args.map.now in
