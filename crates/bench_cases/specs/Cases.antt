@@ -5,7 +5,7 @@ use Rattle.words.specs.Kinds.{var_word, end_word}
 use Rattle.monomial.specs.Monomial.{pow, monomial_of}
 use Rattle.monomial.specs.Operations.{result_words}
 use Rattle.monomial_ordering.specs.Order.{order}
-use Rattle.monomial_ordering.specs.declared.CmpOrd.TheVariants.{Greater}
+use Rattle.std.specs.declared.cmp.Ordering.TheVariants.{Greater}
 use Rattle.monomial.specs.declared.ordered_ops.Op.TheVariants.{Ratio}
 use Rattle.fast_compare.specs.Map.{Value, value_of, State, empty, answer, after, label, rebuild}
 use Rattle.fast_compare.specs.declared.Comparer.TheVariants.{New}

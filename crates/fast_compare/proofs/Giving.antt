@@ -7,9 +7,9 @@ use Prim.Native.Nat.{ℕ, ◌+◌, ◌-◌, ◌/◌, ◌≤◌, ◌<◌}
 use native.Mathlib.Omega.{arith}
 use lib.ListN.{length, get_or}
 use borrow.Author.Tests.{lt-ltb, le-ltb}
+use Rattle.std.proofs.Common.{Ok, Err}
 use Rattle.fast_compare.specs.Labels.{below, known, floor, ceiling, lowest, highest, free, half, sorted}
 use Rattle.fast_compare.specs.Map.{Value, cmp, State, value, label, Valid, placed, place}
-use Rattle.fast_compare.specs.declared.Place.TheVariants.{At, Before}
 use Rattle.fast_compare.proofs.Ranks.{below_alike, below-most, below_top, place_of}
 use Rattle.fast_compare.proofs.Neighbours.{none-known, some_known, lower-none, lower-at, upper-at, upper-none}
 use Rattle.fast_compare.proofs.Maps.{cmp-lawful}
@@ -34,11 +34,11 @@ module _ (st : State) (q : Value) where
     pub is : known cmp f n q ≡ some row
     pub place_is : p ≡ below cmp f n q
 
-  pub at_place : (p : ℕ) → At p ≡ place st.rows q → Known-at p
+  pub at_place : (p : ℕ) → Ok p ≡ place st.rows q → Known-at p
   unfolding place placed
   at_place p e = go (known cmp f n q) refl e
     where
-      go : (k : Option ℕ) → known cmp f n q ≡ k → At p ≡ placed k (below cmp f n q) → Known-at p
+      go : (k : Option ℕ) → known cmp f n q ≡ k → Ok p ≡ placed k (below cmp f n q) → Known-at p
       go (some i) h e = record { row = i; is = h; place_is = cc }
       go none h e = absurd (let z : ◌≡◌ {A = ℕ} 0 1 = cc in omega arith)
 
@@ -46,11 +46,11 @@ module _ (st : State) (q : Value) where
     pub is : known cmp f n q ≡ none
     pub place_is : p ≡ below cmp f n q
 
-  pub before-place : (p : ℕ) → Before p ≡ place st.rows q → New-at p
+  pub before-place : (p : ℕ) → Err p ≡ place st.rows q → New-at p
   unfolding place placed
   before-place p e = go (known cmp f n q) refl e
     where
-      go : (k : Option ℕ) → known cmp f n q ≡ k → Before p ≡ placed k (below cmp f n q) → New-at p
+      go : (k : Option ℕ) → known cmp f n q ≡ k → Err p ≡ placed k (below cmp f n q) → New-at p
       go (some i) h e = absurd (let z : ◌≡◌ {A = ℕ} 0 1 = cc in omega arith)
       go none h e = record { is = h; place_is = cc }
 

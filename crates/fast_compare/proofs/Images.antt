@@ -14,7 +14,7 @@ use Rattle.words.proofs.Tables.{length_part, part-get, part-nil, part-cons, part
 use Rattle.words.proofs.Joined.{joined, Stand, moved, moved_back}
 use Rattle.words.proofs.Joined.{apart as pieces-apart, together as pieces-together}
 use Rattle.monomial.specs.Monomial.{front}
-use Rattle.monomial_ordering.specs.declared.CmpOrd.TheVariants.{Less}
+use Rattle.std.specs.declared.cmp.Ordering.TheVariants.{Less}
 use Rattle.monomial.proofs.Canon.{Canon, IsVar, IsEnd, front-short}
 use Rattle.monomial.proofs.Powers.{canonical-length}
 use Rattle.monomial.proofs.Laws.{front-canonical, canonical-front}

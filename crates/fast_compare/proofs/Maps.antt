@@ -11,26 +11,31 @@ use lib.Dec.{ltb}
 use lib.ListN.{length, length-append, get_or-append}
 use lib.Seq.{get_or_at}
 use borrow.Author.Tests.{ltb-true, ltb-false, lt-ltb, le-ltb}
-use Rattle.monomial_ordering.specs.Order.{compare, and_then, order}
-use Rattle.monomial_ordering.specs.declared.CmpOrd.{CmpOrd}
-use Rattle.monomial_ordering.specs.declared.CmpOrd.TheVariants.{Less, Equal, Greater}
-use Rattle.monomial_ordering.proofs.Lawful.{Lawful, compare-lawful, by_lawful, then-lawful}
-use Rattle.monomial_ordering.proofs.Laws.{order-lawful, order-equal, compare_same}
+use Rattle.std.proofs.Common.{Result, Ok, Err}
+use Rattle.std.specs.Ordering.{nat_cmp, ordering_then}
+use Rattle.monomial_ordering.specs.Order.{order}
+use Rattle.std.specs.declared.cmp.Ordering.{Ordering}
+use Rattle.std.specs.declared.cmp.Ordering.TheVariants.{Less, Equal, Greater}
+use Rattle.std.specs.Cmp.{IsTotalOrder}
+use Rattle.std.proofs.lemmas.Cmp.{nat_cmp_total, on_total, then_total, tied_itself}
+use Rattle.monomial_ordering.proofs.Laws.{order-total, order-equal, compare_same}
 use Rattle.fast_compare.specs.Labels.{sorted, known, free, half, rebuilt, Labelled}
 use Rattle.fast_compare.specs.Map.{Value, cmp, Good, Row, State, row, value, label, Valid, given, answer, stored, after, relabelled, rebuild}
 use Rattle.fast_compare.specs.declared.Comparer.{Comparer}
-use Rattle.fast_compare.specs.declared.Comparer.TheVariants.{Known, New, Full, NoLabel}
+use Rattle.fast_compare.specs.declared.Comparer.TheVariants.{Known, New}
+use Rattle.fast_compare.specs.declared.Unlabelled.{Unlabelled}
+use Rattle.fast_compare.specs.declared.Unlabelled.TheVariants.{Full, NoLabel}
 use Rattle.words.proofs.Tables.{never}
-use Rattle.fast_compare.proofs.Ranks.{less_equal, equal-greater, self, sorted_ext}
+use Rattle.fast_compare.proofs.Ranks.{less_equal, equal-greater, sorted_ext}
 use Rattle.fast_compare.proofs.Neighbours.{known-none, none-known, some_known}
 use Rattle.fast_compare.proofs.Rising.{Between, free-iff, half-between, insert-labelled, rebuilt-labelled, rebuilt-free}
 
 -- ---- values
-pub cmp-lawful : Lawful cmp
+pub cmp-lawful : IsTotalOrder cmp
 unfolding cmp
-cmp-lawful = then-lawful (by_lawful (λ (v : Value). v.index) compare-lawful) (by_lawful (λ (v : Value). v.ratio) (order-lawful 2))
+cmp-lawful = then_total (on_total (λ (v : Value). v.index) nat_cmp_total) (on_total (λ (v : Value). v.ratio) (order-total 2))
 
-both_equal : (c d : CmpOrd) → and_then c d ≡ Equal → (c ≡ Equal) × (d ≡ Equal)
+both_equal : (c d : Ordering) → ordering_then c d ≡ Equal → (c ≡ Equal) × (d ≡ Equal)
 both_equal Less d e = less_equal e
 both_equal Equal d e = (refl, e)
 both_equal Greater d e = equal-greater (sym e)
@@ -43,13 +48,13 @@ pub cmp-equal : (m : ℕ) (a b : Value) → Good m a → Good m b → (cmp a b �
 unfolding cmp
 cmp-equal m a b ga gb = (to, from)
   where
-    to : and_then (compare a.index b.index) (order 2 a.ratio b.ratio) ≡ Equal → a ≡ b
+    to : ordering_then (nat_cmp a.index b.index) (order 2 a.ratio b.ratio) ≡ Equal → a ≡ b
     to e =
-        let z = both_equal (compare a.index b.index) (order 2 a.ratio b.ratio) e in
+        let z = both_equal (nat_cmp a.index b.index) (order 2 a.ratio b.ratio) e in
         value-eq a b (compare_same a.index b.index z.0) ((order-equal 2 m a.ratio b.ratio (omega arith) ga.canonical gb.canonical).0 z.1)
 
-    from : a ≡ b → and_then (compare a.index b.index) (order 2 a.ratio b.ratio) ≡ Equal
-    from e = rw e (self cmp-lawful b)
+    from : a ≡ b → ordering_then (nat_cmp a.index b.index) (order 2 a.ratio b.ratio) ≡ Equal
+    from e = rw e (tied_itself cmp-lawful b)
 
 -- ---- rows
 pub row_old : (rs : List Row) (r : Row) (i : ℕ) → i < length rs → row (rs ++ (r ∷ [])) i ≡ row rs i
@@ -97,14 +102,14 @@ labelled-as f g l k n ef el lab = record {
 }
 
 -- ---- each answer, and when it is given
-pub data Answered (st : State) (q : Value) : Comparer → Type 0 where
-  is_known : (i : ℕ) → known cmp (value st.rows) (length st.rows) q ≡ some i → Answered st q (Known (label st.rows i))
-  is-full : known cmp (value st.rows) (length st.rows) q ≡ none → st.capacity ≤ length st.rows → Answered st q Full
+pub data Answered (st : State) (q : Value) : Result Comparer Unlabelled → Type 0 where
+  is_known : (i : ℕ) → known cmp (value st.rows) (length st.rows) q ≡ some i → Answered st q (Ok (Known (label st.rows i)))
+  is-full : known cmp (value st.rows) (length st.rows) q ≡ none → st.capacity ≤ length st.rows → Answered st q (Err Full)
   is_none : known cmp (value st.rows) (length st.rows) q ≡ none → length st.rows < st.capacity
-      → free cmp (value st.rows) (label st.rows) (length st.rows) q ≡ false → Answered st q NoLabel
+      → free cmp (value st.rows) (label st.rows) (length st.rows) q ≡ false → Answered st q (Err NoLabel)
   is-new : known cmp (value st.rows) (length st.rows) q ≡ none → length st.rows < st.capacity
       → free cmp (value st.rows) (label st.rows) (length st.rows) q ≡ true
-      → Answered st q (New (half cmp (value st.rows) (label st.rows) (length st.rows) q))
+      → Answered st q (Ok (New (half cmp (value st.rows) (label st.rows) (length st.rows) q)))
 
 module _ (st : State) (q : Value) where
   abbrev n : ℕ
@@ -116,19 +121,19 @@ module _ (st : State) (q : Value) where
   abbrev l : ℕ → ℕ
   l = label st.rows
 
-  pub answer-known : (i : ℕ) → known cmp f n q ≡ some i → answer st q ≡ Known (l i)
+  pub answer-known : (i : ℕ) → known cmp f n q ≡ some i → answer st q ≡ Ok (Known (l i))
   unfolding answer given
   answer-known i e = rw e
 
-  pub answer-full : known cmp f n q ≡ none → st.capacity ≤ n → answer st q ≡ Full
+  pub answer-full : known cmp f n q ≡ none → st.capacity ≤ n → answer st q ≡ Err Full
   unfolding answer given
   answer-full e h = rw (e, le-ltb n st.capacity h)
 
-  pub answer-none : known cmp f n q ≡ none → n < st.capacity → free cmp f l n q ≡ false → answer st q ≡ NoLabel
+  pub answer-none : known cmp f n q ≡ none → n < st.capacity → free cmp f l n q ≡ false → answer st q ≡ Err NoLabel
   unfolding answer given
   answer-none e h g = rw (e, lt-ltb n st.capacity h, g)
 
-  pub answer-new : known cmp f n q ≡ none → n < st.capacity → free cmp f l n q ≡ true → answer st q ≡ New (half cmp f l n q)
+  pub answer-new : known cmp f n q ≡ none → n < st.capacity → free cmp f l n q ≡ true → answer st q ≡ Ok (New (half cmp f l n q))
   unfolding answer given
   answer-new e h g = rw (e, lt-ltb n st.capacity h, g)
 
@@ -148,54 +153,53 @@ module _ (st : State) (q : Value) where
       go none e = room e (ltb n st.capacity) refl
 
   -- ---- what is left of the map
-  pub after-as : (a : Comparer) → answer st q ≡ a → after st q ≡ stored a st q
+  pub after-as : (a : Result Comparer Unlabelled) → answer st q ≡ a → after st q ≡ stored a st q
   unfolding after
   after-as a e = rw e
 
-  pub stored-new : (x : ℕ) → stored (New x) st q ≡ record { variables = st.variables; capacity = st.capacity; rows = st.rows ++ (record { value = q; label = x } ∷ []) }
+  pub stored-new : (x : ℕ) → stored (Ok (New x)) st q ≡ record { variables = st.variables; capacity = st.capacity; rows = st.rows ++ (record { value = q; label = x } ∷ []) }
   unfolding stored
   stored-new x = refl
 
-  pub stored_same : (a : Comparer) → ((x : ℕ) → a ≡ New x → ⊥) → stored a st q ≡ st
+  pub stored_same : (a : Result Comparer Unlabelled) → ((x : ℕ) → a ≡ Ok (New x) → ⊥) → stored a st q ≡ st
   unfolding stored
-  stored_same (Known x) h = refl
-  stored_same (New x) h = absurd (h x refl)
-  stored_same Full h = refl
-  stored_same NoLabel h = refl
+  stored_same (Ok (Known x)) h = refl
+  stored_same (Ok (New x)) h = absurd (h x refl)
+  stored_same (Err r) h = refl
 
   -- a known value, and a refusal, change nothing
   pub known_same : (i : ℕ) → known cmp f n q ≡ some i → after st q ≡ st
-  known_same i e = after-as (Known (l i)) (answer-known i e) ∙ stored_same (Known (l i)) (λ x z. let y : ◌≡◌ {A = ℕ} 0 1 = cc in omega arith)
+  known_same i e = after-as (Ok (Known (l i))) (answer-known i e) ∙ stored_same (Ok (Known (l i))) (λ x z. let y : ◌≡◌ {A = ℕ} 0 1 = cc in omega arith)
 
   module _ (val : Valid st) where
     -- a known value answers the label of the one row that holds it
-    pub known-label : (i : ℕ) → i < n → f i ≡ q → answer st q ≡ Known (l i)
+    pub known-label : (i : ℕ) → i < n → f i ≡ q → answer st q ≡ Ok (Known (l i))
     known-label i h e = go (known cmp f n q) refl
       where
         same : cmp (f i) q ≡ Equal
-        same = rw e (self cmp-lawful q)
+        same = rw e (tied_itself cmp-lawful q)
 
-        go : (o : Option ℕ) → known cmp f n q ≡ o → answer st q ≡ Known (l i)
+        go : (o : Option ℕ) → known cmp f n q ≡ o → answer st q ≡ Ok (Known (l i))
         go none z = absurd (none-known cmp-lawful f n q z i h same)
         go (some j) z =
             let k = some_known cmp-lawful f n q j z in
-            let y : j ≡ i = val.labelled.distinct j i k.0 h (cmp-lawful.alike (f j) q (f i) k.1 ∙ cmp-lawful.flips (f i) q ∙ rw same) in
+            let y : j ≡ i = val.labelled.distinct j i k.0 h (cmp-lawful.congr (f j) q (f i) k.1 ∙ cmp-lawful.antisymm q (f i) ∙ rw same) in
             answer-known j z ∙ rw y
 
     -- 10 exactly when the value is new, there is a row for it, and no label lies free between its neighbours
-    pub no-label-iff : (answer st q ≡ NoLabel) ↔ ((((i : ℕ) → i < n → cmp (f i) q ≡ Equal → ⊥) × (n < st.capacity)) × ((x : ℕ) → Between cmp f l n q x → ⊥))
+    pub no-label-iff : (answer st q ≡ Err NoLabel) ↔ ((((i : ℕ) → i < n → cmp (f i) q ≡ Equal → ⊥) × (n < st.capacity)) × ((x : ℕ) → Between cmp f l n q x → ⊥))
     no-label-iff = (to, from)
       where
-        to : answer st q ≡ NoLabel → (((i : ℕ) → i < n → cmp (f i) q ≡ Equal → ⊥) × (n < st.capacity)) × ((x : ℕ) → Between cmp f l n q x → ⊥)
+        to : answer st q ≡ Err NoLabel → (((i : ℕ) → i < n → cmp (f i) q ≡ Equal → ⊥) × (n < st.capacity)) × ((x : ℕ) → Between cmp f l n q x → ⊥)
         to e = go (answer st q) e answered
           where
-            go : (a : Comparer) → a ≡ NoLabel → Answered st q a → (((i : ℕ) → i < n → cmp (f i) q ≡ Equal → ⊥) × (n < st.capacity)) × ((x : ℕ) → Between cmp f l n q x → ⊥)
+            go : (a : Result Comparer Unlabelled) → a ≡ Err NoLabel → Answered st q a → (((i : ℕ) → i < n → cmp (f i) q ≡ Equal → ⊥) × (n < st.capacity)) × ((x : ℕ) → Between cmp f l n q x → ⊥)
             go _ e (is_known i k) = absurd (let z : ◌≡◌ {A = ℕ} 0 1 = cc in omega arith)
             go _ e (is-full k h) = absurd (let z : ◌≡◌ {A = ℕ} 0 1 = cc in omega arith)
             go _ e (is_none k h g) = ((none-known cmp-lawful f n q k, h), λ x b. never (sym g ∙ (free-iff cmp-lawful f l n val.labelled q).1 (x, b)))
             go _ e (is-new k h g) = absurd (let z : ◌≡◌ {A = ℕ} 0 1 = cc in omega arith)
 
-        from : (((i : ℕ) → i < n → cmp (f i) q ≡ Equal → ⊥) × (n < st.capacity)) × ((x : ℕ) → Between cmp f l n q x → ⊥) → answer st q ≡ NoLabel
+        from : (((i : ℕ) → i < n → cmp (f i) q ≡ Equal → ⊥) × (n < st.capacity)) × ((x : ℕ) → Between cmp f l n q x → ⊥) → answer st q ≡ Err NoLabel
         from ((new, h), taken) = answer-none (known-none cmp-lawful f n q new) h (go (free cmp f l n q) refl)
           where
             go : (b : Bool) → free cmp f l n q ≡ b → b ≡ false
@@ -203,12 +207,12 @@ module _ (st : State) (q : Value) where
             go false e = refl
 
     -- never on an empty map
-    pub never-empty : n ≡ 0 → answer st q ≡ NoLabel → ⊥
+    pub never-empty : n ≡ 0 → answer st q ≡ Err NoLabel → ⊥
     never-empty e z =
         (no-label-iff.0 z).1 0 (record { over = λ i h. absurd (omega arith); under = λ i h. absurd (omega arith); small = omega arith })
 
     -- a new value with a label between its neighbours' keeps the map valid
-    new-valid : Good st.variables q → (x : ℕ) → known cmp f n q ≡ none → n < st.capacity → Between cmp f l n q x → Valid (stored (New x) st q)
+    new-valid : Good st.variables q → (x : ℕ) → known cmp f n q ≡ none → n < st.capacity → Between cmp f l n q x → Valid (stored (Ok (New x)) st q)
     new-valid g x e h b =
         let rs = st.rows in
         let r : Row = record { value = q; label = x } in
@@ -231,11 +235,11 @@ module _ (st : State) (q : Value) where
     pub after-valid : Good st.variables q → Valid (after st q)
     after-valid g = go (answer st q) refl answered
       where
-        go : (a : Comparer) → answer st q ≡ a → Answered st q a → Valid (after st q)
-        go _ e (is_known i k) = rw (after-as (Known (l i)) e, stored_same (Known (l i)) (λ x z. let y : ◌≡◌ {A = ℕ} 0 1 = cc in omega arith)) val
-        go _ e (is-full k h) = rw (after-as Full e, stored_same Full (λ x z. let y : ◌≡◌ {A = ℕ} 0 1 = cc in omega arith)) val
-        go _ e (is_none k h b) = rw (after-as NoLabel e, stored_same NoLabel (λ x z. let y : ◌≡◌ {A = ℕ} 0 1 = cc in omega arith)) val
-        go _ e (is-new k h b) = rw (after-as (New (half cmp f l n q)) e) (new-valid g (half cmp f l n q) k h (half-between cmp-lawful f l n val.labelled q b))
+        go : (a : Result Comparer Unlabelled) → answer st q ≡ a → Answered st q a → Valid (after st q)
+        go _ e (is_known i k) = rw (after-as (Ok (Known (l i))) e, stored_same (Ok (Known (l i))) (λ x z. let y : ◌≡◌ {A = ℕ} 0 1 = cc in omega arith)) val
+        go _ e (is-full k h) = rw (after-as (Err Full) e, stored_same (Err Full) (λ x z. let y : ◌≡◌ {A = ℕ} 0 1 = cc in omega arith)) val
+        go _ e (is_none k h b) = rw (after-as (Err NoLabel) e, stored_same (Err NoLabel) (λ x z. let y : ◌≡◌ {A = ℕ} 0 1 = cc in omega arith)) val
+        go _ e (is-new k h b) = rw (after-as (Ok (New (half cmp f l n q))) e) (new-valid g (half cmp f l n q) k h (half-between cmp-lawful f l n val.labelled q b))
 
 -- ---- rebuild
 module _ (st : State) (val : Valid st) where
@@ -267,7 +271,7 @@ module _ (st : State) (val : Valid st) where
   }
 
   -- after a rebuild every value gets a label: a retry is never refused for want of one
-  pub retry : (q : Value) → answer (rebuild st) q ≡ NoLabel → ⊥
+  pub retry : (q : Value) → answer (rebuild st) q ≡ Err NoLabel → ⊥
   retry q e =
       let n = length st.rows in
       let f = value st.rows in
@@ -283,12 +287,12 @@ module _ (st : State) (val : Valid st) where
       })
 
 -- ---- a label lasts: a value that got one answers it from then on, and those before it keep theirs
-module _ (st : State) (q : Value) (val : Valid st) (good : Good st.variables q) (x : ℕ) (new : answer st q ≡ New x) where
+module _ (st : State) (q : Value) (val : Valid st) (good : Good st.variables q) (x : ℕ) (new : answer st q ≡ Ok (New x)) where
   abbrev next : State
   next = record { variables = st.variables; capacity = st.capacity; rows = st.rows ++ (record { value = q; label = x } ∷ []) }
 
   pub after-new : after st q ≡ next
-  after-new = after-as st q (New x) new ∙ stored-new st q x
+  after-new = after-as st q (Ok (New x)) new ∙ stored-new st q x
 
   next-valid : Valid next
   next-valid = rw after-new at (after-valid st q val good)
@@ -296,10 +300,10 @@ module _ (st : State) (q : Value) (val : Valid st) (good : Good st.variables q) 
   length-next : length next.rows ≡ suc (length st.rows)
   length-next = length-append st.rows _ ∙ omega arith
 
-  pub new-known : answer (after st q) q ≡ Known x
+  pub new-known : answer (after st q) q ≡ Ok (Known x)
   new-known = rw after-new (known-label next q next-valid (length st.rows) (omega (arith, length-next)) (value-new st.rows _) ∙ rw (label-new st.rows (record { value = q; label = x })))
 
-  pub old-known : (i : ℕ) → i < length st.rows → answer (after st q) (value st.rows i) ≡ Known (label st.rows i)
+  pub old-known : (i : ℕ) → i < length st.rows → answer (after st q) (value st.rows i) ≡ Ok (Known (label st.rows i))
   old-known i h = rw after-new (known-label next (value st.rows i) next-valid i (omega (arith, length-next)) (value-old st.rows _ i h) ∙ rw (label-old st.rows (record { value = q; label = x }) i h))
 
 -- a rebuild keeps the order: the same rows at the same places

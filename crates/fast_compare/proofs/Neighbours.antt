@@ -7,23 +7,25 @@ use Prim.Native.Nat.{ℕ, zero, suc, ◌+◌, ◌≤◌, ◌<◌}
 use native.Mathlib.Omega.{arith}
 use native.Mathlib.Decide.{ℕ_discrete}
 use lib.ListN.{get_or}
-use Rattle.monomial_ordering.specs.declared.CmpOrd.{CmpOrd}
-use Rattle.monomial_ordering.specs.declared.CmpOrd.TheVariants.{Less, Equal, Greater}
-use Rattle.monomial_ordering.proofs.Lawful.{Lawful, reverse-lawful}
-use Rattle.fast_compare.specs.Labels.{is_less, is_equal, below, known, greater, nearest}
+use Rattle.std.specs.Ordering.{is_lt, is_eq}
+use Rattle.std.specs.declared.cmp.Ordering.{Ordering}
+use Rattle.std.specs.declared.cmp.Ordering.TheVariants.{Less, Equal, Greater}
+use Rattle.std.specs.Cmp.{IsTotalOrder}
+use Rattle.std.proofs.lemmas.Cmp.{back_total, tied_itself, tied_back}
+use Rattle.fast_compare.specs.Labels.{below, known, greater, nearest}
 use Rattle.words.proofs.Tables.{never}
 use Rattle.fast_compare.proofs.Counts.{pick-none, none-pick, some-pick, pick-only}
-use Rattle.fast_compare.proofs.Ranks.{less_equal, is-less, is-equal, self, turn-equal, by_cases, below_less, below-mono, below-most, below_alike, below_top, place_of, Distinct, Ranked, place-less, less-place}
+use Rattle.fast_compare.proofs.Ranks.{less_equal, is-less, is-equal, by_cases, below_less, below-mono, below-most, below_alike, below_top, place_of, Distinct, Ranked, place-less, less-place}
 
-not-less : (o : CmpOrd) → is_less o ≡ false → o ≡ Less → ⊥
-not-less o e h = never (sym e ∙ ap is_less h)
+not-less : (o : Ordering) → is_lt o ≡ false → o ≡ Less → ⊥
+not-less o e h = never (sym e ∙ ap is_lt h)
 
-test-equal : (o : CmpOrd) → (o ≡ Equal → ⊥) → is_equal o ≡ false
+test-equal : (o : Ordering) → (o ≡ Equal → ⊥) → is_eq o ≡ false
 test-equal Less h = refl
 test-equal Equal h = absurd (h refl)
 test-equal Greater h = refl
 
-module _ {A : Type 0} {c : A → A → CmpOrd} (law : Lawful c) (f : ℕ → A) where
+module _ {A : Type 0} {c : A → A → Ordering} (law : IsTotalOrder c) (f : ℕ → A) where
   -- what `nearest` finds: none where no value lies below, else the row of a greatest one
   pub record Greatest (n : ℕ) (q : A) (i : ℕ) : Type 0 where
     pub inside : i < n
@@ -48,16 +50,16 @@ module _ {A : Type 0} {c : A → A → CmpOrd} (law : Lawful c) (f : ℕ → A) 
   near-greater n q none h z = record {
     inside = omega arith;
     lower = h;
-    last = λ j l e g. elim (ℕ_discrete j n) [ yes y ↦ less_equal (sym (rw y at g) ∙ self law (f n)) | no y ↦ z j (omega arith) e ];
+    last = λ j l e g. elim (ℕ_discrete j n) [ yes y ↦ less_equal (sym (rw y at g) ∙ tied_itself law (f n)) | no y ↦ z j (omega arith) e ];
   }
-  near-greater n q (some i) h z = go (is_less (c (f i) (f n))) refl
+  near-greater n q (some i) h z = go (is_lt (c (f i) (f n))) refl
     where
-      go : (b : Bool) → is_less (c (f i) (f n)) ≡ b → Near (suc n) q (cond b (some n) (some i))
+      go : (b : Bool) → is_lt (c (f i) (f n)) ≡ b → Near (suc n) q (cond b (some n) (some i))
       go true e = record {
         inside = omega arith;
         lower = h;
         last = λ j l y g. elim (ℕ_discrete j n) [
-          | yes w ↦ less_equal (sym (rw w at g) ∙ self law (f n))
+          | yes w ↦ less_equal (sym (rw w at g) ∙ tied_itself law (f n))
           | no w ↦ z.last j (omega arith) y (law.trans (f i) (f n) (f j) (is-less _ e) g)
         ];
       }
@@ -70,9 +72,9 @@ module _ {A : Type 0} {c : A → A → CmpOrd} (law : Lawful c) (f : ℕ → A) 
   pub nearest-near : (n : ℕ) (q : A) → Near n q (nearest c f n q)
   unfolding nearest Near
   nearest-near zero q = λ i l. absurd (omega arith)
-  nearest-near (suc n) q = go (is_less (c (f n) q)) refl (nearest-near n q)
+  nearest-near (suc n) q = go (is_lt (c (f n) q)) refl (nearest-near n q)
     where
-      go : (b : Bool) → is_less (c (f n) q) ≡ b → Near n q (nearest c f n q) → Near (suc n) q (cond b (greater c f n (nearest c f n q)) (nearest c f n q))
+      go : (b : Bool) → is_lt (c (f n) q) ≡ b → Near n q (nearest c f n q) → Near (suc n) q (cond b (greater c f n (nearest c f n q)) (nearest c f n q))
       go true e z = near-greater n q (nearest c f n q) (is-less _ e) z
       go false e z = near-more n q (nearest c f n q) (not-less _ e) z
 
@@ -115,8 +117,8 @@ module _ {A : Type 0} {c : A → A → CmpOrd} (law : Lawful c) (f : ℕ → A) 
     pub known_at : Distinct law f n → (p : ℕ) → p < n → c (f (get_or o p 0)) q ≡ Equal → known c f n q ≡ some (get_or o p 0)
     unfolding known
     known_at d p h e =
-        pick-only n _ (get_or o p 0) (r.inside p h) (ap is_equal e)
-        (λ i l z. d i (get_or o p 0) l (r.inside p h) (law.alike (f i) q (f (get_or o p 0)) (is-equal _ z) ∙ turn-equal law _ q e))
+        pick-only n _ (get_or o p 0) (r.inside p h) (ap is_eq e)
+        (λ i l z. d i (get_or o p 0) l (r.inside p h) (law.congr (f i) q (f (get_or o p 0)) (is-equal _ z) ∙ tied_back law _ q e))
 
     -- a value that does not stand at its place is not known
     pub new-at : Distinct law f n → ((k : ℕ) → k ≡ below c f n q → k < n → c (f (get_or o k 0)) q ≡ Equal → ⊥) → (i : ℕ) → i < n → c (f i) q ≡ Equal → ⊥
@@ -130,14 +132,14 @@ module _ {A : Type 0} {c : A → A → CmpOrd} (law : Lawful c) (f : ℕ → A) 
 
   pub none-known : (n : ℕ) (q : A) → known c f n q ≡ none → (i : ℕ) → i < n → c (f i) q ≡ Equal → ⊥
   unfolding known
-  none-known n q h i l e = never (sym (none-pick n _ h i l) ∙ ap is_equal e)
+  none-known n q h i l e = never (sym (none-pick n _ h i l) ∙ ap is_eq e)
 
   pub some_known : (n : ℕ) (q : A) (j : ℕ) → known c f n q ≡ some j → (j < n) × (c (f j) q ≡ Equal)
   unfolding known
   some_known n q j h = let z = some-pick n _ j h in (z.0, is-equal _ z.1)
 
 -- the row at the place is the upper neighbour of a value that is not known
-module _ {A : Type 0} {c : A → A → CmpOrd} (law : Lawful c) (f : ℕ → A) (n : ℕ) (o : List ℕ) (r : Ranked law f n o) (q : A)
+module _ {A : Type 0} {c : A → A → Ordering} (law : IsTotalOrder c) (f : ℕ → A) (n : ℕ) (o : List ℕ) (r : Ranked law f n o) (q : A)
     (new : (i : ℕ) → i < n → c (f i) q ≡ Equal → ⊥) where
   pub above_place : (k : ℕ) → k < n → below c f n q ≤ k → c q (f (get_or o k 0)) ≡ Less
   above_place k h l =
@@ -149,7 +151,7 @@ module _ {A : Type 0} {c : A → A → CmpOrd} (law : Lawful c) (f : ℕ → A) 
   pub upper-at : Distinct law f n → below c f n q < n → nearest (λ x y. c y x) f n q ≡ some (get_or o (below c f n q) 0)
   upper-at d h =
       let p = below c f n q in
-      nearest-is (reverse-lawful law) f n q (get_or o p 0) (λ i j a b e. sym (d j i b a e)) (record {
+      nearest-is (back_total law) f n q (get_or o p 0) (λ i j a b e. sym (d j i b a e)) (record {
         inside = r.inside p h;
         lower = above_place p h (omega arith);
         last = λ j l a b. omega (arith, r.rank p h, below_less law f n j (f (get_or o p 0)) l b, below-mono law f n q (f j) a);
@@ -157,5 +159,5 @@ module _ {A : Type 0} {c : A → A → CmpOrd} (law : Lawful c) (f : ℕ → A) 
 
   pub upper-none : (d : Distinct law f n) → n ≤ below c f n q → nearest (λ x y. c y x) f n q ≡ none
   upper-none d h =
-      nearest-none (reverse-lawful law) f n q (λ i l e.
+      nearest-none (back_total law) f n q (λ i l e.
       omega (arith, below-mono law f n q (f i) e, below_top law f n i l))

@@ -7,10 +7,12 @@ use native.Mathlib.Omega.{arith}
 use native.Mathlib.Decide.{ℕ_discrete, dec_lt}
 use lib.ListN.{length, get_or, take, drop, length-append, length-take, length-drop, get_or-append}
 use lib.Seq.{ext_get_or, get_or-take, get_or-drop, get_or-append-add, length-take-le}
-use Rattle.monomial_ordering.specs.declared.CmpOrd.{CmpOrd}
-use Rattle.monomial_ordering.specs.declared.CmpOrd.TheVariants.{Less, Equal, Greater}
-use Rattle.monomial_ordering.proofs.Lawful.{Lawful, flip, alike_right}
-use Rattle.fast_compare.specs.Labels.{is_less, is_equal, one_if, count, insert_at, below, sorted}
+use Rattle.std.specs.Ordering.{is_lt, is_eq}
+use Rattle.std.specs.declared.cmp.Ordering.{Ordering}
+use Rattle.std.specs.declared.cmp.Ordering.TheVariants.{Less, Equal, Greater}
+use Rattle.std.specs.Cmp.{IsTotalOrder}
+use Rattle.std.proofs.lemmas.Cmp.{alike_right, tied_itself}
+use Rattle.fast_compare.specs.Labels.{one_if, count, insert_at, below, sorted}
 use Rattle.words.proofs.Tables.{never}
 use Rattle.fast_compare.proofs.Counts.{count-suc, count-ext, count_most, count-le, count-lt, count-two}
 
@@ -24,12 +26,12 @@ less-greater e = absurd (let z : ◌≡◌ {A = ℕ} 0 1 = cc in omega arith)
 pub equal-greater : {X : Type 0} → Equal ≡ Greater → X
 equal-greater e = absurd (let z : ◌≡◌ {A = ℕ} 0 1 = cc in omega arith)
 
-pub is-less : (o : CmpOrd) → is_less o ≡ true → o ≡ Less
+pub is-less : (o : Ordering) → is_lt o ≡ true → o ≡ Less
 is-less Less e = refl
 is-less Equal e = never e
 is-less Greater e = never e
 
-pub is-equal : (o : CmpOrd) → is_equal o ≡ true → o ≡ Equal
+pub is-equal : (o : Ordering) → is_eq o ≡ true → o ≡ Equal
 is-equal Less e = never e
 is-equal Equal e = refl
 is-equal Greater e = never e
@@ -61,30 +63,19 @@ module _ (p x : ℕ) (o : List ℕ) (h : p ≤ length o) where
       ap (λ (z : ℕ). get_or (take p o ++ (x ∷ drop p o)) z 0) e ∙ get_or-append-add (take p o) (x ∷ drop p o) (suc (k - p)) 0
       ∙ get_or-drop p o (k - p) 0 ∙ ap (λ (z : ℕ). get_or o z 0) d
 
-module _ {A : Type 0} {c : A → A → CmpOrd} (law : Lawful c) where
+module _ {A : Type 0} {c : A → A → Ordering} (law : IsTotalOrder c) where
   -- ---- a total order
-  pub self : (x : A) → c x x ≡ Equal
-  self x = go (c x x) (law.flips x x)
-    where
-      go : (o : CmpOrd) → o ≡ flip o → o ≡ Equal
-      go Less e = less-greater e
-      go Equal e = refl
-      go Greater e = less-greater (sym e)
-
   pub turn : (x y : A) → c x y ≡ Greater → c y x ≡ Less
-  turn x y e = law.flips x y ∙ rw e
+  turn x y e = law.antisymm y x ∙ rw e
 
   pub turn-less : (x y : A) → c x y ≡ Less → c y x ≡ Greater
-  turn-less x y e = law.flips x y ∙ rw e
-
-  pub turn-equal : (x y : A) → c x y ≡ Equal → c y x ≡ Equal
-  turn-equal x y e = law.flips x y ∙ rw e
+  turn-less x y e = law.antisymm y x ∙ rw e
 
   -- every way that x and y can compare
   pub by_cases : {X : Type 0} (x y : A) → (c x y ≡ Less → X) → (c x y ≡ Equal → X) → (c y x ≡ Less → X) → X
   by_cases {X} x y l e g = go (c x y) refl
     where
-      go : (o : CmpOrd) → c x y ≡ o → X
+      go : (o : Ordering) → c x y ≡ o → X
       go Less h = l h
       go Equal h = e h
       go Greater h = g (turn x y h)
@@ -93,7 +84,7 @@ module _ {A : Type 0} {c : A → A → CmpOrd} (law : Lawful c) where
     -- ---- ranks
     pub below-ext : (g : ℕ → A) (n : ℕ) (q : A) → ((i : ℕ) → i < n → f i ≡ g i) → below c f n q ≡ below c g n q
     unfolding below
-    below-ext g n q h = count-ext n _ _ (λ i l. ap (λ (x : A). is_less (c x q)) (h i l))
+    below-ext g n q h = count-ext n _ _ (λ i l. ap (λ (x : A). is_lt (c x q)) (h i l))
 
     pub below-most : (n : ℕ) (q : A) → below c f n q ≤ n
     unfolding below
@@ -101,22 +92,22 @@ module _ {A : Type 0} {c : A → A → CmpOrd} (law : Lawful c) where
 
     pub below-mono : (n : ℕ) (x y : A) → c x y ≡ Less → below c f n x ≤ below c f n y
     unfolding below
-    below-mono n x y h = count-le n _ _ (λ i l e. ap is_less (law.trans (f i) x y (is-less _ e) h))
+    below-mono n x y h = count-le n _ _ (λ i l e. ap is_lt (law.trans (f i) x y (is-less _ e) h))
 
     pub below_alike : (n : ℕ) (x y : A) → c x y ≡ Equal → below c f n x ≡ below c f n y
     unfolding below
-    below_alike n x y h = count-ext n _ _ (λ i l. ap is_less (alike_right law (f i) x y h))
+    below_alike n x y h = count-ext n _ _ (λ i l. ap is_lt (alike_right law x y (f i) h))
 
     -- row i counts in the rank of what is above it, and not in its own
     pub below_less : (n i : ℕ) (y : A) → i < n → c (f i) y ≡ Less → below c f n (f i) < below c f n y
     unfolding below
     below_less n i y l h =
-        count-lt n _ _ i l (λ k j e. ap is_less (law.trans (f k) (f i) y (is-less _ e) h)) (ap is_less (self (f i))) (ap is_less h)
+        count-lt n _ _ i l (λ k j e. ap is_lt (law.trans (f k) (f i) y (is-less _ e) h)) (ap is_lt (tied_itself law (f i))) (ap is_lt h)
 
     pub below_top : (n i : ℕ) → i < n → below c f n (f i) < n
     unfolding below
     below_top n i l =
-        omega (arith, count-lt n (λ k. is_less (c (f k) (f i))) (λ k. true) i l (λ k j e. refl) (ap is_less (self (f i))) refl, count_most n (λ k. true))
+        omega (arith, count-lt n (λ k. is_lt (c (f k) (f i))) (λ k. true) i l (λ k j e. refl) (ap is_lt (tied_itself law (f i))) refl, count_most n (λ k. true))
 
     abbrev pub Distinct : ℕ → Type 0
     Distinct n = (i j : ℕ) → i < n → j < n → c (f i) (f j) ≡ Equal → i ≡ j
@@ -182,9 +173,9 @@ module _ {A : Type 0} {c : A → A → CmpOrd} (law : Lawful c) where
       unfolding p
       fits = omega (arith, r.long, below-most n (f n))
 
-      more : (q : A) → below c f (suc n) q ≡ one_if (is_less (c (f n) q)) + below c f n q
+      more : (q : A) → below c f (suc n) q ≡ one_if (is_lt (c (f n) q)) + below c f n q
       unfolding below
-      more q = count-suc n (λ i. is_less (c (f i) q))
+      more q = count-suc n (λ i. is_lt (c (f i) q))
 
       early : (k : ℕ) → k < n → k < p → below c f (suc n) (f (get_or o k 0)) ≡ k
       unfolding p
@@ -205,7 +196,7 @@ module _ {A : Type 0} {c : A → A → CmpOrd} (law : Lawful c) where
 
       own : below c f (suc n) (f n) ≡ p
       unfolding p
-      own = more (f n) ∙ rw (self (f n)) (omega arith)
+      own = more (f n) ∙ rw (tied_itself law (f n)) (omega arith)
 
       pub insert-ranked : Ranked (suc n) (insert_at (below c f n (f n)) n o)
       unfolding p
@@ -294,11 +285,11 @@ module _ {A : Type 0} {c : A → A → CmpOrd} (law : Lawful c) where
               (λ l. absurd (omega (arith, place-less n o r (f i) k h l)))
 
           also : c (f j) (f x) ≡ Equal
-          also = sym (law.alike (f i) (f j) (f x) e) ∙ alike
+          also = sym (law.congr (f i) (f j) (f x) e) ∙ alike
 
           two : (q : ℕ → Bool) → ((m : ℕ) → m < n → c (f m) (f x) ≡ Less → q m ≡ true) → q i ≡ true → q j ≡ true → (i ≡ j → ⊥) → below c f n (f x) + 2 ≤ count n q
           two q t a b z =
-              count-two n (λ m. is_less (c (f m) (f x))) q i j hi hj z (λ m l y. t m l (is-less _ y)) (ap is_less alike) (ap is_less also) a b
+              count-two n (λ m. is_lt (c (f m) (f x))) q i j hi hj z (λ m l y. t m l (is-less _ y)) (ap is_lt alike) (ap is_lt also) a b
 
           clash : (i ≡ j → ⊥) → ⊥
           clash z =
@@ -310,8 +301,8 @@ module _ {A : Type 0} {c : A → A → CmpOrd} (law : Lawful c) where
                       arith,
                       r.rank k h,
                       r.rank (suc k) l,
-                      two (λ m. is_less (c (f m) y)) (λ m v w. ap is_less (law.trans (f m) (f x) y w u))
-                          (ap is_less (law.alike (f i) (f x) y alike ∙ u)) (ap is_less (law.alike (f j) (f x) y also ∙ u)) z,
+                      two (λ m. is_lt (c (f m) y)) (λ m v w. ap is_lt (law.trans (f m) (f x) y w u))
+                          (ap is_lt (law.congr (f i) (f x) y alike ∙ u)) (ap is_lt (law.congr (f j) (f x) y also ∙ u)) z,
                     )
                 | no l ↦ omega (arith, r.rank k h, two (λ m. true) (λ m v w. refl) refl refl z, count_most n (λ m. true))
               ]

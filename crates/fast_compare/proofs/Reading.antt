@@ -1,20 +1,22 @@
 -- What a sound map's words say of its state, and the binary search in its order. Assumes nothing.
 use mathlib.Core.Path.{◌≡◌, sym, ap, ◌∙◌}
 use mathlib.Core.List.{List}
-use Prim.Native.Nat.{ℕ, ◌+◌, ◌-◌, ◌*◌, ◌/◌, ◌≤◌, ◌<◌}
+use Prim.Native.Nat.{ℕ, zero, suc, ◌+◌, ◌-◌, ◌*◌, ◌≤◌, ◌<◌}
 use native.Mathlib.Nat.{mul-le-mul, mul-le-mul_right}
 use native.Mathlib.Omega.{arith}
 use lib.ListN.{length, get_or}
+use Rattle.std.proofs.Common.{Result, Err}
 use Rattle.words.specs.Kinds.{payload}
 use Rattle.words.specs.Words.{words}
 use Rattle.words.proofs.Tables.{row_fits}
-use Rattle.monomial_ordering.specs.declared.CmpOrd.{CmpOrd}
-use Rattle.monomial_ordering.specs.declared.CmpOrd.TheVariants.{Less, Equal, Greater}
+use Rattle.std.specs.declared.cmp.Ordering.{Ordering}
+use Rattle.std.specs.declared.cmp.Ordering.TheVariants.{Less, Equal, Greater}
 use Rattle.fast_compare.specs.Labels.{below, sorted}
-use Rattle.fast_compare.specs.Map.{Value, cmp, State, value, label, placed, place}
+use Rattle.fast_compare.specs.Map.{Value, cmp, State, Valid, value, label, placed, place}
+use Rattle.fast_compare.specs.Halving.{Halved, found, between}
+use native.Mathlib.Decide.{dec_lt}
 use Rattle.fast_compare.specs.Layout.{size, Is, Sound, ratio_words, value_at, HasRatio}
-use Rattle.fast_compare.specs.declared.Place.TheVariants.{At, Before}
-use Rattle.fast_compare.proofs.Ranks.{less_equal, turn, turn-equal, below-most, place-less, place-equal, place-greater}
+use Rattle.fast_compare.proofs.Ranks.{equal-greater, turn, below-most, place-less, place-equal, place-greater}
 use Rattle.fast_compare.proofs.Neighbours.{known_at, known-none, new-at}
 use Rattle.fast_compare.proofs.Maps.{cmp-lawful}
 use Rattle.fast_compare.proofs.Images.{ranked, header, row_is, order-get}
@@ -107,64 +109,37 @@ has-ratio bs s x h = record {
   some = ratio-of bs s.state s.is x (omega (arith, count_of bs s.state s.is));
 }
 
--- ---- the binary search: what lies before lo is below q, what lies from hi on is above it
-pub record Seeking (st : State) (q : Value) (lo hi : ℕ) : Type 0 where
-  pub low : lo ≤ below cmp (value st.rows) (length st.rows) q
-  pub high : below cmp (value st.rows) (length st.rows) q ≤ hi
-  pub most : hi ≤ length st.rows
-  pub above : hi < length st.rows → cmp q (value st.rows (get_or (sorted cmp (value st.rows) (length st.rows)) hi 0)) ≡ Less
-
-pub seek-start : (st : State) (q : Value) (n : ℕ) → n ≡ length st.rows → Seeking st q 0 n
-seek-start st q n e = record {
-  low = omega arith;
-  high = omega (arith, below-most cmp-lawful (value st.rows) (length st.rows) q);
-  most = omega arith;
-  above = λ h. absurd (omega arith);
-}
-
--- half way between lo and hi
-pub mid-high : (lo hi : ℕ) → lo < hi → lo + (hi - lo) / 2 < hi
-mid-high lo hi h = omega arith
-
-module _ (bs : List ℕ) (st : State) (i : Is st bs) (q : Value) (lo hi mid x : ℕ) (s : Seeking st q lo hi) (l : mid < hi)
-    (e : x ≡ get_or (sorted cmp (value st.rows) (length st.rows)) mid 0) where
+-- ---- what halving the sorted order finds is the place of q
+module _ (st : State) (val : Valid st) (q : Value) (answers : ℕ → Ordering → Type 0) (c : ℕ) (few : c ≡ length st.rows) where
   abbrev f : ℕ → Value
   f = value st.rows
 
-  abbrev n' : ℕ
-  n' = length st.rows
+  abbrev o : List ℕ
+  o = sorted cmp (value st.rows) (length st.rows)
 
-  inside : mid < n'
-  inside = omega (arith, s.most)
-
-  pub seek-less : (r : CmpOrd) → r ≡ cmp (f x) q → r ≡ Less → Seeking st q (mid + 1) hi
-  seek-less r c h =
-      let z : cmp (f (get_or (sorted cmp f n') mid 0)) q ≡ Less = rw e at (sym c ∙ h) in
-      record { low = omega (arith, place-less cmp-lawful f n' _ (ranked st i.valid) q mid inside z); high = s.high; most = s.most; above = s.above }
-
-  pub seek-greater : (r : CmpOrd) → r ≡ cmp (f x) q → r ≡ Greater → Seeking st q lo mid
-  seek-greater r c h =
-      let z : cmp q (f (get_or (sorted cmp f n') mid 0)) ≡ Less = turn cmp-lawful _ q (rw e at (sym c ∙ h)) in
-      record { low = s.low; high = place-greater cmp-lawful f n' _ (ranked st i.valid) q mid inside z; most = omega arith; above = λ _. z }
-
-  pub seek-equal : (r : CmpOrd) → r ≡ cmp (f x) q → r ≡ Equal → At mid ≡ place st.rows q
+  pub halved-place : (r : Result ℕ ℕ) → Halved answers c r → ((p : ℕ) (r : Ordering) → answers p r → r ≡ cmp (f (get_or o p 0)) q) → r ≡ place st.rows q
   unfolding place placed
-  seek-equal r c h =
-      let z : cmp (f (get_or (sorted cmp f n') mid 0)) q ≡ Equal = rw e at (sym c ∙ h) in
-      let b = place-equal cmp-lawful f n' _ (ranked st i.valid) q mid inside z in
-      rw (known_at cmp-lawful f n' _ (ranked st i.valid) q i.valid.labelled.distinct mid inside z, b)
+  halved-place _ (found p h e) told =
+      let z : cmp (f (get_or o p 0)) q ≡ Equal = sym (told p Equal e) in
+      let l : p < length st.rows = omega arith in
+      let b = place-equal cmp-lawful f (length st.rows) o (ranked st val) q p l z in
+      rw (known_at cmp-lawful f (length st.rows) o (ranked st val) q val.labelled.distinct p l z, b)
+  halved-place _ (between p h before here) told =
+      let b : p ≡ below cmp f (length st.rows) q = omega (arith, low p h before, high h here) in
+      let new = new-at cmp-lawful f (length st.rows) o (ranked st val) q val.labelled.distinct (λ k e l z.
+      let k_is : k ≡ p = omega arith in
+      equal-greater (sym z ∙ rw k_is (sym (told p Greater (here (omega arith)))))) in
+      rw (known-none cmp-lawful f (length st.rows) q new) (ap Err b)
+    where
+      low : (p : ℕ) → p ≤ c → (0 < p → answers (p - 1) Less) → p ≤ below cmp f (length st.rows) q
+      low zero h before = omega arith
+      low (suc p) h before =
+          let e : suc p - 1 ≡ p = omega arith in
+          omega (arith, place-less cmp-lawful f (length st.rows) o (ranked st val) q p (omega arith) (sym (told p Less (rw e at (before (omega arith))))))
 
--- nothing is left
-pub seek-end : (bs : List ℕ) (st : State) → Is st bs → (q : Value) (lo hi : ℕ) → Seeking st q lo hi → hi ≤ lo → Before lo ≡ place st.rows q
-unfolding place placed
-seek-end bs st i q lo hi s h =
-    let f = value st.rows in
-    let n = length st.rows in
-    let d = i.valid.labelled.distinct in
-    let r = ranked st i.valid in
-    let b : lo ≡ below cmp f n q = omega (arith, s.low, s.high) in
-    let eh : hi ≡ below cmp f n q = omega (arith, s.low, s.high) in
-    let new = new-at cmp-lawful f n _ r q d (λ k e l z.
-    let y : cmp q (f (get_or (sorted cmp f n) k 0)) ≡ Less = rw (eh ∙ sym e) at (s.above (omega arith)) in
-    less_equal (sym y ∙ turn-equal cmp-lawful (f (get_or (sorted cmp f n) k 0)) q z)) in
-    rw (known-none cmp-lawful f n q new) (ap Before b)
+      high : p ≤ c → (p < c → answers p Greater) → below cmp f (length st.rows) q ≤ p
+      high h here = elim (dec_lt p c) [
+        | yes l ↦ place-greater cmp-lawful f (length st.rows) o (ranked st val) q p (omega arith)
+            (turn cmp-lawful (f (get_or o p 0)) q (sym (told p Greater (here l))))
+        | no l ↦ omega (arith, below-most cmp-lawful f (length st.rows) q)
+      ]

@@ -11,13 +11,14 @@ use native.Mathlib.Decide.{dec_lt}
 use lib.Dec.{ltb}
 use lib.ListN.{get_or}
 use borrow.Author.Tests.{ltb-true, lt-ltb}
-use Rattle.monomial_ordering.specs.Order.{compare}
-use Rattle.monomial_ordering.specs.declared.CmpOrd.{CmpOrd}
-use Rattle.monomial_ordering.specs.declared.CmpOrd.TheVariants.{Less, Equal}
-use Rattle.monomial_ordering.proofs.Lawful.{Lawful, reverse-lawful, alike_right}
+use Rattle.std.specs.Ordering.{nat_cmp}
+use Rattle.std.specs.declared.cmp.Ordering.{Ordering}
+use Rattle.std.specs.declared.cmp.Ordering.TheVariants.{Less, Equal}
+use Rattle.std.specs.Cmp.{IsTotalOrder}
+use Rattle.std.proofs.lemmas.Cmp.{back_total, alike_right, tied_itself}
 use Rattle.monomial_ordering.proofs.Orders.{compare-less, compare-equal, compare-greater}
 use Rattle.fast_compare.specs.Labels.{top, below, nearest, floor, ceiling, lowest, highest, free, half, spaced, rebuilt, Labelled}
-use Rattle.fast_compare.proofs.Ranks.{less_equal, self, turn-less, by_cases, below_less, below-mono, below_top, Ranked, less-place, place_of}
+use Rattle.fast_compare.proofs.Ranks.{less_equal, turn-less, by_cases, below_less, below-mono, below_top, Ranked, less-place, place_of}
 use Rattle.fast_compare.proofs.Neighbours.{Near, nearest-near, above_place}
 
 -- ---- spaced labels
@@ -48,14 +49,14 @@ spaced-top n k h =
 
 -- ---- labels between neighbours
 -- x lies strictly between the labels of q's neighbours: above those of lower values, below those of higher ones
-pub record Between {A : Type 0} (c : A → A → CmpOrd) (f : ℕ → A) (l : ℕ → ℕ) (n : ℕ) (q : A) (x : ℕ) : Type 0 where
+pub record Between {A : Type 0} (c : A → A → Ordering) (f : ℕ → A) (l : ℕ → ℕ) (n : ℕ) (q : A) (x : ℕ) : Type 0 where
   pub over : (i : ℕ) → i < n → c (f i) q ≡ Less → l i < x
   pub under : (i : ℕ) → i < n → c q (f i) ≡ Less → x < l i
   pub small : x < top
 
-module _ {A : Type 0} {c : A → A → CmpOrd} (law : Lawful c) (f : ℕ → A) (l : ℕ → ℕ) (n : ℕ) (lab : Labelled c f l n) where
+module _ {A : Type 0} {c : A → A → Ordering} (law : IsTotalOrder c) (f : ℕ → A) (l : ℕ → ℕ) (n : ℕ) (lab : Labelled c f l n) where
   -- two labels compare as their values do
-  pub labels-compare : (i j : ℕ) → i < n → j < n → c (f i) (f j) ≡ compare (l i) (l j)
+  pub labels-compare : (i j : ℕ) → i < n → j < n → c (f i) (f j) ≡ nat_cmp (l i) (l j)
   labels-compare i j hi hj =
       by_cases law (f i) (f j)
       (λ e. e ∙ sym (compare-less (l i) (l j) (lab.rising i j hi hj e)))
@@ -77,9 +78,9 @@ module _ {A : Type 0} {c : A → A → CmpOrd} (law : Lawful c) (f : ℕ → A) 
 
   pub highest-under : (q : A) (x : ℕ) → x < highest c f l n q → (i : ℕ) → i < n → c q (f i) ≡ Less → x < l i
   unfolding highest ceiling Near
-  highest-under q x h i hi e = go (nearest (λ x y. c y x) f n q) h (nearest-near (reverse-lawful law) f n q)
+  highest-under q x h i hi e = go (nearest (λ x y. c y x) f n q) h (nearest-near (back_total law) f n q)
     where
-      go : (o : Option ℕ) → x < ceiling l o → Near (reverse-lawful law) f n q o → x < l i
+      go : (o : Option ℕ) → x < ceiling l o → Near (back_total law) f n q o → x < l i
       go none h z = absurd (z i hi e)
       go (some j) h z =
           by_cases law (f j) (f i)
@@ -89,9 +90,9 @@ module _ {A : Type 0} {c : A → A → CmpOrd} (law : Lawful c) (f : ℕ → A) 
 
   pub highest-top : (q : A) → highest c f l n q ≤ top
   unfolding highest ceiling Near
-  highest-top q = go (nearest (λ x y. c y x) f n q) (nearest-near (reverse-lawful law) f n q)
+  highest-top q = go (nearest (λ x y. c y x) f n q) (nearest-near (back_total law) f n q)
     where
-      go : (o : Option ℕ) → Near (reverse-lawful law) f n q o → ceiling l o ≤ top
+      go : (o : Option ℕ) → Near (back_total law) f n q o → ceiling l o ≤ top
       go none z = omega arith
       go (some j) z = omega (arith, lab.small j z.inside)
 
@@ -101,13 +102,13 @@ module _ {A : Type 0} {c : A → A → CmpOrd} (law : Lawful c) (f : ℕ → A) 
 
   pub of-between : (q : A) (x : ℕ) → Between c f l n q x → (lowest c f l n q ≤ x) × (x < highest c f l n q)
   unfolding lowest highest floor ceiling Near
-  of-between q x b = (lo (nearest c f n q) (nearest-near law f n q), hi (nearest (λ x y. c y x) f n q) (nearest-near (reverse-lawful law) f n q))
+  of-between q x b = (lo (nearest c f n q) (nearest-near law f n q), hi (nearest (λ x y. c y x) f n q) (nearest-near (back_total law) f n q))
     where
       lo : (o : Option ℕ) → Near law f n q o → floor l o ≤ x
       lo none z = omega arith
       lo (some j) z = omega (arith, b.over j z.inside z.lower)
 
-      hi : (o : Option ℕ) → Near (reverse-lawful law) f n q o → x < ceiling l o
+      hi : (o : Option ℕ) → Near (back_total law) f n q o → x < ceiling l o
       hi none z = omega (arith, b.small)
       hi (some j) z = b.under j z.inside z.lower
 
@@ -143,7 +144,7 @@ module _ {A : Type 0} {c : A → A → CmpOrd} (law : Lawful c) (f : ℕ → A) 
                 | no z ↦ let y : j ≡ n = omega arith in absurd (new i a (rw (y, ef i a, eq) at e))
               ]
               | no a ↦ elim (dec_lt j n) [
-                | yes z ↦ let y : i ≡ n = omega arith in absurd (new j z (law.flips q (f j) ∙ rw (rw (y, eq, ef j z) at e)))
+                | yes z ↦ let y : i ≡ n = omega arith in absurd (new j z (law.antisymm (f j) q ∙ rw (rw (y, eq, ef j z) at e)))
                 | no z ↦ omega arith
               ]
             ]
@@ -160,7 +161,7 @@ module _ {A : Type 0} {c : A → A → CmpOrd} (law : Lawful c) (f : ℕ → A) 
                 | no z ↦
                     let y : i ≡ n = omega arith in
                     let w : j ≡ n = omega arith in
-                    less_equal (sym (rw (y, w) at e) ∙ self law (f' n))
+                    less_equal (sym (rw (y, w) at e) ∙ tied_itself law (f' n))
               ]
             ]
 
@@ -174,8 +175,8 @@ module _ {A : Type 0} {c : A → A → CmpOrd} (law : Lawful c) (f : ℕ → A) 
   -- ---- comparing a query by its place
   module _ (o : List ℕ) (r : Ranked law f n o) (q : A) (i : ℕ) (h : i < n) where
     -- a query that stands at place p compares by the label there
-    pub compare-at : (p : ℕ) → p < n → c (f (get_or o p 0)) q ≡ Equal → c (f i) q ≡ compare (l i) (l (get_or o p 0))
-    compare-at p k e = sym (alike_right law (f i) (f (get_or o p 0)) q e) ∙ labels-compare i (get_or o p 0) h (r.inside p k)
+    pub compare-at : (p : ℕ) → p < n → c (f (get_or o p 0)) q ≡ Equal → c (f i) q ≡ nat_cmp (l i) (l (get_or o p 0))
+    compare-at p k e = sym (alike_right law (f (get_or o p 0)) q (f i) e) ∙ labels-compare i (get_or o p 0) h (r.inside p k)
 
     -- one that is not known compares by the label at its place, above which and at which the values are above it
     pub compare-before : ((j : ℕ) → j < n → c (f j) q ≡ Equal → ⊥) → (p : ℕ) → p ≡ below c f n q → p < n
@@ -228,9 +229,9 @@ module _ {A : Type 0} {c : A → A → CmpOrd} (law : Lawful c) (f : ℕ → A) 
   -- after a rebuild a label is free for every value
   pub rebuilt-free : n ≤ 4096 → (q : A) → free c f (rebuilt c f n) n q ≡ true
   unfolding free lowest highest floor ceiling Near
-  rebuilt-free h q = lt-ltb _ _ (go (nearest c f n q) (nearest (λ x y. c y x) f n q) (nearest-near law f n q) (nearest-near (reverse-lawful law) f n q))
+  rebuilt-free h q = lt-ltb _ _ (go (nearest c f n q) (nearest (λ x y. c y x) f n q) (nearest-near law f n q) (nearest-near (back_total law) f n q))
     where
-      go : (a b : Option ℕ) → Near law f n q a → Near (reverse-lawful law) f n q b → floor (rebuilt c f n) a < ceiling (rebuilt c f n) b
+      go : (a b : Option ℕ) → Near law f n q a → Near (back_total law) f n q b → floor (rebuilt c f n) a < ceiling (rebuilt c f n) b
       go none none y z = omega arith
       go none (some j) y z = omega (arith, rebuilt-some j h)
       go (some i) none y z = omega (arith, rebuilt-small i y.inside)

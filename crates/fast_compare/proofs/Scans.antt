@@ -6,13 +6,14 @@ use Prim.Native.Nat.{ℕ, ◌+◌, ◌-◌, ◌*◌, ◌≤◌, ◌<◌}
 use native.Mathlib.Decide.{dec_lt}
 use native.Mathlib.Omega.{arith}
 use lib.ListN.{length, get_or, take, drop}
+use Rattle.std.specs.Ordering.{nat_cmp}
 use Rattle.words.specs.Kinds.{payload}
 use Rattle.words.specs.Words.{words}
 use Rattle.words.specs.Tables.{part}
 use Rattle.words.proofs.Laws.{length-words, words-rest}
 use Rattle.monomial.specs.Monomial.{Starts, first}
-use Rattle.monomial_ordering.specs.Order.{compare, order, TotalOf}
-use Rattle.monomial_ordering.specs.declared.CmpOrd.TheVariants.{Less, Greater}
+use Rattle.monomial_ordering.specs.Order.{order, TotalOf}
+use Rattle.std.specs.declared.cmp.Ordering.TheVariants.{Less, Greater}
 use Rattle.monomial_ordering.specs.declared.Total.{Total}
 use Rattle.monomial_ordering.proofs.Orders.{compare-less, compare-equal, compare-greater}
 use Rattle.monomial.proofs.Firsts.{starts-wide, first_part}
@@ -51,7 +52,7 @@ module _ (a b : Value) where
   unfolding cmp
   cmp-greater h = rw (compare-greater a.index b.index h)
 
-  pub cmp-index : (a.index ≡ b.index → ⊥) → compare a.index b.index ≡ cmp a b
+  pub cmp-index : (a.index ≡ b.index → ⊥) → nat_cmp a.index b.index ≡ cmp a b
   cmp-index h =
       elim (dec_lt a.index b.index) [
         | yes l ↦ compare-less a.index b.index l ∙ cmp-less l

@@ -1,15 +1,16 @@
 -- The image of a label map, and which bytes hold one. Assumes nothing.
-use Rattle.std.specs.Prelude.{◌≡◌, List, [], ◌∷◌, ◌++◌, ℕ, suc, ◌+◌, ◌-◌, ◌*◌, ◌≤◌, ◌<◌, length, get_or, drop}
+use Rattle.std.specs.Prelude.{◌≡◌, Result, List, [], ◌∷◌, ◌++◌, ℕ, suc, ◌+◌, ◌-◌, ◌*◌, ◌≤◌, ◌<◌, length, get_or, drop}
 use Rattle.words.specs.Kinds.{kind, payload, index_word}
 use Rattle.words.specs.Words.{words, paste_w}
 use Rattle.words.specs.Tables.{part, zeros, table}
 use Rattle.monomial.specs.Monomial.{front, first}
 use Rattle.monomial_ordering.specs.Order.{TotalOf}
 use Rattle.monomial_ordering.specs.declared.Total.{Total}
-use Rattle.monomial_ordering.specs.declared.CmpOrd.TheVariants.{Less}
+use Rattle.std.specs.declared.cmp.Ordering.TheVariants.{Less}
 use Rattle.fast_compare.specs.Labels.{sorted}
 use Rattle.fast_compare.specs.Map.{Value, cmp, Row, State, row, value, Valid, answer, after}
 use Rattle.fast_compare.specs.declared.Comparer.{Comparer}
+use Rattle.fast_compare.specs.declared.Unlabelled.{Unlabelled}
 
 -- the index, the ratio's words and zeros up to m + 1 words, the label
 unfoldable pub row_words : ℕ → Row → List ℕ
@@ -108,6 +109,6 @@ pub record HeadOk (W : List ℕ) (m c len : ℕ) : Type 0 where
 
 -- ---- what a call leaves
 -- the answer of `answer`, and the bytes of the map after it
-pub record Gave (st : State) (q : Value) (r : Comparer) (entry exit : List ℕ) : Type 0 where
+pub record Gave (st : State) (q : Value) (r : Result Comparer Unlabelled) (entry exit : List ℕ) : Type 0 where
   pub answers : r ≡ answer st q
   pub bytes : exit ≡ paste_w entry 0 (encode (after st q))

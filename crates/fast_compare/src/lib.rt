@@ -11,24 +11,38 @@ ghost use Rattle.monomial_ordering.specs.Order.{TotalOf};
 ghost use Rattle.fast_compare.specs.Labels.{sorted};
 ghost use Rattle.fast_compare.specs.Map as Map;
 ghost use Rattle.fast_compare.specs.Map.{State, value_of, value, cmp, place};
+ghost use Rattle.fast_compare.specs.Map.{refusal};
 ghost use Rattle.fast_compare.specs.Layout.{size, encode, Is, Sound};
+ghost use Rattle.fast_compare.specs.Halving.{Halved};
 
-use monomial_ordering::{CmpOrd, Total};
+use monomial::Kind;
+use monomial_ordering::Total;
+use refusals::Refusal;
+use std::cmp::Ordering;
 
-// What a value gets: its label, or why it gets none.
+// The label of a value, and whether the map had it before.
 #[derive(Clone, Copy)]
 pub enum Comparer {
     Known(u32),
     New(u32),
+}
+
+// Why a new value gets no label: the map has no row for it, or no label lies free between its neighbours'.
+#[derive(Clone, Copy)]
+pub enum Unlabelled {
     Full,
     NoLabel,
 }
 
-// How many values lie below a value that is known, or that is not.
-#[derive(Clone, Copy)]
-pub enum Place {
-    At(usize),
-    Before(usize),
+impl From<Unlabelled> for Refusal {
+    fn from(u: Unlabelled) -> Refusal
+        ensures { result ≡ refusal u }
+    {
+        match u {
+            Unlabelled::Full => Refusal::Full,
+            Unlabelled::NoLabel => Refusal::NoLabel,
+        }
+    }
 }
 
 // The length of a map in bytes.
@@ -80,7 +94,7 @@ pub fn index_of(map: &[u8], row: usize) -> u32
 }
 
 // The value of a row, compared with another, whose ratio has the total t. Rows of another index need no total.
-pub fn compare(map: &[u8], row: usize, index: u32, ratio: &[u8], t: Total) -> CmpOrd
+pub fn compare(map: &[u8], row: usize, index: u32, ratio: &[u8], t: Total) -> Ordering
     requires sound { Sound map.now }
     requires row_bound { row < get_or (words map.now) 3 0 }
     requires canonical { Canonical 2 4096 (words ratio.now) }
@@ -91,38 +105,56 @@ pub fn compare(map: &[u8], row: usize, index: u32, ratio: &[u8], t: Total) -> Cm
     let at = 4 + row * (variables + 3);
     let i = words::payload(words::get(map, at));
     if i != index {
-        return monomial_ordering::cmp(i, index);
+        return i.cmp(&index);
     }
     let s = rows::total_at(map, at);
     rows::compare_at(map, at, s, index, ratio, t)
 }
 
-// The place of a value: how many values lie below it, and whether it is known.
-pub fn search(map: &[u8], index: u32, ratio: &[u8]) -> Place
+// The same for the row with `position` values below its own.
+fn compare_position(map: &[u8], position: usize, index: u32, ratio: &[u8], t: Total) -> Ordering
     requires sound { Sound map.now }
+    requires position_bound { position < get_or (words map.now) 3 0 }
     requires canonical { Canonical 2 4096 (words ratio.now) }
-    ensures { (st : State) → Is st map.now → result ≡ place st.rows (value_of index (words ratio.now)) }
+    requires total_of { TotalOf 2 (words ratio.now) t }
+    ensures { (st : State) → Is st map.now → result ≡ cmp (value st.rows (get_or (sorted cmp (value st.rows) (length st.rows)) position 0)) (value_of index (words ratio.now)) }
 {
-    let t = monomial_ordering::total_of(ratio, 2);
+    let row = row_at(map, position);
+    compare(map, row, index, ratio, t)
+}
+
+// Halves 0..n by the order of its numbers, which rises, up to one that is Equal, or to where one would stand.
+pub fn halve<F: Fn(usize) -> Ordering>(n: usize, order: F) -> Result<usize, usize>
+    requires { (p : ℕ) → p < n → F.pre order p }
+    ensures { Halved (F.post order) n result }
+{
     let mut lo: usize = 0;
-    let mut hi = count(map);
+    let mut hi = n;
     while lo < hi {
         let mid = lo + (hi - lo) / 2;
-        let row = row_at(map, mid);
-        let c = compare(map, row, index, ratio, t);
-        match c {
-            CmpOrd::Less => {
+        match order(mid) {
+            Ordering::Less => {
                 lo = mid + 1;
             }
-            CmpOrd::Equal => {
-                return Place::At(mid);
+            Ordering::Equal => {
+                return Ok(mid);
             }
-            CmpOrd::Greater => {
+            Ordering::Greater => {
                 hi = mid;
             }
         }
     }
-    Place::Before(lo)
+    Err(lo)
+}
+
+// The place of a value: how many values lie below it; Ok where it is known.
+pub fn search(map: &[u8], index: u32, ratio: &[u8]) -> Result<usize, usize>
+    requires sound { Sound map.now }
+    requires canonical { Canonical 2 4096 (words ratio.now) }
+    ensures { (st : State) → Is st map.now → result ≡ place st.rows (value_of index (words ratio.now)) }
+{
+    let t = monomial_ordering::total_of(ratio, Kind::Ratio);
+    halve(count(map), |p| compare_position(map, p, index, ratio, t))
 }
 
 // Writes an empty map: every byte of its length.

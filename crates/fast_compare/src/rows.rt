@@ -6,7 +6,9 @@ ghost use Rattle.fast_compare.specs.Map.{value_of, cmp};
 ghost use Rattle.fast_compare.specs.Layout.{TotalAt, ratio_words, HasRatio, value_at, RowOk, Rises};
 ghost use Rattle.monomial_ordering.specs.Order.{TotalOf};
 
-use monomial_ordering::{CmpOrd, Total};
+use monomial::Kind;
+use monomial_ordering::Total;
+use std::cmp::Ordering;
 
 // The total of the ratio in the row at word `at`.
 pub fn total_at(map: &[u8], at: usize) -> Total
@@ -14,11 +16,11 @@ pub fn total_at(map: &[u8], at: usize) -> Total
     ensures { TotalAt (words map.now) at result }
 {
     let a = 4 * (at + 1);
-    monomial_ordering::total_of(&map[a..], 2)
+    monomial_ordering::total_of(&map[a..], Kind::Ratio)
 }
 
 // The value of the row at word `at`, compared with another, whose ratio stands at the front of a slice. Both ratios come with their totals.
-pub fn compare_at(map: &[u8], at: usize, s: Total, index: u32, ratio: &[u8], t: Total) -> CmpOrd
+pub fn compare_at(map: &[u8], at: usize, s: Total, index: u32, ratio: &[u8], t: Total) -> Ordering
     requires has_ratio { HasRatio (words map.now) (at + 1) }
     requires total_at { TotalAt (words map.now) at s }
     requires starts { Starts 2 4096 (words ratio.now) }
@@ -26,14 +28,13 @@ pub fn compare_at(map: &[u8], at: usize, s: Total, index: u32, ratio: &[u8], t: 
     ensures { (m : ℕ) → (ratio_words (words map.now) m (at + 1) ≡ 0 → ⊥) → result ≡ cmp (value_at (words map.now) m at) (value_of index (first 2 (words ratio.now))) }
 {
     let i = words::payload(words::get(map, at));
-    if i < index {
-        return CmpOrd::Less;
+    match i.cmp(&index) {
+        Ordering::Equal => {
+            let a = 4 * (at + 1);
+            monomial_ordering::ord_by_totals(&map[a..], s, ratio, t, Kind::Ratio)
+        }
+        by_index => by_index,
     }
-    if index < i {
-        return CmpOrd::Greater;
-    }
-    let a = 4 * (at + 1);
-    monomial_ordering::ord_by_totals(&map[a..], s, ratio, t, 2)
 }
 
 // Whether the row at word a lies below the row at word b, in value and in label. Both ratios come with their totals.
@@ -48,10 +49,6 @@ pub fn rises(map: &[u8], variables: usize, a: usize, s: Total, b: usize, t: Tota
 {
     let i = words::payload(words::get(map, b));
     let x = 4 * (b + 1);
-    let c = compare_at(map, a, s, i, &map[x..], t);
-    match c {
-        CmpOrd::Less => words::get(map, a + (variables + 2)) < words::get(map, b + (variables + 2)),
-        CmpOrd::Equal => false,
-        CmpOrd::Greater => false,
-    }
+    compare_at(map, a, s, i, &map[x..], t).is_lt()
+        && words::get(map, a + (variables + 2)) < words::get(map, b + (variables + 2))
 }

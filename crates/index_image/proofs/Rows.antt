@@ -3,10 +3,10 @@ use mathlib.Core.Path.{◌≡◌, refl, ap, ◌∙◌}
 use mathlib.Core.Option.{Option, none, some}
 use Prim.Native.Nat.{ℕ, ◌<◌}
 use lib.ListN.{length}
-use Rattle.monomial_ordering.specs.declared.CmpOrd.TheVariants.{Equal}
+use Rattle.std.specs.declared.cmp.Ordering.TheVariants.{Equal}
 use Rattle.fast_compare.specs.Labels.{known}
 use Rattle.fast_compare.specs.Map as map
-use Rattle.fast_compare.proofs.Ranks.{self}
+use Rattle.std.proofs.lemmas.Cmp.{tied_itself}
 use Rattle.fast_compare.proofs.Neighbours.{none-known, some_known}
 use Rattle.fast_compare.proofs.Maps.{cmp-lawful}
 use Rattle.index_theory.specs.State.{row_or, row_of, label_of}
@@ -23,7 +23,7 @@ module _ (l : map.State) (val : map.Valid l) (v : map.Value) (j : ℕ) (h : j < 
   known-row = go (known map.cmp f n v) refl
     where
       go : (o : Option ℕ) → known map.cmp f n v ≡ o → known map.cmp f n v ≡ some j
-      go none z = absurd (none-known cmp-lawful f n v z j h (rw e (self cmp-lawful v)))
+      go none z = absurd (none-known cmp-lawful f n v z j h (rw e (tied_itself cmp-lawful v)))
       go (some i) z =
           let k = some_known cmp-lawful f n v i z in
           let q : map.cmp (f i) (f j) ≡ Equal = rw e k.1 in

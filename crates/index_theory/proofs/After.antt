@@ -9,6 +9,7 @@ use native.Mathlib.Decide.{dec_lt}
 use lib.Dec.{leb}
 use lib.ListN.{length, get_or}
 use borrow.Author.Tests.{leb-true, le-leb, lt-ltb, le-ltb}
+use Rattle.std.proofs.Common.{Result, Ok, Err}
 use Rattle.words.specs.Kinds.{ident}
 use Rattle.monomial.proofs.Canon.{Canon, canon-of}
 use Rattle.monomial.proofs.Powers.{pow-here, pow-past, pow-end, pow-above}
@@ -17,7 +18,9 @@ use Rattle.divmask.proofs.Growth.{updated-end}
 use Rattle.fast_compare.specs.Labels.{known}
 use Rattle.fast_compare.specs.Map as map
 use Rattle.fast_compare.specs.declared.Comparer.{Comparer}
-use Rattle.fast_compare.specs.declared.Comparer.TheVariants.{Known, New, Full, NoLabel}
+use Rattle.fast_compare.specs.declared.Comparer.TheVariants.{Known, New}
+use Rattle.fast_compare.specs.declared.Unlabelled.{Unlabelled}
+use Rattle.fast_compare.specs.declared.Unlabelled.TheVariants.{Full, NoLabel}
 use Rattle.fast_compare.proofs.Maps.{Answered, is_known, is-full, is_none, is-new, answered, after-as, stored_same, known-label, old-known}
 use Rattle.kd_theory.specs.Tree.{Tree}
 use Rattle.kd_theory.proofs.FixedLaws.{added, added-place, added-nodes}
@@ -31,11 +34,11 @@ use Rattle.index_theory.proofs.Keeps.{value-good}
 
 -- ---- labels
 -- the label of a value is what the map answers
-known-label_of : (l : map.State) (v : map.Value) (x : ℕ) → map.answer l v ≡ Known x → label_of l v ≡ x
+known-label_of : (l : map.State) (v : map.Value) (x : ℕ) → map.answer l v ≡ Ok (Known x) → label_of l v ≡ x
 unfolding label_of row_of row_or
 known-label_of l v x e = go (map.answer l v) e (answered l v)
   where
-    go : (a : Comparer) → a ≡ Known x → Answered l v a → map.label l.rows (row_or (known map.cmp (map.value l.rows) (length l.rows) v)) ≡ x
+    go : (a : Result Comparer Unlabelled) → a ≡ Ok (Known x) → Answered l v a → map.label l.rows (row_or (known map.cmp (map.value l.rows) (length l.rows) v)) ≡ x
     go _ e (is_known i k) = let z : map.label l.rows i ≡ x = cc in rw (k, z) refl
     go _ e (is-full k h) = absurd (let z : ◌≡◌ {A = ℕ} 0 1 = cc in omega arith)
     go _ e (is_none k h g) = absurd (let z : ◌≡◌ {A = ℕ} 0 1 = cc in omega arith)
@@ -46,17 +49,17 @@ same-label l m v e = rw e
 
 module _ (l : map.State) (val : map.Valid l) (v : map.Value) (good : map.Good l.variables v) where
   -- a value that has a row keeps its label, unless the labels are dealt afresh
-  relabel-keeps : (map.answer l v ≡ NoLabel → ⊥) → (i : ℕ) → i < length l.rows → label_of (relabel (map.answer l v) l v) (map.value l.rows i) ≡ label_of l (map.value l.rows i)
+  relabel-keeps : (map.answer l v ≡ Err NoLabel → ⊥) → (i : ℕ) → i < length l.rows → label_of (relabel (map.answer l v) l v) (map.value l.rows i) ≡ label_of l (map.value l.rows i)
   unfolding relabel
   relabel-keeps free i h = go (map.answer l v) refl
     where
-      go : (a : Comparer) → map.answer l v ≡ a → label_of (relabel a l v) (map.value l.rows i) ≡ label_of l (map.value l.rows i)
-      go (Known x) e = same-label l (map.after l v) _ (after-as l v (Known x) e ∙ stored_same l v (Known x) (λ y z. let w : ◌≡◌ {A = ℕ} 0 1 = cc in omega arith))
-      go Full e = same-label l (map.after l v) _ (after-as l v Full e ∙ stored_same l v Full (λ y z. let w : ◌≡◌ {A = ℕ} 0 1 = cc in omega arith))
-      go (New x) e =
+      go : (a : Result Comparer Unlabelled) → map.answer l v ≡ a → label_of (relabel a l v) (map.value l.rows i) ≡ label_of l (map.value l.rows i)
+      go (Ok (Known x)) e = same-label l (map.after l v) _ (after-as l v (Ok (Known x)) e ∙ stored_same l v (Ok (Known x)) (λ y z. let w : ◌≡◌ {A = ℕ} 0 1 = cc in omega arith))
+      go (Err Full) e = same-label l (map.after l v) _ (after-as l v (Err Full) e ∙ stored_same l v (Err Full) (λ y z. let w : ◌≡◌ {A = ℕ} 0 1 = cc in omega arith))
+      go (Ok (New x)) e =
           known-label_of (map.after l v) (map.value l.rows i) (map.label l.rows i) (old-known l v val good x e i h)
           ∙ sym (known-label_of l (map.value l.rows i) (map.label l.rows i) (known-label l (map.value l.rows i) val i h refl))
-      go NoLabel e = absurd (free e)
+      go (Err NoLabel) e = absurd (free e)
 
 rest-kept : (st : State) (t : Tree) → RestKept st (with_tree st t)
 rest-kept st t = record { kind = refl; variables = refl; capacity = refl; maxima = refl; map-maxima = refl; entries = refl; labels = refl }
@@ -87,7 +90,7 @@ dense-exact m q c v = go q (canon-of c)
             ]
 
 module _ (st : State) (val : Valid st) where
-  labels-kept : (k : Kind) → LabelsOf k st.entries st.labels → (e : Entry) → map.Good st.variables (ratio_of e) → (k ≡ ratioed → map.answer st.labels (ratio_of e) ≡ NoLabel → ⊥)
+  labels-kept : (k : Kind) → LabelsOf k st.entries st.labels → (e : Entry) → map.Good st.variables (ratio_of e) → (k ≡ ratioed → map.answer st.labels (ratio_of e) ≡ Err NoLabel → ⊥)
       → (i : ℕ) → i < length st.entries → label_of (labelled k st.labels e) (ratio_at st.entries i) ≡ label_of st.labels (ratio_at st.entries i)
   unfolding labelled
   labels-kept monomials of e good free i h = refl
@@ -101,14 +104,14 @@ module _ (st : State) (val : Valid st) where
   labelled-as monomials l e h = absurd (let z : ◌≡◌ {A = ℕ} 0 1 = cc in omega arith)
   labelled-as ratioed l e h = refl
 
-  relabel-given : (a : Comparer) (l : map.State) (v : map.Value) → (a ≡ NoLabel → ⊥) → relabel a l v ≡ map.after l v
+  relabel-given : (a : Result Comparer Unlabelled) (l : map.State) (v : map.Value) → (a ≡ Err NoLabel → ⊥) → relabel a l v ≡ map.after l v
   unfolding relabel
-  relabel-given (Known x) l v h = refl
-  relabel-given (New x) l v h = refl
-  relabel-given Full l v h = refl
-  relabel-given NoLabel l v h = absurd (h refl)
+  relabel-given (Ok (Known x)) l v h = refl
+  relabel-given (Ok (New x)) l v h = refl
+  relabel-given (Err Full) l v h = refl
+  relabel-given (Err NoLabel) l v h = absurd (h refl)
 
-  relabel-retried : (l : map.State) (v : map.Value) → relabel NoLabel l v ≡ map.after (map.rebuild l) v
+  relabel-retried : (l : map.State) (v : map.Value) → relabel (Err NoLabel) l v ≡ map.after (map.rebuild l) v
   unfolding relabel
   relabel-retried l v = refl
 
@@ -132,7 +135,7 @@ module _ (st : State) (val : Valid st) where
         placed = added-place (keys (inserted st e)) (length st.entries) st.tree _ a;
         nodes = added-nodes (keys (inserted st e)) (length st.entries) st.tree _ a;
         label-given = λ k free. labelled-as st.kind st.labels e k ∙ relabel-given _ st.labels (ratio_of e) (λ n. free (k, n));
-        label-retried = λ h. labelled-as st.kind st.labels e h.0 ∙ ap (λ (a : Comparer). relabel a st.labels (ratio_of e)) h.1 ∙ relabel-retried st.labels (ratio_of e);
+        label-retried = λ h. labelled-as st.kind st.labels e h.0 ∙ ap (λ (a : Result Comparer Unlabelled). relabel a st.labels (ratio_of e)) h.1 ∙ relabel-retried st.labels (ratio_of e);
         labels = λ free. labels-kept st.kind val.labels-of e (value-good st val e f.0 room) (λ k n. free (k, n));
       }
 

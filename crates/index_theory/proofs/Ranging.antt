@@ -8,9 +8,10 @@ use native.Mathlib.Decide.{dec_le}
 use native.Mathlib.Omega.{arith}
 use lib.Dec.{leb, ltb, eqb}
 use borrow.Author.Tests.{lt-ltb, le-ltb, le-leb, lt-leb, eq-eqb, ne_eqb}
+use Rattle.std.specs.Ordering.{nat_cmp, ordering_then, is_gt}
 use Rattle.monomial.specs.Monomial.{pow}
 use Rattle.monomial.specs.Operations.{divides, result_words}
-use Rattle.monomial_ordering.specs.Order.{compare, and_then, order}
+use Rattle.monomial_ordering.specs.Order.{order}
 use Rattle.monomial.specs.declared.ordered_ops.Op.TheVariants.{Ratio}
 use Rattle.monomial_ordering.proofs.Orders as orders
 use Rattle.monomial_ordering.proofs.Orders.{Trichotomy, trichotomy}
@@ -19,7 +20,7 @@ use Rattle.kd_theory.specs.Bag.{Step}
 use Rattle.kd_theory.specs.Prune.{prune_monomial, prune_ratio}
 use Rattle.kd_theory.specs.Queries.{hit, better, largest, reducer}
 use Rattle.kd_theory.specs.Tree.{Path, neither, less, other, both, goes_less, goes_other, start}
-use Rattle.index_theory.specs.Entries.{Entry, entry_at, quotient_of, ratio_of, above, is_greater}
+use Rattle.index_theory.specs.Entries.{Entry, entry_at, quotient_of, ratio_of, above}
 use Rattle.index_theory.specs.State.{monomials, ratioed, State}
 use Rattle.index_theory.specs.Searches.{Query, containment, reducing, high, low, singular, kind_for, ratio_at, may, dense, is_divisor, is_reducer, is_regular, is_high, is_low, is_singular, sought, path, process}
 use Rattle.index_theory.specs.Ranges.{dividend, by_lm, divisor_of, not_below, not_past, replaces, goes_on, may_go, dim_of, limit_of}
@@ -40,7 +41,7 @@ above-less : (v w : map.Value) → v.index < w.index → above v w ≡ false
 unfolding above map.cmp
 above-less v w h = go (trichotomy v.index w.index)
   where
-    go : Trichotomy v.index w.index → is_greater (and_then (compare v.index w.index) (order 2 v.ratio w.ratio)) ≡ false
+    go : Trichotomy v.index w.index → is_gt (ordering_then (nat_cmp v.index w.index) (order 2 v.ratio w.ratio)) ≡ false
     go (orders.less l e) = rw e refl
     go (orders.equal l e) = absurd (omega arith)
     go (orders.greater l e) = absurd (omega arith)
@@ -49,14 +50,14 @@ pub above_more : (v w : map.Value) → w.index < v.index → above v w ≡ true
 unfolding above map.cmp
 above_more v w h = go (trichotomy v.index w.index)
   where
-    go : Trichotomy v.index w.index → is_greater (and_then (compare v.index w.index) (order 2 v.ratio w.ratio)) ≡ true
+    go : Trichotomy v.index w.index → is_gt (ordering_then (nat_cmp v.index w.index) (order 2 v.ratio w.ratio)) ≡ true
     go (orders.less l e) = absurd (omega arith)
     go (orders.equal l e) = absurd (omega arith)
     go (orders.greater l e) = rw e refl
 
-above_same : (v w : map.Value) → v.index ≡ w.index → above v w ≡ is_greater (order 2 v.ratio w.ratio)
+above_same : (v w : map.Value) → v.index ≡ w.index → above v w ≡ is_gt (order 2 v.ratio w.ratio)
 unfolding above
-above_same v w h = ap is_greater (same_index_lem v w h)
+above_same v w h = ap is_gt (same_index_lem v w h)
 
 -- ---- the entries that are asked for: a range of ratios, and a division
 equal-two : (a b : ℕ) → eqb a b ≡ not (ltb a b) && not (ltb b a)
@@ -67,7 +68,7 @@ equal-two a b = go (trichotomy a b)
     go (orders.equal h e) = rw (eq-eqb a b h, le-ltb a b (omega arith), le-ltb b a (omega arith)) refl
     go (orders.greater h e) = rw (ne_eqb a b (λ z. omega arith), le-ltb a b (omega arith), lt-ltb b a h) refl
 
-one_index : (v : map.Value) (i : ℕ) (s l : List ℕ) (D : Bool) → (eqb v.index i && D) && is_greater (order 2 v.ratio (result_words Ratio s l)) ≡ (above v (quotient_of i s l) && not (ltb i v.index)) && D
+one_index : (v : map.Value) (i : ℕ) (s l : List ℕ) (D : Bool) → (eqb v.index i && D) && is_gt (order 2 v.ratio (result_words Ratio s l)) ≡ (above v (quotient_of i s l) && not (ltb i v.index)) && D
 unfolding quotient_of
 one_index v i s l D = go (trichotomy v.index i)
   where
@@ -77,9 +78,9 @@ one_index v i s l D = go (trichotomy v.index i)
     both_ways false true = refl
     both_ways false false = refl
 
-    go : Trichotomy v.index i → (eqb v.index i && D) && is_greater (order 2 v.ratio (result_words Ratio s l)) ≡ (above v (quotient_of i s l) && not (ltb i v.index)) && D
+    go : Trichotomy v.index i → (eqb v.index i && D) && is_gt (order 2 v.ratio (result_words Ratio s l)) ≡ (above v (quotient_of i s l) && not (ltb i v.index)) && D
     go (orders.less h e) = rw (ne_eqb v.index i (λ z. omega arith), above-less v (quotient_of i s l) h) refl
-    go (orders.equal h e) = rw (eq-eqb v.index i h, above_same v (quotient_of i s l) h, le-ltb i v.index (omega arith)) (both_ways D (is_greater (order 2 v.ratio (result_words Ratio s l))))
+    go (orders.equal h e) = rw (eq-eqb v.index i h, above_same v (quotient_of i s l) h, le-ltb i v.index (omega arith)) (both_ways D (is_gt (order 2 v.ratio (result_words Ratio s l))))
     go (orders.greater h e) = rw (ne_eqb v.index i (λ z. omega arith), above_more v (quotient_of i s l) h, lt-ltb i v.index h) refl
 
 pub sought-is : (es : List Entry) (r : Query) (e : ℕ) → sought es r e ≡ (not_below es r e && not_past es r e) && divides (divisor_of r (entry_at es e)) (dividend r)

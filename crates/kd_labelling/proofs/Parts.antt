@@ -6,6 +6,7 @@ use native.Mathlib.Omega.{arith}
 use lib.ListN.{length, get_or, take, drop, length-take, length-drop}
 use lib.Seq.{take_at, drop_at, length-take-le}
 use borrow.Rule.Slice.PartMut.{put_mid}
+use Rattle.std.proofs.Common.{Result, Ok, Err}
 use Rattle.words.specs.Words.{words, paste_w}
 use Rattle.words.proofs.Laws.{length-paste_w}
 use Rattle.monomial.specs.Monomial.{Canonical}
@@ -15,7 +16,9 @@ use Rattle.monomial.proofs.Laws.{canonical-result}
 use Rattle.fast_compare.specs.Map as map
 use Rattle.fast_compare.specs.Layout as labels
 use Rattle.fast_compare.specs.declared.Comparer.{Comparer}
-use Rattle.fast_compare.specs.declared.Comparer.TheVariants.{Known, New, Full, NoLabel}
+use Rattle.fast_compare.specs.declared.Comparer.TheVariants.{Known, New}
+use Rattle.fast_compare.specs.declared.Unlabelled.{Unlabelled}
+use Rattle.fast_compare.specs.declared.Unlabelled.TheVariants.{Full, NoLabel}
 use Rattle.fast_compare.proofs.Exact.{pasted}
 use Rattle.fast_compare.proofs.Images.{encode-length}
 use Rattle.fast_compare.proofs.Maps.{after-valid, rebuild-valid}
@@ -45,11 +48,11 @@ settled-whole l v val good = go (map.answer l v)
     first : Whole l (map.after l v)
     first = record { valid = after-valid l v val good; vars = (after-shape l v).0; cap = (after-shape l v).1 }
 
-    go : (c : Comparer) → Whole l (relabel c l v)
-    go (Known x) = first
-    go (New x) = first
-    go Full = first
-    go NoLabel =
+    go : (c : Result Comparer Unlabelled) → Whole l (relabel c l v)
+    go (Ok (Known x)) = first
+    go (Ok (New x)) = first
+    go (Err Full) = first
+    go (Err NoLabel) =
         let s = after-shape (map.rebuild l) v in
         record { valid = after-valid (map.rebuild l) v (rebuild-valid l val) good; vars = s.0; cap = s.1 }
 

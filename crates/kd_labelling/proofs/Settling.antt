@@ -5,14 +5,16 @@ use mathlib.Core.List.{List}
 use Prim.Native.Nat.{ℕ, ◌<◌}
 use native.Mathlib.Omega.{arith}
 use lib.ListN.{length, get_or}
+use Rattle.std.proofs.Common.{Result, Ok, Err}
 use Rattle.words.specs.Words.{words, paste_w}
 use Rattle.words.proofs.Tables.{never, paste-again}
 use Rattle.fast_compare.specs.Labels.{sorted}
 use Rattle.fast_compare.specs.Map.{Value, Good, State, Valid, cmp, value, place, answer, stored, after, rebuild}
 use Rattle.fast_compare.specs.Layout.{size, encode, Is, Gave}
 use Rattle.fast_compare.specs.declared.Comparer.{Comparer}
-use Rattle.fast_compare.specs.declared.Comparer.TheVariants.{Known, New, Full, NoLabel}
-use Rattle.fast_compare.specs.declared.Place.TheVariants.{At, Before}
+use Rattle.fast_compare.specs.declared.Comparer.TheVariants.{Known, New}
+use Rattle.fast_compare.specs.declared.Unlabelled.{Unlabelled}
+use Rattle.fast_compare.specs.declared.Unlabelled.TheVariants.{Full, NoLabel}
 use Rattle.fast_compare.proofs.Images.{encode-length}
 use Rattle.fast_compare.proofs.Maps.{value-new, after-as, stored-new, stored_same, rebuild-length, rebuild-valid, after-valid}
 use Rattle.fast_compare.proofs.Kept.{gave-sound, rebuild-is, after_is}
@@ -28,46 +30,46 @@ pub after-shape : (l : State) (v : Value) → ((after l v).variables ≡ l.varia
 unfolding after stored
 after-shape l v = go (answer l v)
   where
-    go : (c : Comparer) → ((stored c l v).variables ≡ l.variables) × ((stored c l v).capacity ≡ l.capacity)
-    go (Known x) = (refl, refl)
-    go (New x) = (refl, refl)
-    go Full = (refl, refl)
-    go NoLabel = (refl, refl)
+    go : (c : Result Comparer Unlabelled) → ((stored c l v).variables ≡ l.variables) × ((stored c l v).capacity ≡ l.capacity)
+    go (Ok (Known x)) = (refl, refl)
+    go (Ok (New x)) = (refl, refl)
+    go (Err Full) = (refl, refl)
+    go (Err NoLabel) = (refl, refl)
 
 -- ---- a label at once
-relabel-first : (c : Comparer) (l : State) (v : Value) → is_no_label c ≡ false → relabel c l v ≡ after l v
+relabel-first : (c : Result Comparer Unlabelled) (l : State) (v : Value) → is_no_label c ≡ false → relabel c l v ≡ after l v
 unfolding is_no_label relabel
-relabel-first (Known x) l v h = refl
-relabel-first (New x) l v h = refl
-relabel-first Full l v h = refl
-relabel-first NoLabel l v h = never (sym h)
+relabel-first (Ok (Known x)) l v h = refl
+relabel-first (Ok (New x)) l v h = refl
+relabel-first (Err Full) l v h = refl
+relabel-first (Err NoLabel) l v h = never (sym h)
 
-relabel-second : (c : Comparer) (l : State) (v : Value) → is_no_label c ≡ true → relabel c l v ≡ after (rebuild l) v
+relabel-second : (c : Result Comparer Unlabelled) (l : State) (v : Value) → is_no_label c ≡ true → relabel c l v ≡ after (rebuild l) v
 unfolding is_no_label relabel
-relabel-second (Known x) l v h = never h
-relabel-second (New x) l v h = never h
-relabel-second Full l v h = never h
-relabel-second NoLabel l v h = refl
+relabel-second (Ok (Known x)) l v h = never h
+relabel-second (Ok (New x)) l v h = never h
+relabel-second (Err Full) l v h = never h
+relabel-second (Err NoLabel) l v h = refl
 
-is_none : (c : Comparer) → is_no_label c ≡ true → c ≡ NoLabel
+is_none : (c : Result Comparer Unlabelled) → is_no_label c ≡ true → c ≡ Err NoLabel
 unfolding is_no_label
-is_none (Known x) h = never h
-is_none (New x) h = never h
-is_none Full h = never h
-is_none NoLabel h = refl
+is_none (Ok (Known x)) h = never h
+is_none (Ok (New x)) h = never h
+is_none (Err Full) h = never h
+is_none (Err NoLabel) h = refl
 
-pub first_done : (bs a : List ℕ) (l : State) (v : Value) (r : Comparer) (x : Bool) → Gave l v r bs a → x ≡ is_no_label r → x ≡ false → a ≡ paste_w bs 0 (encode (settled l v))
+pub first_done : (bs a : List ℕ) (l : State) (v : Value) (r : Result Comparer Unlabelled) (x : Bool) → Gave l v r bs a → x ≡ is_no_label r → x ≡ false → a ≡ paste_w bs 0 (encode (settled l v))
 first_done bs a l v r x g ex e = g.bytes ∙ rw (relabel-first (answer l v) l v (ap is_no_label (sym g.answers) ∙ sym ex ∙ e))
 
 -- ---- no label: the map is as it was
-module _ (bs a : List ℕ) (l : State) (v : Value) (r : Comparer) (I : Is l bs) (good : Good (get_or (words bs) 1 0) v) (g : Gave l v r bs a) (none_free : is_no_label r ≡ true) where
+module _ (bs a : List ℕ) (l : State) (v : Value) (r : Result Comparer Unlabelled) (I : Is l bs) (good : Good (get_or (words bs) 1 0) v) (g : Gave l v r bs a) (none_free : is_no_label r ≡ true) where
   good-here : Good l.variables v
   good-here = rw (vars-of bs l I) at good
 
   same : after l v ≡ l
   same =
-      let e : answer l v ≡ NoLabel = sym g.answers ∙ is_none r none_free in
-      after-as l v NoLabel e ∙ stored_same l v NoLabel (λ x z. let y : ◌≡◌ {A = ℕ} 0 1 = cc in omega arith)
+      let e : answer l v ≡ Err NoLabel = sym g.answers ∙ is_none r none_free in
+      after-as l v (Err NoLabel) e ∙ stored_same l v (Err NoLabel) (λ x z. let y : ◌≡◌ {A = ℕ} 0 1 = cc in omega arith)
 
   pub still : Is l a
   still = rw same at (gave-sound bs a l v r I good-here g)
@@ -80,7 +82,7 @@ module _ (bs a : List ℕ) (l : State) (v : Value) (r : Comparer) (I : Is l bs) 
     unfolding rebuild
     good-again = rw (vars-of b (rebuild l) dealt) good-here
 
-    pub second-done : (d : List ℕ) (q : Comparer) → Gave (rebuild l) v q b d → d ≡ paste_w bs 0 (encode (settled l v))
+    pub second-done : (d : List ℕ) (q : Result Comparer Unlabelled) → Gave (rebuild l) v q b d → d ≡ paste_w bs 0 (encode (settled l v))
     unfolding rebuild
     second-done d q h =
         let lv = I.valid in
@@ -100,13 +102,13 @@ module _ (bs a : List ℕ) (l : State) (v : Value) (r : Comparer) (I : Is l bs) 
             encode-length (after (rebuild l) v) (after-valid (rebuild l) v (rebuild-valid l I.valid) good-here) ∙ rw (s.0, s.1)
 
 -- ---- rows
-pub row-at-place : (l : State) (v : Value) (p r : ℕ) → Valid l → At p ≡ place l.rows v → r ≡ get_or (sorted cmp (value l.rows) (length l.rows)) p 0 → r ≡ row_of l v
+pub row-at-place : (l : State) (v : Value) (p r : ℕ) → Valid l → Ok p ≡ place l.rows v → r ≡ get_or (sorted cmp (value l.rows) (length l.rows)) p 0 → r ≡ row_of l v
 unfolding row_of row_or
 row-at-place l v p r val e er =
     let k = at_place l v p e in
     er ∙ (known-row l v val p k).1 ∙ rw k.is
 
-pub no_row : (l : State) (v : Value) (p : ℕ) → Before p ≡ place l.rows v → 0 ≡ row_of l v
+pub no_row : (l : State) (v : Value) (p : ℕ) → Err p ≡ place l.rows v → 0 ≡ row_of l v
 unfolding row_of row_or
 no_row l v p e = rw (before-place l v p e).is
 
@@ -115,22 +117,22 @@ module _ (l : State) (v : Value) where
   new-last : Valid (after l v) → length l.rows < length (after l v).rows → length l.rows ≡ row_of (after l v) v
   new-last val h = go (answer l v) refl
     where
-      kept : (c : Comparer) → answer l v ≡ c → ((x : ℕ) → c ≡ New x → ⊥) → length l.rows ≡ row_of (after l v) v
+      kept : (c : Result Comparer Unlabelled) → answer l v ≡ c → ((x : ℕ) → c ≡ Ok (New x) → ⊥) → length l.rows ≡ row_of (after l v) v
       kept c e other = absurd (omega (arith, h, ap (λ (s : State). length s.rows) (after-as l v c e ∙ stored_same l v c other)))
 
-      go : (c : Comparer) → answer l v ≡ c → length l.rows ≡ row_of (after l v) v
-      go (New x) e =
-          sym (row-of (after l v) val v (length l.rows) h (rw (after-as l v (New x) e ∙ stored-new l v x) (value-new l.rows (record { value = v; label = x }))))
-      go (Known x) e = kept (Known x) e (λ y w. let u : ◌≡◌ {A = ℕ} 0 1 = cc in omega arith)
-      go Full e = kept Full e (λ y w. let u : ◌≡◌ {A = ℕ} 0 1 = cc in omega arith)
-      go NoLabel e = kept NoLabel e (λ y w. let u : ◌≡◌ {A = ℕ} 0 1 = cc in omega arith)
+      go : (c : Result Comparer Unlabelled) → answer l v ≡ c → length l.rows ≡ row_of (after l v) v
+      go (Ok (New x)) e =
+          sym (row-of (after l v) val v (length l.rows) h (rw (after-as l v (Ok (New x)) e ∙ stored-new l v x) (value-new l.rows (record { value = v; label = x }))))
+      go (Ok (Known x)) e = kept (Ok (Known x)) e (λ y w. let u : ◌≡◌ {A = ℕ} 0 1 = cc in omega arith)
+      go (Err Full) e = kept (Err Full) e (λ y w. let u : ◌≡◌ {A = ℕ} 0 1 = cc in omega arith)
+      go (Err NoLabel) e = kept (Err NoLabel) e (λ y w. let u : ◌≡◌ {A = ℕ} 0 1 = cc in omega arith)
 
 pub settled-last : (l : State) (v : Value) → Valid l → Valid (settled l v) → length l.rows < length (settled l v).rows → length l.rows ≡ row_of (settled l v) v
 unfolding relabel
 settled-last l v ok = go (answer l v)
   where
-    go : (c : Comparer) → Valid (relabel c l v) → length l.rows < length (relabel c l v).rows → length l.rows ≡ row_of (relabel c l v) v
-    go (Known x) val h = new-last l v val h
-    go (New x) val h = new-last l v val h
-    go Full val h = new-last l v val h
-    go NoLabel val h = sym (rebuild-length l ok) ∙ new-last (rebuild l) v val (omega (arith, h, rebuild-length l ok))
+    go : (c : Result Comparer Unlabelled) → Valid (relabel c l v) → length l.rows < length (relabel c l v).rows → length l.rows ≡ row_of (relabel c l v) v
+    go (Ok (Known x)) val h = new-last l v val h
+    go (Ok (New x)) val h = new-last l v val h
+    go (Err Full) val h = new-last l v val h
+    go (Err NoLabel) val h = sym (rebuild-length l ok) ∙ new-last (rebuild l) v val (omega (arith, h, rebuild-length l ok))

@@ -6,6 +6,7 @@ use native.Mathlib.Nat.{suc-mul}
 use native.Mathlib.Omega.{arith}
 use lib.ListN.{length, take, drop, length-append, length-drop, take-append-drop}
 use lib.Seq.{length-take-le}
+use Rattle.std.proofs.Common.{Ok, Err}
 use Rattle.words.specs.Kinds.{index_word}
 use Rattle.words.specs.Words.{words, put_w, paste_w}
 use Rattle.words.specs.Tables.{part, zeros, table, over}
@@ -215,7 +216,7 @@ module _ (bs : List ℕ) (st : State) (b : Bytes bs) (i : Is st bs) (room : leng
   pub stored-call : (v k t iw : ℕ) (b1 b2 b3 b4 b5 : List ℕ) → v ≡ st.variables → k ≡ st.capacity → t ≡ length st.rows → iw ≡ index_word q.index
       → b1 ≡ paste_w bs (4 + k * (v + 3) + p) (t ∷ part (words bs) (4 + k * (v + 3) + p) (4 + k * (v + 3) + t - (4 + k * (v + 3) + p)))
       → b2 ≡ put_w b1 (4 + t * (v + 3)) iw → b3 ≡ paste_w b2 (4 + t * (v + 3) + 1) q.ratio → b4 ≡ put_w b3 (4 + t * (v + 3) + (v + 2)) x → b5 ≡ put_w b4 3 (t + 1)
-      → b5 ≡ paste_w bs 0 (encode (stored (New x) st q))
+      → b5 ≡ paste_w bs 0 (encode (stored (Ok (New x)) st q))
   stored-call v k t iw b1 b2 b3 b4 b5 ev ek et ei e1 e2 e3 e4 e5 =
       let d : 4 + k * (v + 3) + t - (4 + k * (v + 3) + p) ≡ t - p = omega arith in
       rw (stored-new st q x) (stored_bytes b1 b2 b3 b4 b5 (e1 ∙ rw d (rw (ev, ek, et))) (e2 ∙ rw (ev, et, ei)) (e3 ∙ rw (ev, et)) (e4 ∙ rw (ev, et)) (e5 ∙ rw et))

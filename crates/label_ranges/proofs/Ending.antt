@@ -8,37 +8,36 @@ use native.Mathlib.Omega.{arith}
 use lib.Dec.{leb, ltb}
 use lib.ListN.{length, get_or}
 use borrow.Author.Tests.{lt-ltb, le-ltb, le-leb, lt-leb}
-use Rattle.monomial_ordering.specs.Order.{compare}
-use Rattle.monomial_ordering.specs.declared.CmpOrd.TheVariants.{Less, Equal, Greater}
-use Rattle.monomial_ordering.proofs.Lawful.{flip}
+use Rattle.std.proofs.Common.{Ok, Err}
+use Rattle.std.specs.Ordering.{nat_cmp, is_gt, ordering_reverse}
+use Rattle.std.specs.declared.cmp.Ordering.TheVariants.{Less, Equal, Greater}
 use Rattle.fast_compare.specs.Labels.{sorted}
 use Rattle.fast_compare.specs.Map as map
 use Rattle.fast_compare.specs.Layout as labels
-use Rattle.fast_compare.specs.declared.Place.TheVariants.{At, Before}
 use Rattle.fast_compare.proofs.Kept.{known-compare, new-compare, last-compare}
 use Rattle.fast_compare.proofs.Maps.{cmp-lawful}
 use Rattle.words.specs.Words.{words}
 use Rattle.fast_compare.proofs.Exact.{count_of}
 use Rattle.fast_compare.proofs.Giving.{at_place, before-place, known-row, place-few}
-use Rattle.index_theory.specs.Entries.{above, is_greater}
+use Rattle.index_theory.specs.Entries.{above}
 use Rattle.label_ranges.specs.Ended.{Ends}
 
-greater-is : (a b : ℕ) → is_greater (compare a b) ≡ ltb b a
-unfolding compare
+greater-is : (a b : ℕ) → is_gt (nat_cmp a b) ≡ ltb b a
+unfolding nat_cmp
 greater-is a b = elim (dec_le b a) [
   | yes h ↦ rw (le-ltb a b h) (go (ltb b a))
   | no h ↦ rw (lt-ltb a b (omega arith), le-ltb b a (omega arith)) refl
 ]
   where
-    go : (c : Bool) → is_greater (cond c Greater Equal) ≡ c
+    go : (c : Bool) → is_gt (cond c Greater Equal) ≡ c
     go true = refl
     go false = refl
 
-flipped-is : (a b : ℕ) → is_greater (flip (compare a b)) ≡ ltb a b
-unfolding compare
+flipped-is : (a b : ℕ) → is_gt (ordering_reverse (nat_cmp a b)) ≡ ltb a b
+unfolding nat_cmp
 flipped-is a b = go (ltb a b) (ltb b a)
   where
-    go : (c d : Bool) → is_greater (flip (cond c Less (cond d Greater Equal))) ≡ c
+    go : (c d : Bool) → is_gt (ordering_reverse (cond c Less (cond d Greater Equal))) ≡ c
     go true d = refl
     go false true = refl
     go false false = refl
@@ -48,7 +47,7 @@ more-is a b = elim (dec_le (a + 1) b) [ yes h ↦ le-leb (a + 1) b h ∙ sym (lt
 
 less-flips : (v w : map.Value) → map.cmp v w ≡ Less → above w v ≡ true
 unfolding above
-less-flips v w h = rw (cmp-lawful.flips v w, h) refl
+less-flips v w h = rw (cmp-lawful.antisymm w v, h) refl
 
 less-not : (v w : map.Value) → map.cmp v w ≡ Less → above v w ≡ false
 unfolding above
@@ -59,17 +58,17 @@ module _ (l : map.State) (val : map.Valid l) (v : map.Value) where
   abbrev label_at : ℕ → ℕ
   label_at p = map.label l.rows (get_or (sorted map.cmp (map.value l.rows) (length l.rows)) p 0)
 
-  pub known-ends : (p x up : ℕ) → At p ≡ map.place l.rows v → x ≡ map.label l.rows (get_or (sorted map.cmp (map.value l.rows) (length l.rows)) p 0)
+  pub known-ends : (p x up : ℕ) → Ok p ≡ map.place l.rows v → x ≡ map.label l.rows (get_or (sorted map.cmp (map.value l.rows) (length l.rows)) p 0)
       → up ≡ x + 1 → Ends l v up x
   unfolding above
   known-ends p x up q ex eu = record {
-    up_is = λ i h. let a = map.label l.rows i in ap is_greater (known-compare l val v i h p q) ∙ greater-is a (label_at p) ∙ rw (← ex, eu) (sym (more-is x a));
+    up_is = λ i h. let a = map.label l.rows i in ap is_gt (known-compare l val v i h p q) ∙ greater-is a (label_at p) ∙ rw (← ex, eu) (sym (more-is x a));
     down_is =
-        λ i h. let a = map.label l.rows i in ap is_greater (cmp-lawful.flips (map.value l.rows i) v ∙ ap flip (known-compare l val v i h p q)) ∙ flipped-is a
+        λ i h. let a = map.label l.rows i in ap is_gt (cmp-lawful.antisymm v (map.value l.rows i) ∙ ap ordering_reverse (known-compare l val v i h p q)) ∙ flipped-is a
         (label_at p) ∙ rw (← ex) refl;
   }
 
-  pub new-ends : (p x : ℕ) → Before p ≡ map.place l.rows v → p < length l.rows
+  pub new-ends : (p x : ℕ) → Err p ≡ map.place l.rows v → p < length l.rows
       → x ≡ map.label l.rows (get_or (sorted map.cmp (map.value l.rows) (length l.rows)) p 0) → Ends l v x x
   new-ends p x q s ex = record { up_is = λ i h. up i h; down_is = λ i h. down i h }
     where
@@ -87,9 +86,9 @@ module _ (l : map.State) (val : map.Valid l) (v : map.Value) where
           let w = map.value l.rows i in
           elim (dec_le x a) [ yes y ↦ less-not v w (c.1.1 (omega arith)) ∙ sym (le-ltb a x y) | no y ↦ less-flips w v (c.0.1 (omega arith)) ∙ sym (lt-ltb a x (omega arith)) ]
 
-  pub last-ends : (p : ℕ) → Before p ≡ map.place l.rows v → p ≡ length l.rows → Ends l v 4294967296 4294967296
+  pub last-ends : (p : ℕ) → Err p ≡ map.place l.rows v → p ≡ length l.rows → Ends l v 4294967296 4294967296
   last-ends p q e =
-      let z : Before (length l.rows) ≡ map.place l.rows v = ap Before (sym e) ∙ q in
+      let z : Err (length l.rows) ≡ map.place l.rows v = ap Err (sym e) ∙ q in
       record {
         up_is = λ i h. less-not (map.value l.rows i) v (last-compare l val v i h z) ∙ sym (lt-leb 4294967296 (map.label l.rows i) (omega (arith, val.labelled.small i h)));
         down_is = λ i h. less-flips (map.value l.rows i) v (last-compare l val v i h z) ∙ sym (lt-ltb (map.label l.rows i) 4294967296 (omega (arith, val.labelled.small i h)));
@@ -97,18 +96,18 @@ module _ (l : map.State) (val : map.Valid l) (v : map.Value) where
 
 -- ---- the places that `search` gives
 module _ (bs : List ℕ) (l : map.State) (I : labels.Is l bs) (v : map.Value) (p : ℕ) where
-  pub at-few : At p ≡ map.place l.rows v → p < get_or (words bs) 3 0
+  pub at-few : Ok p ≡ map.place l.rows v → p < get_or (words bs) 3 0
   at-few q = omega (arith, (known-row l v I.valid p (at_place l v p q)).0, count_of bs l I)
 
-  pub before-few : Before p ≡ map.place l.rows v → p ≤ length l.rows
+  pub before-few : Err p ≡ map.place l.rows v → p ≤ length l.rows
   before-few q = place-few l v I.valid p (before-place l v p q).place_is
 
-  pub known_is : (x : ℕ) → At p ≡ map.place l.rows v → x ≡ map.label l.rows (get_or (sorted map.cmp (map.value l.rows) (length l.rows)) p 0) → Ends l v (x + 1) x
+  pub known_is : (x : ℕ) → Ok p ≡ map.place l.rows v → x ≡ map.label l.rows (get_or (sorted map.cmp (map.value l.rows) (length l.rows)) p 0) → Ends l v (x + 1) x
   known_is x q e = known-ends l I.valid v p x (x + 1) q e refl
 
-  pub new_is : (x c : ℕ) → Before p ≡ map.place l.rows v → c ≡ length l.rows → p < c
+  pub new_is : (x c : ℕ) → Err p ≡ map.place l.rows v → c ≡ length l.rows → p < c
       → x ≡ map.label l.rows (get_or (sorted map.cmp (map.value l.rows) (length l.rows)) p 0) → Ends l v x x
   new_is x c q ec h e = new-ends l I.valid v p x q (omega arith) e
 
-  pub last-is : (c : ℕ) → Before p ≡ map.place l.rows v → c ≡ length l.rows → c ≤ p → Ends l v 4294967296 4294967296
+  pub last-is : (c : ℕ) → Err p ≡ map.place l.rows v → c ≡ length l.rows → c ≤ p → Ends l v 4294967296 4294967296
   last-is c q ec h = last-ends l I.valid v p q (omega (arith, before-few q))

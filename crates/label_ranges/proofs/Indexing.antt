@@ -7,7 +7,7 @@ use native.Mathlib.Omega.{arith}
 use lib.Dec.{leb, ltb}
 use lib.ListN.{length, get_or}
 use borrow.Author.Tests.{lt-ltb, le-ltb, le-leb, lt-leb}
-use Rattle.monomial_ordering.specs.declared.CmpOrd.TheVariants.{Less}
+use Rattle.std.specs.declared.cmp.Ordering.TheVariants.{Less}
 use Rattle.fast_compare.specs.Labels.{below, sorted}
 use Rattle.fast_compare.specs.Map as map
 use Rattle.fast_compare.proofs.Images.{ranked}

@@ -2,9 +2,11 @@
 ghost use Rattle.std.specs.Prelude.{◌≡◌, cond, ◌+◌, ◌*◌, ◌<◌, ◌≤◌, max, eqb, length};
 ghost use Rattle.words.specs.Kinds.{upper_half, var_word};
 ghost use Rattle.words.specs.Words.{words, put_w, paste_w};
-ghost use Rattle.monomial.specs.Monomial.{bias, Starts, first};
+ghost use Rattle.monomial.specs.Monomial.{number, bias, Starts, first};
 ghost use Rattle.monomial.specs.Operations.{met, kind_of, result_words};
 ghost use Rattle.monomial.specs.Walk.{power_at, past};
+
+use crate::Kind;
 
 // What is made of the powers where equal ids meet; an absent variable has power 0.
 #[derive(Clone, Copy)]
@@ -15,14 +17,12 @@ pub enum Op {
     Ratio,
 }
 
-fn kind_of(op: Op) -> u32
-    ensures { result ≡ kind_of op }
+fn kind_of(op: Op) -> Kind
+    ensures { number result ≡ kind_of op }
 {
     match op {
-        Op::Gcd => 1,
-        Op::Product => 1,
-        Op::Quotient => 1,
-        Op::Ratio => 2,
+        Op::Gcd | Op::Product | Op::Quotient => Kind::Monomial,
+        Op::Ratio => Kind::Ratio,
     }
 }
 
@@ -32,9 +32,9 @@ fn meet(op: Op, x: u32, y: u32) -> u32
     ensures { result ≡ met op x y }
 {
     match op {
-        Op::Gcd => { if x < y { x } else { y } }
+        Op::Gcd => x.min(y),
         Op::Product => x + y,
-        Op::Quotient => { if y < x { x - y } else { 0 } }
+        Op::Quotient => x.saturating_sub(y),
         Op::Ratio => x + 32768 - y,
     }
 }
@@ -43,12 +43,11 @@ fn meet(op: Op, x: u32, y: u32) -> u32
 pub fn upper(x: u32, y: u32) -> u32
     ensures { result ≡ max (upper_half x) (upper_half y) }
 {
-    let u = words::upper_half(x);
-    let v = words::upper_half(y);
-    if u < v { v } else { u }
+    words::upper_half(x).max(words::upper_half(y))
 }
 
 // The power in w where its upper half is u, else that of an absent variable.
+#[tactic(auto, unfolding(crate::specs::Walk::power_at))]
 pub fn power_at(w: u32, u: u32, absent: u32) -> u32
     ensures { result ≡ power_at w u absent }
 {
@@ -60,6 +59,7 @@ pub fn power_at(w: u32, u: u32, absent: u32) -> u32
 }
 
 // The place after i where w, at i, has the upper half u.
+#[tactic(auto, unfolding(crate::specs::Walk::past))]
 pub fn step(i: usize, w: u32, u: u32) -> usize
     requires { i < 4611686018427387904 }
     ensures { result ≡ past i w u }
@@ -69,13 +69,13 @@ pub fn step(i: usize, w: u32, u: u32) -> usize
 
 // Writes variable v to the power p as word n, and returns the next place: the same one for power 0, so that the next word goes over it.
 // It writes in either case, since a test before the store costs more.
-fn push(out: &mut [u8], n: usize, kind: u32, v: u32, p: u32) -> usize
-    requires le_kind { (1 ≤ kind) × ((kind < 16) × ((v < 4096) × (p < 65536))) }
+fn push(out: &mut [u8], n: usize, kind: Kind, v: u32, p: u32) -> usize
+    requires fields { (v < 4096) × (p < 65536) }
     requires n_bound { (n ≤ 4096) × (4 * n + 4 ≤ length out.old) }
-    ensures { (result ≡ cond (eqb p (bias kind)) n (n + 1)) × (out.new ≡ put_w out.old n (var_word kind v p)) }
+    ensures { (result ≡ cond (eqb p (bias (number kind))) n (n + 1)) × (out.new ≡ put_w out.old n (var_word (number kind) v p)) }
 {
-    words::put(out, n, words::var_word(kind, v, p));
-    if p == 32768 * (kind - 1) { n } else { n + 1 }
+    words::put(out, n, words::var_word(kind.number(), v, p));
+    if p == kind.bias() { n } else { n + 1 }
 }
 
 // Writes the end word of a monomial of n variables, and returns its length in words.
@@ -99,6 +99,7 @@ pub fn sum(a: &[u8], b: &[u8], op: Op, out: &mut [u8]) -> usize
     let mut i: usize = 0;
     let mut j: usize = 0;
     let mut n: usize = 0;
+    // A merge: whether a place moves on depends on the words at both, so no iterator gives the steps.
     loop {
         let x = words::get(a, i);
         let y = words::get(b, j);

@@ -10,36 +10,35 @@ use native.Mathlib.Nat.{suc-mul, add-mul, mul-le-mul}
 use native.Mathlib.Decide.{ℕ_discrete, dec_le, dec_lt}
 use lib.Dec.{eqb}
 use lib.ListN.{length, get_or, drop, length-drop, drop_of_length-le}
-use borrow.Author.Tests.{eq-eqb, ne_eqb, lt-ltb, le-ltb}
+use borrow.Author.Tests.{eq-eqb, ne_eqb}
 use Rattle.words.specs.Kinds.{kind, ident, power, upper_half}
 use Rattle.words.proofs.Laws.{word-and-rest}
 use Rattle.monomial.specs.Monomial.{bias, Canonical, pow}
-use Rattle.monomial_ordering.specs.Order.{compare, and_then, total, revlex, grevlex, order}
+use Rattle.std.specs.declared.cmp.Ordering.{Ordering}
+use Rattle.std.specs.declared.cmp.Ordering.TheVariants.{Less, Equal, Greater}
+use Rattle.std.specs.Ordering.{nat_cmp, ordering_then}
+use Rattle.std.specs.Cmp.{nat_cmp_is}
+use Rattle.monomial_ordering.specs.Order.{total, revlex, grevlex, order}
 use Rattle.monomial_ordering.specs.Order.{differing}
-use Rattle.monomial_ordering.specs.declared.CmpOrd.{CmpOrd}
-use Rattle.monomial_ordering.specs.declared.CmpOrd.TheVariants.{Less, Equal, Greater}
 use Rattle.monomial.proofs.Canon.{IsVar, IsEnd, Canon, canon-of}
 use Rattle.monomial.proofs.Powers.{pow-here, pow-past, pow-end, pow-above}
 use Rattle.monomial.proofs.Walks.{Rest, within, Last, Next, word_at}
 
 -- ---- comparing numbers
-pub compare-less : (x y : ℕ) → x < y → compare x y ≡ Less
-unfolding compare
-compare-less x y h = rw (lt-ltb x y h)
+pub compare-less : (x y : ℕ) → x < y → nat_cmp x y ≡ Less
+compare-less x y h = sym (nat_cmp_is x y Less h)
 
-pub compare-greater : (x y : ℕ) → y < x → compare x y ≡ Greater
-unfolding compare
-compare-greater x y h = rw (le-ltb x y (omega arith), lt-ltb y x h)
+pub compare-greater : (x y : ℕ) → y < x → nat_cmp x y ≡ Greater
+compare-greater x y h = sym (nat_cmp_is x y Greater h)
 
-pub compare-equal : (x y : ℕ) → x ≡ y → compare x y ≡ Equal
-unfolding compare
-compare-equal x y h = rw (le-ltb x y (omega arith), le-ltb y x (omega arith))
+pub compare-equal : (x y : ℕ) → x ≡ y → nat_cmp x y ≡ Equal
+compare-equal x y h = sym (nat_cmp_is x y Equal h)
 
 -- what a comparison says
 pub data Trichotomy (x y : ℕ) : Type 0 where
-  less : x < y → compare x y ≡ Less → Trichotomy x y
-  equal : x ≡ y → compare x y ≡ Equal → Trichotomy x y
-  greater : y < x → compare x y ≡ Greater → Trichotomy x y
+  less : x < y → nat_cmp x y ≡ Less → Trichotomy x y
+  equal : x ≡ y → nat_cmp x y ≡ Equal → Trichotomy x y
+  greater : y < x → nat_cmp x y ≡ Greater → Trichotomy x y
 
 pub trichotomy : (x y : ℕ) → Trichotomy x y
 trichotomy x y =
@@ -51,7 +50,7 @@ trichotomy x y =
       ]
     ]
 
-pub then_equal : (a : CmpOrd) → and_then a Equal ≡ a
+pub then_equal : (a : Ordering) → ordering_then a Equal ≡ a
 then_equal Less = refl
 then_equal Equal = refl
 then_equal Greater = refl
@@ -66,7 +65,7 @@ revlex-skip c (suc b) p q h e =
       | no l ↦ let z : c ≡ suc b = omega arith in rw z
     ]
 
-pub revlex-suc : (b : ℕ) (p q : ℕ → ℕ) → revlex (suc b) p q ≡ and_then (revlex b p q) (compare (q b) (p b))
+pub revlex-suc : (b : ℕ) (p q : ℕ → ℕ) → revlex (suc b) p q ≡ ordering_then (revlex b p q) (nat_cmp (q b) (p b))
 unfolding revlex
 revlex-suc b p q = refl
 
@@ -280,7 +279,7 @@ module _ {k : ℕ} (pos : 0 < k) {A : List ℕ} (r : Rest k A 0 4096) where
   back i x h l e = let si : i - 1 + 1 ≡ i = omega arith in word-and-rest A (i - 1) x (omega arith) e ∙ rw si
 
 -- the first difference from below decides
-decides : (n u : ℕ) (p q : ℕ → ℕ) → u < n → ((v : ℕ) → v < u → p v ≡ q v) → (p u ≡ q u → ⊥) → revlex n p q ≡ compare (q u) (p u)
+decides : (n u : ℕ) (p q : ℕ → ℕ) → u < n → ((v : ℕ) → v < u → p v ≡ q v) → (p u ≡ q u → ⊥) → revlex n p q ≡ nat_cmp (q u) (p u)
 decides zero u p q h s d = absurd (omega arith)
 decides (suc n) u p q h s d =
     elim (ℕ_discrete u n) [
@@ -290,7 +289,7 @@ decides (suc n) u p q h s d =
       | no e ↦ revlex-suc n p q ∙ rw (decides n u p q (omega arith) s d) (stays (trichotomy (q u) (p u)))
     ]
   where
-    stays : Trichotomy (q u) (p u) → and_then (compare (q u) (p u)) (compare (q n) (p n)) ≡ compare (q u) (p u)
+    stays : Trichotomy (q u) (p u) → ordering_then (nat_cmp (q u) (p u)) (nat_cmp (q n) (p n)) ≡ nat_cmp (q u) (p u)
     stays (less l c) = rw c
     stays (equal l c) = absurd (d (sym l))
     stays (greater l c) = rw c
@@ -310,14 +309,14 @@ module _ {k : ℕ} (pos : 0 < k) {A B : List ℕ} (ra : Rest k A 0 4096) (rb : R
         sym (revlex-skip 0 4096 (pow k A) (pow k B) (omega arith) (λ v m n. e v) ∙ revlex-zero (pow k A) (pow k B))
 
     -- nothing is left of a: b has one more variable
-    pub right-alone : i ≡ 0 → {y : ℕ} → 0 < j → y ≡ get_or B (j - 1) 0 → compare (power y) (bias k) ≡ revlex 4096 (pow k A) (pow k B)
+    pub right-alone : i ≡ 0 → {y : ℕ} → 0 < j → y ≡ get_or B (j - 1) 0 → nat_cmp (power y) (bias k) ≡ revlex 4096 (pow k A) (pow k B)
     right-alone ei {y} h e =
         let w = before pos rb j y h s.jb e in
         let t : (v : ℕ) → pow k A v ≡ pow k (drop j B) v = rw ei at s.same in
         let pa : pow k A (ident y) ≡ bias k = t (ident y) ∙ w.none (ident y) (omega arith) in
         sym (decides 4096 (ident y) (pow k A) (pow k B) w.low (λ v l. t v ∙ sym (w.below v l)) (λ q. w.some (sym w.here ∙ sym q ∙ pa)) ∙ rw (pa, w.here))
 
-    pub left_alone : j ≡ 0 → {x : ℕ} → 0 < i → x ≡ get_or A (i - 1) 0 → compare (bias k) (power x) ≡ revlex 4096 (pow k A) (pow k B)
+    pub left_alone : j ≡ 0 → {x : ℕ} → 0 < i → x ≡ get_or A (i - 1) 0 → nat_cmp (bias k) (power x) ≡ revlex 4096 (pow k A) (pow k B)
     left_alone ej {x} h e =
         let w = before pos ra i x h s.ia e in
         let t : (v : ℕ) → pow k (drop i A) v ≡ pow k B v = rw ej at s.same in
@@ -339,20 +338,20 @@ module _ {k : ℕ} (pos : 0 < k) {A B : List ℕ} (ra : Rest k A 0 4096) (rb : R
                 let u = ident x in
                 let lt : u < ident y = omega (arith, va.kinded, vb.kinded) in
                 let pb : pow k B u ≡ bias k = vb.below u lt ∙ sym (s.same u) ∙ va.none u (omega arith) in
-                rw (lt-ltb (upper_half x) (upper_half y) l)
+                rw (compare-less (upper_half x) (upper_half y) l)
                 (sym (decides 4096 u (pow k A) (pow k B) va.low (λ v m. va.below v m ∙ s.same v ∙ sym (vb.below v (omega arith))) (λ q. va.some (sym va.here ∙ q ∙ pb)) ∙ rw (pb, va.here)))
             | no l ↦ elim (dec_lt (upper_half y) (upper_half x)) [
               | yes g ↦
                   let u = ident y in
                   let lt : u < ident x = omega (arith, va.kinded, vb.kinded) in
                   let pa : pow k A u ≡ bias k = va.below u lt ∙ s.same u ∙ vb.none u (omega arith) in
-                  rw (le-ltb (upper_half x) (upper_half y) (omega arith), lt-ltb (upper_half y) (upper_half x) g)
+                  rw (compare-greater (upper_half x) (upper_half y) g)
                   (sym (decides 4096 u (pow k A) (pow k B) vb.low (λ v m. va.below v (omega arith) ∙ s.same v ∙ sym (vb.below v m)) (λ q. vb.some (sym vb.here ∙ sym q ∙ pa)) ∙ rw (pa, vb.here)))
               | no g ↦
                   let u = ident x in
                   let same : ident y ≡ u = omega (arith, va.kinded, vb.kinded) in
                   let pb : pow k B u ≡ power y = rw same at vb.here in
-                  rw (le-ltb (upper_half x) (upper_half y) (omega arith), le-ltb (upper_half y) (upper_half x) (omega arith))
+                  rw (compare-equal (upper_half x) (upper_half y) (omega arith))
                   (sym (decides 4096 u (pow k A) (pow k B) va.low (λ v m. va.below v m ∙ s.same v ∙ sym (vb.below v (omega arith))) (λ q. d (let z : power x ≡ power y = sym va.here ∙ q ∙ pb in omega arith)) ∙ rw (pb, va.here)))
             ]
           ]

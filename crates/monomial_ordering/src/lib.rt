@@ -3,28 +3,12 @@
 
 ghost use Rattle.std.specs.Prelude.{◌≡◌, ◌+◌, ◌≤◌, length};
 ghost use Rattle.words.specs.Words.{words};
-ghost use Rattle.monomial.specs.Monomial.{Starts, first, pow};
-ghost use Rattle.monomial_ordering.specs.Order.{compare, TotalOf, revlex, order};
+ghost use Rattle.monomial.specs.Monomial.{number, Starts, first, pow};
+ghost use Rattle.monomial_ordering.specs.Order.{TotalOf, revlex, order};
 ghost use Rattle.monomial_ordering.specs.Order.{differing};
 
-#[derive(Clone, Copy)]
-pub enum CmpOrd {
-    Less,
-    Equal,
-    Greater,
-}
-
-pub fn cmp(x: u32, y: u32) -> CmpOrd
-    ensures { result ≡ compare x y }
-{
-    if x < y {
-        return CmpOrd::Less;
-    }
-    if y < x {
-        return CmpOrd::Greater;
-    }
-    CmpOrd::Equal
-}
+use monomial::Kind;
+use std::cmp::Ordering;
 
 // The sum of a monomial's powers and its number of variables. In a ratio each of the 4,096 powers has 32,768 added, those of absent ones too.
 #[derive(Clone, Copy)]
@@ -34,13 +18,13 @@ pub struct Total {
 }
 
 // The total of the monomial or ratio at the front of a slice.
-pub fn total_of(s: &[u8], kind: u32) -> Total
-    requires le_kind { (1 ≤ kind) × (kind ≤ 2) }
-    requires starts { Starts kind 4096 (words s.now) }
-    ensures { TotalOf kind (first kind (words s.now)) result }
+pub fn total_of(s: &[u8], kind: Kind) -> Total
+    requires starts { Starts (number kind) 4096 (words s.now) }
+    ensures { TotalOf (number kind) (first (number kind) (words s.now)) result }
 {
-    let absent = 32768 * (kind - 1);
+    let absent = kind.bias();
     let mut sum: u32 = 0;
+    // Not over `variables_of`: it would test each word against the slice's end, and the count stays.
     let mut i: usize = 0;
     loop {
         let w = words::get(s, i);
@@ -56,75 +40,58 @@ pub fn total_of(s: &[u8], kind: u32) -> Total
 }
 
 // What two words that differ say where all variables of smaller ids have the same powers: the smaller power is the larger monomial.
-fn differ(x: u32, y: u32, absent: u32) -> CmpOrd
+#[tactic(auto, unfolding(crate::specs::Order::differing))]
+fn differ(x: u32, y: u32, absent: u32) -> Ordering
     ensures { result ≡ differing x y absent }
 {
-    let u = words::upper_half(x);
-    let v = words::upper_half(y);
-    if u < v {
-        return cmp(absent, words::power(x));
+    match words::upper_half(x).cmp(&words::upper_half(y)) {
+        Ordering::Less => absent.cmp(&words::power(x)),
+        Ordering::Equal => words::power(y).cmp(&words::power(x)),
+        Ordering::Greater => words::power(y).cmp(&absent),
     }
-    if v < u {
-        return cmp(words::power(y), absent);
-    }
-    cmp(words::power(y), words::power(x))
 }
 
 // The reverse lexicographic order of two with i and j variables. Ids fall, so the first difference from the end is the one at the smallest id.
-fn revlex(a: &[u8], i: usize, b: &[u8], j: usize, kind: u32) -> CmpOrd
-    requires le_kind { (1 ≤ kind) × (kind ≤ 2) }
-    requires starts { Starts kind 4096 (words a.now) }
-    requires starts_2 { Starts kind 4096 (words b.now) }
-    requires i_value { (i + 1 ≡ length (first kind (words a.now))) × (j + 1 ≡ length (first kind (words b.now))) }
-    ensures { result ≡ revlex 4096 (pow kind (first kind (words a.now))) (pow kind (first kind (words b.now))) }
+fn revlex(a: &[u8], i: usize, b: &[u8], j: usize, kind: Kind) -> Ordering
+    requires starts { Starts (number kind) 4096 (words a.now) }
+    requires starts_2 { Starts (number kind) 4096 (words b.now) }
+    requires i_value { (i + 1 ≡ length (first (number kind) (words a.now))) × (j + 1 ≡ length (first (number kind) (words b.now))) }
+    ensures { result ≡ revlex 4096 (pow (number kind) (first (number kind) (words a.now))) (pow (number kind) (first (number kind) (words b.now))) }
 {
-    let absent = 32768 * (kind - 1);
-    let mut m = i;
-    let mut n = j;
-    loop {
-        if m == 0 {
-            if n == 0 {
-                return CmpOrd::Equal;
-            }
-            return cmp(words::power(words::get(b, n - 1)), absent);
-        }
-        let x = words::get(a, m - 1);
-        if n == 0 {
-            return cmp(absent, words::power(x));
-        }
-        let y = words::get(b, n - 1);
+    let absent = kind.bias();
+    for k in 0..i.min(j) {
+        let x = words::get(a, i - k - 1);
+        let y = words::get(b, j - k - 1);
         if x != y {
             return differ(x, y, absent);
         }
-        m -= 1;
-        n -= 1;
+    }
+    match i.cmp(&j) {
+        Ordering::Less => words::power(words::get(b, j - i - 1)).cmp(&absent),
+        Ordering::Equal => Ordering::Equal,
+        Ordering::Greater => absent.cmp(&words::power(words::get(a, i - j - 1))),
     }
 }
 
-// Compares two monomials (kind 1) or two ratios (kind 2) whose totals are known: by these, then from their ends.
-pub fn ord_by_totals(a: &[u8], s: Total, b: &[u8], t: Total, kind: u32) -> CmpOrd
-    requires le_kind { (1 ≤ kind) × (kind ≤ 2) }
-    requires starts { Starts kind 4096 (words a.now) }
-    requires total_of { TotalOf kind (first kind (words a.now)) s }
-    requires starts_2 { Starts kind 4096 (words b.now) }
-    requires total_of_2 { TotalOf kind (first kind (words b.now)) t }
-    ensures { result ≡ order kind (first kind (words a.now)) (first kind (words b.now)) }
+// Compares two monomials or two ratios whose totals are known: by these, then from their ends.
+#[tactic(auto, unfolding(crate::specs::Order::order, crate::specs::Order::grevlex))]
+pub fn ord_by_totals(a: &[u8], s: Total, b: &[u8], t: Total, kind: Kind) -> Ordering
+    requires starts { Starts (number kind) 4096 (words a.now) }
+    requires total_of { TotalOf (number kind) (first (number kind) (words a.now)) s }
+    requires starts_2 { Starts (number kind) 4096 (words b.now) }
+    requires total_of_2 { TotalOf (number kind) (first (number kind) (words b.now)) t }
+    ensures { result ≡ order (number kind) (first (number kind) (words a.now)) (first (number kind) (words b.now)) }
 {
-    if s.sum < t.sum {
-        return CmpOrd::Less;
-    }
-    if t.sum < s.sum {
-        return CmpOrd::Greater;
-    }
-    revlex(a, s.variables, b, t.variables, kind)
+    s.sum
+        .cmp(&t.sum)
+        .then_with(|| revlex(a, s.variables, b, t.variables, kind))
 }
 
 // Compares two monomials or two ratios.
-pub fn ord(a: &[u8], b: &[u8], kind: u32) -> CmpOrd
-    requires le_kind { (1 ≤ kind) × (kind ≤ 2) }
-    requires starts { Starts kind 4096 (words a.now) }
-    requires starts_2 { Starts kind 4096 (words b.now) }
-    ensures { result ≡ order kind (first kind (words a.now)) (first kind (words b.now)) }
+pub fn ord(a: &[u8], b: &[u8], kind: Kind) -> Ordering
+    requires starts { Starts (number kind) 4096 (words a.now) }
+    requires starts_2 { Starts (number kind) 4096 (words b.now) }
+    ensures { result ≡ order (number kind) (first (number kind) (words a.now)) (first (number kind) (words b.now)) }
 {
     let s = total_of(a, kind);
     let t = total_of(b, kind);

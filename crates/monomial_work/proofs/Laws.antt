@@ -9,8 +9,8 @@ use lib.Seq.{take_all}
 use Rattle.monomial.specs.Monomial.{Canonical, Starts, first}
 use Rattle.monomial.specs.Operations.{result_words, divides, divided}
 use Rattle.monomial.specs.declared.Division.TheVariants.{Whole, NotDivisible}
-use Rattle.monomial_ordering.specs.declared.CmpOrd.{CmpOrd}
-use Rattle.monomial_ordering.specs.declared.CmpOrd.TheVariants.{Less, Equal, Greater}
+use Rattle.std.specs.declared.cmp.Ordering.{Ordering}
+use Rattle.std.specs.declared.cmp.Ordering.TheVariants.{Less, Equal, Greater}
 use Rattle.monomial.specs.declared.ordered_ops.Op.{Op}
 use Rattle.monomial.proofs.Laws.{length-result}
 use Rattle.monomial.proofs.Firsts.{starts-wide, starts-whole, first-whole}
@@ -67,7 +67,7 @@ pub yes-small : (t : Bool) → yes t < 268435456
 yes-small true = omega arith
 yes-small false = omega arith
 
-pub number_small : (c : CmpOrd) → number c < 268435456
+pub number_small : (c : Ordering) → number c < 268435456
 number_small Less = omega arith
 number_small Equal = omega arith
 number_small Greater = omega arith

@@ -8,8 +8,8 @@ use Rattle.monomial_ordering.specs.Order.{order}
 use Rattle.monomial.specs.Sizes.{variables_fit}
 use Rattle.monomial.specs.declared.Division.{Division}
 use Rattle.monomial.specs.declared.Division.TheVariants.{Whole, NotDivisible}
-use Rattle.monomial_ordering.specs.declared.CmpOrd.{CmpOrd}
-use Rattle.monomial_ordering.specs.declared.CmpOrd.TheVariants.{Less, Equal, Greater}
+use Rattle.std.specs.declared.cmp.Ordering.{Ordering}
+use Rattle.std.specs.declared.cmp.Ordering.TheVariants.{Less, Equal, Greater}
 use Rattle.monomial.specs.declared.ordered_ops.Op.{Op}
 use Rattle.monomial_work.specs.declared.Work.{Work}
 use Rattle.monomial_work.specs.declared.Work.TheVariants.{Gcd, Mul, WholeDivision, FractionDivision, Divides, Eq, Cmp, RatioEq, RatioCmp}
@@ -32,7 +32,7 @@ yes true = 1
 yes false = 0
 
 -- less 0, equal 1, greater 2
-abbrev pub number : CmpOrd → ℕ
+abbrev pub number : Ordering → ℕ
 number Less = 0
 number Equal = 1
 number Greater = 2

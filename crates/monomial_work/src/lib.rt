@@ -10,7 +10,7 @@ ghost use Rattle.monomial_work.specs.Steps as steps;
 
 use monomial::Division;
 use monomial::ordered_ops::Op;
-use monomial_ordering::CmpOrd;
+use std::cmp::Ordering;
 
 // What is asked of two monomials, or of two ratios.
 #[derive(Clone, Copy)]
@@ -32,13 +32,13 @@ fn yes(b: bool) -> u32
     if b { 1 } else { 0 }
 }
 
-fn number(c: CmpOrd) -> u32
+fn number(c: Ordering) -> u32
     ensures { result ≡ spec.number c }
 {
     match c {
-        CmpOrd::Less => 0,
-        CmpOrd::Equal => 1,
-        CmpOrd::Greater => 2,
+        Ordering::Less => 0,
+        Ordering::Equal => 1,
+        Ordering::Greater => 2,
     }
 }
 

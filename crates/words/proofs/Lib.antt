@@ -6,6 +6,7 @@ pub mod Lists
 pub mod Laws
 pub mod Fields
 pub mod Tables
+pub mod Copies
 pub mod Joined
 pub mod Pasting
 pub mod Drafts

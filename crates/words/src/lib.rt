@@ -8,31 +8,36 @@ ghost use Rattle.std.specs.Prelude.{◌≡◌, ◌+◌, ◌*◌, ◌<◌, ◌≤
 ghost use Rattle.words.specs.Words.{words, put_w};
 ghost use Rattle.words.specs.Kinds as kinds;
 
-fn wide(x: u8) -> u32
-    ensures { (result ≡ x) × (result < 256) }
-{
-    x as u32
-}
+// The kinds of words, in the top 4 bits; a variable's word of a monomial, and of a ratio.
+pub const END: u32 = 0;
 
-// Word i of s. The sum compiles to one 32-bit load.
+pub const VARIABLE: u32 = 1;
+
+pub const RATIO: u32 = 2;
+
+pub const INDEX: u32 = 3;
+
+pub const ANSWER: u32 = 4;
+
+pub const REFUSAL: u32 = 5;
+
+pub const CALL: u32 = 6;
+
+// Word i of s. It compiles to one 32-bit load.
 pub fn get(s: &[u8], i: usize) -> u32
     requires { 4 * i + 4 ≤ length s.now }
     ensures { result ≡ get_or (words s.now) i 0 }
 {
     let j = 4 * i;
-    wide(s[j]) + 256 * wide(s[j + 1]) + 65536 * wide(s[j + 2]) + 16777216 * wide(s[j + 3])
+    u32::from_le_bytes([s[j], s[j + 1], s[j + 2], s[j + 3]])
 }
 
-// Writes w as word i of s. The four stores compile to one.
+// Writes w as word i of s. It compiles to one 32-bit store.
 pub fn put(s: &mut [u8], i: usize, w: u32)
     requires { 4 * i + 4 ≤ length s.old }
     ensures { s.new ≡ put_w s.old i w }
 {
-    let j = 4 * i;
-    s[j] = (w % 256) as u8;
-    s[j + 1] = (w / 256 % 256) as u8;
-    s[j + 2] = (w / 65536 % 256) as u8;
-    s[j + 3] = (w / 16777216) as u8;
+    s[4 * i..4 * i + 4].copy_from_slice(&w.to_le_bytes());
 }
 
 pub fn kind(w: u32) -> u32
@@ -79,7 +84,7 @@ pub fn upper_id(u: u32) -> u32
 pub fn is_end(w: u32) -> bool
     ensures { result ≡ kinds.is_end w }
 {
-    kind(w) == 0
+    kind(w) == END
 }
 
 // The end of a monomial or ratio of n variables.
@@ -103,7 +108,7 @@ pub fn variable_word(v: u32, p: u32) -> u32
     requires { (v < 4096) × (p < 65536) }
     ensures { result ≡ kinds.var_word 1 v p }
 {
-    var_word(1, v, p)
+    var_word(VARIABLE, v, p)
 }
 
 // Variable v of a ratio, its power + 32,768 given.
@@ -111,33 +116,41 @@ pub fn ratio_word(v: u32, p: u32) -> u32
     requires { (v < 4096) × (p < 65536) }
     ensures { result ≡ kinds.var_word 2 v p }
 {
-    var_word(2, v, p)
+    var_word(RATIO, v, p)
+}
+
+// The word of a kind and a payload.
+fn word_of(kind: u32, payload: u32) -> u32
+    requires { (kind < 16) × (payload < 268435456) }
+    ensures { result ≡ kinds.word_of kind payload }
+{
+    268435456 * kind + payload
 }
 
 pub fn index_word(i: u32) -> u32
     requires { i < 268435456 }
     ensures { result ≡ kinds.index_word i }
 {
-    805306368 + i
+    word_of(INDEX, i)
 }
 
 pub fn answer_word(p: u32) -> u32
     requires { p < 268435456 }
     ensures { result ≡ kinds.answer_word p }
 {
-    1073741824 + p
+    word_of(ANSWER, p)
 }
 
 pub fn refusal_word(n: u32) -> u32
     requires { n < 268435456 }
     ensures { result ≡ kinds.refusal_word n }
 {
-    1342177280 + n
+    word_of(REFUSAL, n)
 }
 
 pub fn call_word(n: u32) -> u32
     requires { n < 268435456 }
     ensures { result ≡ kinds.call_word n }
 {
-    1610612736 + n
+    word_of(CALL, n)
 }

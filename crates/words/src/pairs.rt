@@ -7,5 +7,5 @@ pub fn get(s: &[u8], i: usize) -> u64
     requires { 4 * i + 8 ≤ length s.now }
     ensures { result ≡ get_or (words s.now) i 0 + 4294967296 * get_or (words s.now) (i + 1) 0 }
 {
-    crate::get(s, i) as u64 + 4294967296 * (crate::get(s, i + 1) as u64)
+    u64::from(crate::get(s, i)) + 4294967296 * u64::from(crate::get(s, i + 1))
 }

@@ -10,10 +10,8 @@ fn bits_of(s: &[u8], at: usize, n: usize) -> u32
     ensures { (result ≡ 0) ↔ (part (words s.now) at n ≡ zeros n) }
 {
     let mut bits: u32 = 0;
-    let mut i: usize = 0;
-    while i < n {
-        bits = bits | crate::get(s, at + i);
-        i += 1;
+    for i in 0..n {
+        bits |= crate::get(s, at + i);
     }
     bits
 }
@@ -31,11 +29,7 @@ pub fn clear(s: &mut [u8], at: usize, n: usize)
     requires { 4 * (at + n) ≤ length s.old }
     ensures { s.new ≡ paste_w s.old at (zeros n) }
 {
-    let mut i: usize = 0;
-    while i < n {
-        crate::put(s, at + i, 0);
-        i += 1;
-    }
+    s[4 * at..4 * (at + n)].fill(0);
 }
 
 // Writes the words of row from word `at` on.
@@ -43,13 +37,8 @@ pub fn paste(s: &mut [u8], at: usize, row: &[u8])
     requires { 4 * at + length row.now ≤ length s.old }
     ensures { s.new ≡ paste_w s.old at (words row.now) }
 {
-    let n = row.len() / 4;
-    let mut i: usize = 0;
-    while i < n {
-        let w = crate::get(row, i);
-        crate::put(s, at + i, w);
-        i += 1;
-    }
+    let n = 4 * (row.len() / 4);
+    s[4 * at..4 * at + n].copy_from_slice(&row[..n]);
 }
 
 // Moves the words from `at` up to `end` up by `by` words.
@@ -58,12 +47,7 @@ pub fn move_up(s: &mut [u8], at: usize, end: usize, by: usize)
     requires by_in_bounds { 4 * (end + by) ≤ length s.old }
     ensures { s.new ≡ paste_w s.old (at + by) (part (words s.old) at (end - at)) }
 {
-    let mut i = end;
-    while at < i {
-        i -= 1;
-        let w = crate::get(s, i);
-        crate::put(s, i + by, w);
-    }
+    s.copy_within(4 * at..4 * end, 4 * (at + by));
 }
 
 // Makes room at word `at`, moving the words up to `end` up by one, and writes w there.

@@ -11,28 +11,26 @@ returns-then-n-b c =
     (λ e. c.if-n-b.true (omega (arith, length-words c.args.a.now, length-words c.args.b.now))))
 
 pub loop-i-init : goal.loop-i-init
-loop-i-init c = (omega arith, refl)
+loop-i-init c = refl
 
 pub returns-then-get : goal.returns-then-get
 returns-then-get c =
     let loop = c.loop-i in
-    sym (loop.invariant.1 ∙ differ-at (words c.args.a.now) (words c.args.b.now) loop.i
+    sym (loop.invariant ∙ differ-at (words c.args.a.now) (words c.args.b.now) loop.i
     (omega (arith, length-words c.args.a.now, length-words c.args.b.now))
     (omega (arith, length-words c.args.a.now, length-words c.args.b.now))
     (λ e. c.if-get.true (c.get.ensures ∙ e ∙ sym c.get-in-loop-i.ensures)))
 
 pub loop-i-preserved : goal.loop-i-preserved
 loop-i-preserved c =
-    let loop = c.loop-i in (
-      omega arith,
-      loop.invariant.1 ∙ equal-at (words c.args.a.now) (words c.args.b.now) loop.i
-          (omega (arith, length-words c.args.a.now, length-words c.args.b.now))
-          (omega (arith, length-words c.args.a.now, length-words c.args.b.now))
-          (sym c.get.ensures ∙ c.if-get.false ∙ c.get-in-loop-i.ensures),
-    )
+    let loop = c.loop-i in
+    loop.invariant ∙ equal-at (words c.args.a.now) (words c.args.b.now) loop.i
+    (omega (arith, length-words c.args.a.now, length-words c.args.b.now))
+    (omega (arith, length-words c.args.a.now, length-words c.args.b.now))
+    (sym c.get.ensures ∙ c.if-get.false ∙ c.get-in-loop-i.ensures)
 
 pub returns : goal.returns
 returns c =
-    sym (c.loop-i.invariant.1 ∙ equal-end (words c.args.a.now) (words c.args.b.now) c.loop-i.i
+    sym (c.loop-i.invariant ∙ equal-end (words c.args.a.now) (words c.args.b.now) c.loop-i.i
     (omega (arith, length-words c.args.a.now, length-words c.args.b.now))
     (omega (arith, length-words c.args.a.now, length-words c.args.b.now)))

@@ -7,6 +7,3 @@ use Rattle.monomial.proofs.words_to_end.Given as goal
 
 abbrev pub invariant-loop-i : goal.invariant-loop-i
 invariant-loop-i l = (l.at ≤ l.i) × (to_end 0 (drop l.at (words l.s)) ≡ to_end (l.i - l.at) (drop l.i (words l.s)))
-
-abbrev pub decreases-loop-i : goal.decreases-loop-i
-decreases-loop-i l = l.end - l.i

@@ -1,21 +1,15 @@
-use lib.ListN.{length-set}
+use mathlib.Core.Path.{◌≡◌, refl, sym, ◌∙◌}
+use mathlib.Core.List.{[], ◌∷◌}
 use native.Mathlib.Omega.{arith}
-use mathlib.Core.Path.{refl}
-use Rattle.words.specs.Words.{put_w}
+use Prim.Native.Nat.{◌/◌, ◌%◌}
+use Rattle.words.specs.Words.{bytes}
+use Rattle.words.proofs.Laws.{put_w-paste}
+use Rattle.words.proofs.Copies.{copied}
 use Rattle.words.proofs.put.Goals as goal
 
-pub bounds-s-j-2 : goal.bounds-s-j-2
-bounds-s-j-2 c = simp length-set (omega arith)
-
-pub bounds-s-j-3 : goal.bounds-s-j-3
-bounds-s-j-3 c = simp length-set (omega arith)
-
-pub bounds-s-j-4 : goal.bounds-s-j-4
-bounds-s-j-4 c = simp length-set (omega arith)
-
-pub shape_of-s : goal.shape_of-s
-shape_of-s c = simp length-set
-
 pub returns : goal.returns
-unfolding put_w
-returns c = refl
+unfolding bytes
+returns c =
+    let e : c.args.w / 16777216 % 256 ≡ c.args.w / 16777216 = omega arith in
+    copied c.args.s.now c.args.i _ c.copy_from_slice.new.self (c.args.w ∷ []) (omega arith) (c.copy_from_slice.ensures.after ∙ c.to_le_bytes.ensures ∙ rw e refl)
+    ∙ sym (put_w-paste c.args.s.now c.args.i c.args.w c.requires)

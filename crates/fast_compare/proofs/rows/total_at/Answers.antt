@@ -16,7 +16,7 @@ pub slice_bounds-total_of-start : goal.slice_bounds-total_of-start
 slice_bounds-total_of-start c = omega (arith, row_fits c.args.map.now c.args.at c.requires)
 
 pub total_of-requires : goal.total_of-requires
-total_of-requires c = record { le_kind = (omega arith, omega arith); starts = ratio-starts c.args.map.now c.requires.vars (c.args.at + 1) c.requires.some }
+total_of-requires c = record { starts = ratio-starts c.args.map.now c.requires.vars (c.args.at + 1) c.requires.some }
 
 pub returns : goal.returns
 returns c = (total-lent c.args.map.now c.args.at c.total_of.result).1 c.total_of.ensures

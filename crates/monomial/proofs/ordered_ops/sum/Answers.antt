@@ -2,7 +2,7 @@ use Rattle.monomial.proofs.Firsts.{begins, seen, first-bytes, first-canonical}
 use native.Mathlib.Omega.{arith}
 use mathlib.Core.Path.{◌∙◌}
 use Rattle.monomial.proofs.Walks.{falls}
-use Rattle.monomial.proofs.Sums.{begin, fits, finished, powered, again, kind-small}
+use Rattle.monomial.proofs.Sums.{begin, fits, finished, powered, again}
 use Rattle.monomial.proofs.ordered_ops.sum.Goals as goal
 
 pub loop-op-init : goal.loop-op-init
@@ -59,17 +59,8 @@ push-n-requires c =
     let p = powered loop.invariant c.requires.b_in_bounds (seen _ loop.invariant.ra get.ensures) (seen _ loop.invariant.rb get2.ensures) upper.ensures
     if1.false (first-canonical (omega arith) c.requires.starts) (first-canonical (omega arith) c.requires.starts_2) in
     let f = fits loop.invariant c.requires.b_in_bounds in
-    let k = kind-small c.args.op in record {
-      le_kind = (
-        omega (arith, kind-of.ensures),
-        (
-          omega (arith, kind-of.ensures),
-          (
-            omega (arith, c.upper_id.ensures),
-            rw (c.meet-p.ensures, power_at.ensures, power-at2.ensures) p.p-small,
-          ),
-        ),
-      );
+    record {
+      fields = (omega (arith, c.upper_id.ensures), rw (c.meet-p.ensures, power_at.ensures, power-at2.ensures) p.p-small);
       n_bound = (f.few, omega (arith, f));
     }
 

@@ -1,20 +1,13 @@
 use native.Mathlib.Omega.{arith}
-use mathlib.Core.Path.{◌≡◌}
 use Rattle.words.specs.Words.{words}
 use Rattle.words.proofs.Laws.{length-words}
 use Rattle.words.proofs.Tables.{bits_none, bits-more}
 use Rattle.words.proofs.runs.bits_of.Goals as goal
 
 pub loop-i-init : goal.loop-i-init
-loop-i-init c = (omega arith, bits_none (words c.args.s.now) c.args.at)
+loop-i-init c = bits_none (words c.args.s.now) c.args.at
 
 pub loop-i-preserved : goal.loop-i-preserved
 loop-i-preserved c =
-    let loop = c.loop-i in (
-      omega arith,
-      bits-more (words c.args.s.now) c.args.at loop.i loop.bits c.get-bits.result
-          (omega (arith, length-words c.args.s.now)) c.get-bits.ensures loop.invariant.1,
-    )
-
-pub returns : goal.returns
-returns c = let e : c.loop-i.i ≡ c.args.n = omega (arith, c.loop-i.invariant.0) in rw e at c.loop-i.invariant.1
+    let loop = c.loop-i in
+    bits-more (words c.args.s.now) c.args.at loop.i loop.bits c.get-bits.result (omega (arith, length-words c.args.s.now)) c.get-bits.ensures loop.invariant

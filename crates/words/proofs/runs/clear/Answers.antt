@@ -1,19 +1,13 @@
+use mathlib.Core.Path.{ap, ◌∙◌}
 use native.Mathlib.Omega.{arith}
-use mathlib.Core.Path.{refl, ap, ◌∙◌}
 use Prim.Native.Nat.{ℕ}
-use Rattle.words.specs.Words.{paste_w}
+use lib.ListN.{replicate, length-take, length-drop}
 use Rattle.words.specs.Tables.{zeros}
-use Rattle.words.proofs.Tables.{clear_none, clear-more}
+use Rattle.words.proofs.Tables.{length-zeros}
+use Rattle.words.proofs.Copies.{copied, bytes-zeros}
 use Rattle.words.proofs.runs.clear.Goals as goal
 
-pub loop-i-init : goal.loop-i-init
-loop-i-init c = (omega arith, (clear_none c.args.s.now c.args.at, refl))
-
-pub loop-i-preserved : goal.loop-i-preserved
-loop-i-preserved c =
-    let put = c.put in
-    let loop = c.loop-i in
-    (omega arith, (put.ensures ∙ clear-more c.args.s.now loop.s c.args.at loop.i loop.invariant.1.0 (omega arith), put.auto.s ∙ loop.invariant.1.1))
-
 pub returns : goal.returns
-returns c = c.loop-i.invariant.1.0 ∙ ap (λ (z : ℕ). paste_w c.args.s.now c.args.at (zeros z)) (omega arith)
+returns c =
+    copied c.args.s.now c.args.at _ c.fill.new.self (zeros c.args.n) (omega (arith, length-zeros c.args.n))
+    (c.fill.ensures.after (λ y h. h) ∙ ap (λ (n : ℕ). replicate n 0) (simp (length-take, length-drop) (omega arith)) ∙ bytes-zeros c.args.n)

@@ -1,40 +1,11 @@
+use mathlib.Core.Path.{◌∙◌}
 use native.Mathlib.Omega.{arith}
-use mathlib.Core.Path.{◌≡◌, refl, sym, ap, ◌∙◌}
-use Prim.Native.Nat.{◌+◌, ◌<◌}
-use native.Mathlib.Numerals.{add-one}
-use lib.ListN.{length, get_or, take}
-use lib.Seq.{take-suc, take_all, length-take-le}
-use Rattle.words.specs.Words.{words, paste_w}
-use Rattle.words.proofs.Laws.{length-words, paste_w-nil, paste_w-snoc}
+use Rattle.words.specs.Words.{words}
+use Rattle.words.proofs.Laws.{length-words}
+use Rattle.words.proofs.Copies.{copied, bytes-all}
 use Rattle.words.proofs.runs.paste.Goals as goal
-
-pub loop-i-init : goal.loop-i-init
-loop-i-init c = (omega arith, (sym (paste_w-nil c.args.s.now c.args.at), refl))
-
-pub loop-i-preserved : goal.loop-i-preserved
-loop-i-preserved c =
-    let put = c.put in
-    let get = c.get-w in
-    let loop = c.loop-i in
-    let xs = words c.args.row.now in
-    let i = loop.i in
-    let len : i < length xs = omega (arith, length-words c.args.row.now) in
-    let el : c.args.at + i ≡ c.args.at + length (take i xs) = rw (length-take-le i xs (omega arith)) in (
-      omega arith,
-      (
-        put.ensures ∙ rw (
-          loop.invariant.1.0,
-          get.ensures,
-          paste_w-snoc c.args.s.now c.args.at (take i xs) (c.args.at + i)
-              (get_or xs i 0) el (omega arith),
-          add-one,
-          take-suc xs i 0 len,
-        ),
-        put.auto.s ∙ loop.invariant.1.1,
-      ),
-    )
 
 pub returns : goal.returns
 returns c =
-    c.loop-i.invariant.1.0 ∙ ap (paste_w c.args.s.now c.args.at)
-    (take_all c.loop-i.i (words c.args.row.now) (omega (arith, length-words c.args.row.now)))
+    copied c.args.s.now c.args.at _ c.copy_from_slice.new.self (words c.args.row.now) (omega (arith, length-words c.args.row.now))
+    (c.copy_from_slice.ensures.after ∙ bytes-all c.args.row.now (λ k. omega (arith, c.type_inv.row k)))
