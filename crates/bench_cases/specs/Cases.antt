@@ -1,6 +1,6 @@
 -- The bench cases of document 01 that are marked P, as one table of statements about the definitions that the contracts cite.
 -- proofs/Theorem.antt proves that every one holds. Assumes nothing.
-use Rattle.std.specs.Prelude.{◌≡◌, cond, List, [], ◌∷◌, ℕ, ◌≤◌, eqb}
+use Rattle.std.specs.Prelude.{Ok, ◌≡◌, cond, List, [], ◌∷◌, ℕ, ◌≤◌, eqb}
 use Rattle.words.specs.Kinds.{var_word, end_word}
 use Rattle.monomial.specs.Monomial.{pow, monomial_of}
 use Rattle.monomial.specs.Operations.{result_words}
@@ -64,9 +64,9 @@ table =
     -- 33 variables: id 32 has no bit, whatever its power and the maxima
     ((xs : List ℕ) (q : ℕ) → q ≤ 32767 → mask_at 33 xs 32 q ≡ 0) ∷
     -- labels: the first, then a smaller value, then a larger one
-    (answer fresh (signed 5) ≡ New 2147483647) ∷
-    (answer with_one (signed 3) ≡ New 1073741823) ∷
-    (answer with_two (signed 7) ≡ New 3221225471) ∷
+    (answer fresh (signed 5) ≡ Ok (New 2147483647)) ∷
+    (answer with_one (signed 3) ≡ Ok (New 1073741823)) ∷
+    (answer with_two (signed 7) ≡ Ok (New 3221225471)) ∷
     -- `rebuild` of 3 values: the smallest, the middle one, the largest
     (rebuilt_at 1 ≡ 1073741823) ∷
     (rebuilt_at 0 ≡ 2147483647) ∷

@@ -10,8 +10,7 @@ ghost use Rattle.monomial.specs.Sizes.{Sizes};
 ghost use Rattle.monomial_ordering.specs.Order.{TotalOf};
 ghost use Rattle.fast_compare.specs.Labels.{sorted};
 ghost use Rattle.fast_compare.specs.Map as Map;
-ghost use Rattle.fast_compare.specs.Map.{State, value_of, value, cmp, place};
-ghost use Rattle.fast_compare.specs.Map.{refusal};
+ghost use Rattle.fast_compare.specs.Map.{State, value_of, value, cmp, place, refusal};
 ghost use Rattle.fast_compare.specs.Layout.{size, encode, Is, Sound};
 ghost use Rattle.fast_compare.specs.Halving.{Halved};
 
@@ -81,6 +80,16 @@ pub fn label(map: &[u8], row: usize) -> u32
 {
     let variables = words::get(map, 1) as usize;
     words::get(map, 4 + row * (variables + 3) + (variables + 2))
+}
+
+// The label of the row with `position` values below its own.
+pub fn label_at(map: &[u8], position: usize) -> u32
+    requires sound { Sound map.now }
+    requires position_bound { position < get_or (words map.now) 3 0 }
+    ensures { (st : State) → Is st map.now → result ≡ Map.label st.rows (get_or (sorted cmp (value st.rows) (length st.rows)) position 0) }
+{
+    let row = row_at(map, position);
+    label(map, row)
 }
 
 // The signature index of a row.

@@ -106,8 +106,7 @@ module _ (st : State) (val : Valid st) where
 
   relabel-given : (a : Result Comparer Unlabelled) (l : map.State) (v : map.Value) → (a ≡ Err NoLabel → ⊥) → relabel a l v ≡ map.after l v
   unfolding relabel
-  relabel-given (Ok (Known x)) l v h = refl
-  relabel-given (Ok (New x)) l v h = refl
+  relabel-given (Ok c) l v h = refl
   relabel-given (Err Full) l v h = refl
   relabel-given (Err NoLabel) l v h = absurd (h refl)
 

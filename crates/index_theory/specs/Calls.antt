@@ -1,12 +1,13 @@
 -- Call lists: the words of calls, the questions of each call in order, what a call answers, and what it leaves. Assumes nothing.
-use Rattle.std.specs.Prelude.{◌≡◌, cond, List, [], ◌∷◌, ◌++◌, ℕ, ◌+◌, ◌<◌, eqb, ltb, length, take, drop}
+use Rattle.std.specs.Prelude.{Result, Ok, Err, ◌≡◌, cond, List, [], ◌∷◌, ◌++◌, ℕ, ◌+◌, ◌<◌, eqb, ltb, length, take, drop}
 use Rattle.std.proofs.Math.Option.{Option, none, some}
 use Rattle.words.specs.Kinds.{kind, payload, index_word, answer_word, refusal_word}
 use Rattle.monomial.specs.Monomial.{front, Canonical}
 use Rattle.divmask.specs.Tracker.{updated}
 use Rattle.fast_compare.specs.Map as map
 use Rattle.fast_compare.specs.declared.Comparer.{Comparer}
-use Rattle.fast_compare.specs.declared.Comparer.TheVariants.{Known, New, Full, NoLabel}
+use Rattle.fast_compare.specs.declared.Unlabelled.{Unlabelled}
+use Rattle.fast_compare.specs.declared.Unlabelled.TheVariants.{Full, NoLabel}
 use Rattle.kd_theory.specs.Tree.{Tree, insert}
 use Rattle.index_theory.specs.Entries.{Entry, entry_at, one, ratio_of}
 use Rattle.index_theory.specs.State.{Kind, monomials, ratioed, State, GoodEntry, OfKind, keys_of}
@@ -121,11 +122,10 @@ ask ratioed m c = ask_ratioed m c.number c.body
 
 -- ---- what an accepted insert does
 -- a label for the ratio; where none is free the labels are dealt afresh, once
-unfoldable pub relabel : Comparer → map.State → map.Value → map.State
-relabel (Known x) l v = map.after l v
-relabel (New x) l v = map.after l v
-relabel Full l v = map.after l v
-relabel NoLabel l v = map.after (map.rebuild l) v
+unfoldable pub relabel : Result Comparer Unlabelled → map.State → map.Value → map.State
+relabel (Ok c) l v = map.after l v
+relabel (Err Full) l v = map.after l v
+relabel (Err NoLabel) l v = map.after (map.rebuild l) v
 
 unfoldable pub labelled : Kind → map.State → Entry → map.State
 labelled monomials l e = l

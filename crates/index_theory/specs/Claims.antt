@@ -1,6 +1,6 @@
 -- What is claimed of the indexes, demand 2: which calls a list has, which are refused, what each answers, and what it leaves.
 -- The proofs are in proofs/Theorems.antt, under the same names in small letters. Demand 3 is in Demand3.antt. Assumes nothing.
-use Rattle.std.specs.Prelude.{◌≡◌, true, false, cond, List, [], ◌∷◌, ◌++◌, ◌⊎◌, ◌↔◌, ℕ, zero, suc, ◌+◌, ◌*◌, ◌≤◌, ◌<◌, ltb, length}
+use Rattle.std.specs.Prelude.{Err, ◌≡◌, true, false, cond, List, [], ◌∷◌, ◌++◌, ◌⊎◌, ◌↔◌, ℕ, zero, suc, ◌+◌, ◌*◌, ◌≤◌, ◌<◌, ltb, length}
 use Rattle.std.proofs.Math.Option.{Option, none, some}
 use Rattle.words.specs.Kinds.{kind, call_word, answer_word, refusal_word}
 use Rattle.monomial.specs.Monomial.{Canonical, pow}
@@ -8,7 +8,7 @@ use Rattle.monomial.specs.Operations.{Divides}
 use Rattle.divmask.specs.Mask.{mask, within}
 use Rattle.divmask.specs.Tracker.{Maxima, updated}
 use Rattle.fast_compare.specs.Map as map
-use Rattle.fast_compare.specs.declared.Comparer.TheVariants.{NoLabel}
+use Rattle.fast_compare.specs.declared.Unlabelled.TheVariants.{NoLabel}
 use Rattle.kd_theory.specs.Bag.{◌∈◌, fold_until}
 use Rattle.kd_theory.specs.Tree.{inorder, nodes, Split, start, outcome, Path, goes_less, goes_other}
 use Rattle.kd_theory.specs.Bifurcate.{least, ratio_key}
@@ -197,7 +197,7 @@ pub record SearchAfter (st : State) (r : Query) (u : State) : Type 0 where
 
 -- no label lies free for the ratio of e
 abbrev pub Rebuilds : State → Entry → Type 0
-Rebuilds st e = (st.kind ≡ ratioed) × (map.answer st.labels (ratio_of e) ≡ NoLabel)
+Rebuilds st e = (st.kind ≡ ratioed) × (map.answer st.labels (ratio_of e) ≡ Err NoLabel)
 
 -- an insert puts its entry at the end of its leaf, and keeps the map's maxima, and old labels unless it rebuilds
 pub record InsertAfter (st : State) (e : Entry) (u : State) : Type 0 where

@@ -6,7 +6,7 @@ use native.Mathlib.Nat.{suc-mul}
 use native.Mathlib.Omega.{arith}
 use lib.ListN.{length, take, drop, length-append, length-drop, take-append-drop}
 use lib.Seq.{length-take-le}
-use Rattle.std.proofs.Common.{Ok, Err}
+use Rattle.std.proofs.Common.{Ok}
 use Rattle.words.specs.Kinds.{index_word}
 use Rattle.words.specs.Words.{words, put_w, paste_w}
 use Rattle.words.specs.Tables.{part, zeros, table, over}

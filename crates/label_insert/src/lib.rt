@@ -1,7 +1,7 @@
 // From fast_compare.rs: a value gets its label, and is stored where it is new; and labels are dealt afresh.
 #![tactic(auto)]
 
-ghost use Rattle.std.specs.Prelude.{◌≡◌, ℕ, ◌+◌, ◌*◌, ◌<◌, ◌≤◌, length, get_or};
+ghost use Rattle.std.specs.Prelude.{◌≡◌, ℕ, Ok, Err, ◌+◌, ◌*◌, ◌<◌, ◌≤◌, length, get_or};
 ghost use Rattle.std.proofs.Math.Option.{none};
 ghost use Rattle.words.specs.Words.{words, paste_w};
 ghost use Rattle.fast_compare.specs.Labels as Labels;
@@ -10,7 +10,7 @@ ghost use Rattle.fast_compare.specs.Map as Map;
 ghost use Rattle.fast_compare.specs.Map.{State, Value, value_of, value, cmp, Good, place, stored};
 ghost use Rattle.fast_compare.specs.Layout.{encode, Is, Sound, Gave};
 
-use fast_compare::{Comparer, Place};
+use fast_compare::{Comparer, Unlabelled};
 
 // 1 + the label of the lower neighbour of a value with p values below it; 0 where it has none.
 fn lowest(map: &[u8], p: usize) -> u64
@@ -22,8 +22,7 @@ fn lowest(map: &[u8], p: usize) -> u64
     if p == 0 {
         return 0;
     }
-    let row = fast_compare::row_at(map, p - 1);
-    fast_compare::label(map, row) as u64 + 1
+    u64::from(fast_compare::label_at(map, p - 1)) + 1
 }
 
 // The label of the upper neighbour of a new value with p values below it; 2^32 where it has none.
@@ -36,8 +35,7 @@ fn highest(map: &[u8], p: usize) -> u64
     if p == fast_compare::count(map) {
         return 4294967296;
     }
-    let row = fast_compare::row_at(map, p);
-    fast_compare::label(map, row) as u64
+    u64::from(fast_compare::label_at(map, p))
 }
 
 // Stores a new row, with p values below its own, behind the others.
@@ -45,7 +43,7 @@ fn store(map: &mut [u8], p: usize, index: u32, ratio: &[u8], label: u32)
     requires sound { Sound map.old }
     requires good { Good (get_or (words map.old) 1 0) (value_of index (words ratio.now)) }
     requires p_bound { (p ≤ get_or (words map.old) 3 0) × (get_or (words map.old) 3 0 < get_or (words map.old) 2 0) }
-    ensures { (st : State) → Is st map.old → p ≡ below cmp (value st.rows) (length st.rows) (value_of index (words ratio.now)) → map.new ≡ paste_w map.old 0 (encode (stored (Comparer.New label) st (value_of index (words ratio.now)))) }
+    ensures { (st : State) → Is st map.old → p ≡ below cmp (value st.rows) (length st.rows) (value_of index (words ratio.now)) → map.new ≡ paste_w map.old 0 (encode (stored (Ok (Comparer.New label)) st (value_of index (words ratio.now)))) }
 {
     let variables = words::get(map, 1) as usize;
     let capacity = words::get(map, 2) as usize;
@@ -60,38 +58,34 @@ fn store(map: &mut [u8], p: usize, index: u32, ratio: &[u8], label: u32)
 }
 
 // Gives a new value, with p values below it, a label and a row, where there are any.
-fn add(map: &mut [u8], p: usize, index: u32, ratio: &[u8]) -> Comparer
+fn add(map: &mut [u8], p: usize, index: u32, ratio: &[u8]) -> Result<Comparer, Unlabelled>
     requires sound { Sound map.old }
     requires good { Good (get_or (words map.old) 1 0) (value_of index (words ratio.now)) }
     requires p_bound { p ≤ get_or (words map.old) 3 0 }
-    ensures { (st : State) → Is st map.old → Place.Before p ≡ place st.rows (value_of index (words ratio.now)) → Gave st (value_of index (words ratio.now)) result map.old map.new }
+    ensures { (st : State) → Is st map.old → Err p ≡ place st.rows (value_of index (words ratio.now)) → Gave st (value_of index (words ratio.now)) result map.old map.new }
 {
     if words::get(map, 2) as usize <= fast_compare::count(map) {
-        return Comparer::Full;
+        return Err(Unlabelled::Full);
     }
     let lo = lowest(map, p);
     let hi = highest(map, p);
     if hi <= lo {
-        return Comparer::NoLabel;
+        return Err(Unlabelled::NoLabel);
     }
     let label = ((lo + hi - 1) / 2) as u32;
     store(map, p, index, ratio, label);
-    Comparer::New(label)
+    Ok(Comparer::New(label))
 }
 
 // The label of a value, which is stored where it is new.
-pub fn get_comparer(map: &mut [u8], index: u32, ratio: &[u8]) -> Comparer
+pub fn get_comparer(map: &mut [u8], index: u32, ratio: &[u8]) -> Result<Comparer, Unlabelled>
     requires sound { Sound map.old }
     requires good { Good (get_or (words map.old) 1 0) (value_of index (words ratio.now)) }
     ensures { (st : State) → Is st map.old → Gave st (value_of index (words ratio.now)) result map.old map.new }
 {
-    let place = fast_compare::search(map, index, ratio);
-    match place {
-        Place::At(p) => {
-            let row = fast_compare::row_at(map, p);
-            Comparer::Known(fast_compare::label(map, row))
-        }
-        Place::Before(p) => add(map, p, index, ratio),
+    match fast_compare::search(map, index, ratio) {
+        Ok(p) => Ok(Comparer::Known(fast_compare::label_at(map, p))),
+        Err(p) => add(map, p, index, ratio),
     }
 }
 
@@ -112,11 +106,9 @@ pub fn rebuild(map: &mut [u8])
     let capacity = words::get(map, 2) as usize;
     let n = words::get(map, 3) as usize;
     let order = 4 + capacity * (variables + 3);
-    let mut k: usize = 0;
-    while k < n {
+    for k in 0..n {
         let row = words::get(map, order + k) as usize;
         let label = spaced(n, k + 1);
         words::put(map, 4 + row * (variables + 3) + (variables + 2), label);
-        k += 1;
     }
 }
