@@ -31,7 +31,7 @@ pub fn first_bit(whole: u32, extra: u32, v: u32) -> u32
     requires { (whole ≤ 32) × (v ≤ 64) }
     ensures { result ≡ v * whole + min v extra }
 {
-    v * whole + if v < extra { v } else { extra }
+    v * whole + v.min(extra)
 }
 
 // The bits that a power sets. Cutoffs rise, so these are the lowest ones, as many as cutoffs lie below the power.
@@ -41,9 +41,7 @@ pub fn field(bits: u32, maximum: u32, power: u32) -> u64
     requires le_power { (1 ≤ power) × (power ≤ 32767) }
     ensures { result ≡ parts bits maximum power bits }
 {
-    let top = power * (bits + 1) - 1;
-    let most = bits * maximum;
-    let least = if top < most { top } else { most };
+    let least = (power * (bits + 1) - 1).min(bits * maximum);
     (1u64 << (least / maximum)) - 1
 }
 

@@ -17,8 +17,7 @@ pub fn short_field(bits: u32, power: u32) -> u64
     requires { bits ≤ 32 }
     ensures { result ≡ parts bits (max 1 bits) power bits }
 {
-    let count = if power < bits { power } else { bits };
-    (1u64 << count) - 1
+    (1u64 << power.min(bits)) - 1
 }
 
 // The mask of the monomial at the front of a slice, and in the upper half its short exponent vector.

@@ -8,32 +8,23 @@ ghost use Rattle.divmask.specs.Tracker as spec;
 fn in_range(s: &[u8]) -> bool
     ensures { result ≡ spec.all_in_range (words s.now) }
 {
-    let n = s.len() / 4;
-    let mut i: usize = 0;
-    while i < n {
+    for i in 0..s.len() / 4 {
         let x = words::get(s, i);
-        if x < 1 {
+        if x < 1 || 32767 < x {
             return false;
         }
-        if 32767 < x {
-            return false;
-        }
-        i += 1;
     }
     true
 }
 
 // Question 1: whether there are 1 to 64 variables and the bytes are one maximum a variable, each 1 to 32,767.
+#[tactic(auto, unfolding(crate::specs::Tracker::maxima_lent))]
 pub fn maxima_good(maxima: &[u8], variables: u32) -> bool
     ensures { result ≡ spec.maxima_lent variables maxima.now }
 {
-    if !monomial::sizes::variables_fit(variables as usize) {
-        return false;
-    }
-    if maxima.len() != 4 * variables as usize {
-        return false;
-    }
-    in_range(maxima)
+    monomial::sizes::variables_fit(variables as usize)
+        && maxima.len() == 4 * variables as usize
+        && in_range(maxima)
 }
 
 // Raises the maxima to the powers of the monomial at the front of a slice; stops at the first variable that is not above its maximum.
@@ -64,12 +55,9 @@ fn total(maxima: &[u8], variables: u32) -> u32
     requires { spec.Maxima variables (words maxima.now) }
     ensures { result ≡ spec.total (words maxima.now) }
 {
-    let n = variables as usize;
     let mut sum: u32 = 0;
-    let mut i: usize = 0;
-    while i < n {
+    for i in 0..variables as usize {
         sum += words::get(maxima, i);
-        i += 1;
     }
     sum
 }
@@ -80,5 +68,5 @@ pub fn has_grown_beyond_percentage(maxima: &[u8], variables: u32, percentage: u8
     ensures { result ≡ spec.grown variables (words maxima.now) percentage }
 {
     let t = total(maxima, variables);
-    (percentage as u32) < (t - variables) * 100 / t
+    u32::from(percentage) < (t - variables) * 100 / t
 }
