@@ -10,7 +10,7 @@ fn in_range(s: &[u8]) -> bool
 {
     for i in 0..s.len() / 4 {
         let x = words::get(s, i);
-        if x < 1 || 32767 < x {
+        if !(1..=32767).contains(&x) {
             return false;
         }
     }
