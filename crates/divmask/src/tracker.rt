@@ -4,6 +4,8 @@ ghost use Rattle.words.specs.Words.{words, paste_w};
 ghost use Rattle.monomial.specs.Monomial.{Starts, first};
 ghost use Rattle.divmask.specs.Tracker as spec;
 
+use monomial::variables::variables_of;
+
 // Whether each word of s is a maximum.
 fn in_range(s: &[u8]) -> bool
     ensures { result ≡ spec.all_in_range (words s.now) }
@@ -34,19 +36,13 @@ pub fn update(maxima: &mut [u8], variables: u32, monomial: &[u8])
     requires starts { Starts 1 variables (words monomial.now) }
     ensures { maxima.new ≡ paste_w maxima.old 0 (spec.updated (first 1 (words monomial.now)) (words maxima.old)) }
 {
-    let mut i: usize = 0;
-    loop {
-        let w = words::get(monomial, i);
-        if words::is_end(w) {
-            return;
-        }
+    for w in variables_of(monomial) {
         let v = words::id(w) as usize;
         let p = words::power(w);
         if p <= words::get(maxima, v) {
             return;
         }
         words::put(maxima, v, p);
-        i += 1;
     }
 }
 
