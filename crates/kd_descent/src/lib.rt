@@ -18,14 +18,14 @@ ghost use Rattle.kd_descent.specs.Growing.{below_key, grown_gcd, grown, Growth, 
 
 use index_image::{Shape, fields, stored};
 
-// One step of the way: it stops at a leaf; else so many rows on, passing over so many entries.
-#[derive(Clone, Copy)]
-pub struct Way {
-    pub stop: bool,
-    pub rows: usize,
-    pub places: usize,
+// One step of the way: it stops at a leaf, behind so many entries; else so many rows on, passing over so many entries.
+#[derive(Clone, Copy, Debug, PartialEq, Eq)]
+pub enum Way {
+    Leaf { places: usize },
+    On { rows: usize, places: usize },
 }
 
+// Not shared with `index_image::stored`: there the gcd replaces the monomial that it is made of, here it goes to a row with its mask.
 // Writes the gcd of the row at word `at` and another entry's lm, and its mask.
 fn make_gcd(image: &mut [u8], s: Shape, at: usize, lm: &[u8])
     requires in_range { shape.InRange s }
@@ -140,9 +140,7 @@ pub fn next_step(image: &[u8], s: Shape, k: usize, lm: &[u8], table: &[u8], labe
     let at = s.node_at(k);
     let tag = words::get(image, at) as usize;
     if tag == 0 {
-        return Way {
-            stop: true,
-            rows: 0,
+        return Way::Leaf {
             places: words::get(image, at + fields::COUNT) as usize,
         };
     }
@@ -155,17 +153,12 @@ pub fn next_step(image: &[u8], s: Shape, k: usize, lm: &[u8], table: &[u8], labe
         table,
         label,
     ) {
-        return Way {
-            stop: false,
-            rows: 1,
-            places: 0,
-        };
+        return Way::On { rows: 1, places: 0 };
     }
     let skip = words::get(image, at + fields::SKIP) as usize;
     let less = at + (s.variables + fields::NODE);
     let passed = words::get(image, less + fields::COUNT) as usize;
-    Way {
-        stop: false,
+    Way::On {
         rows: 1 + skip,
         places: passed,
     }
@@ -185,13 +178,16 @@ pub fn descend(image: &mut [u8], s: Shape, lm: &[u8], table: &[u8], label: u64) 
 {
     let mut k: usize = 0;
     let mut lo: usize = 0;
+    // A loop by hand: it goes down a tree, and each step says how many rows the next one is on.
     loop {
-        let w = next_step(image, s, k, lm, table, label);
+        let way = next_step(image, s, k, lm, table, label);
         grow(image, s, s.node_at(k), lm, table);
-        lo += w.places;
-        if w.stop {
-            return lo;
+        match way {
+            Way::Leaf { places } => return lo + places,
+            Way::On { rows, places } => {
+                k += rows;
+                lo += places;
+            }
         }
-        k += w.rows;
     }
 }
