@@ -12,6 +12,7 @@ ghost use Rattle.leaf_rows.specs.Leaves.{Uppers};
 ghost use Rattle.branch_rows.specs.Branches.{KeyIn, Cut, Slots, OtherOk, BranchOk};
 
 use index_image::{Shape, fields, stored};
+use monomial::Kind;
 
 // The bounds of a branch's sides: on the less side variable `variable` is below `power` and labels are below `less`,
 // on the other side labels are from `other` on.
@@ -29,33 +30,16 @@ pub fn key_ok(image: &[u8], s: Shape, at: usize) -> bool
     requires at_in_bounds { 4 * shape.skip_at at ≤ length image.now }
     ensures { (result ≡ true) ↔ KeyIn (words image.now) s at }
 {
-    if words::get(image, at + fields::COUNT) < 2 {
-        return false;
-    }
     let tag = words::get(image, at) as usize;
-    if tag == 0 {
-        return false;
-    }
-    if s.variables + s.kind < tag {
-        return false;
-    }
     let key = words::get(image, at + fields::KEY) as usize;
-    if tag == s.kind {
-        return key < s.entries;
-    }
-    1 <= key
-}
-
-fn lesser(x: u64, y: u64) -> u64
-    ensures { result ≡ min x y }
-{
-    if x < y { x } else { y }
-}
-
-fn greater(x: u64, y: u64) -> u64
-    ensures { result ≡ max x y }
-{
-    if x < y { y } else { x }
+    2 <= words::get(image, at + fields::COUNT)
+        && 1 <= tag
+        && tag <= s.variables + s.kind
+        && if tag == s.kind {
+            key < s.entries
+        } else {
+            1 <= key
+        }
 }
 
 // The bounds of the two sides of the branch at word `at`.
@@ -73,15 +57,14 @@ pub fn sides(image: &[u8], s: Shape, hi: &[u8], ll: u64, lh: u64, at: usize) -> 
         return Limits {
             variable: 0,
             power: words::get(hi, 0),
-            less: lesser(l, lh),
-            other: greater(l, ll),
+            less: l.min(lh),
+            other: l.max(ll),
         };
     }
     let v = tag - 1 - s.kind;
-    let x = lesser(key as u64, words::get(hi, v) as u64) as u32;
     Limits {
         variable: v,
-        power: x,
+        power: key.min(words::get(hi, v)),
         less: lh,
         other: ll,
     }
@@ -119,7 +102,11 @@ fn other_ok(image: &[u8], s: Shape, at: usize, b: usize) -> bool
         return true;
     }
     let v = tag - 1 - s.kind;
-    let p = monomial::power_of(stored::monomial_in(image, s, b + fields::GCD), 1, v as u32);
+    let p = monomial::power_of(
+        stored::monomial_in(image, s, b + fields::GCD),
+        Kind::Monomial,
+        v as u32,
+    );
     words::get(image, at + fields::KEY) <= p
 }
 
@@ -132,22 +119,12 @@ pub fn branch_ok(image: &[u8], s: Shape, at: usize, a: usize, b: usize, t: usize
     requires slots { Slots (words image.now) s.variables a b }
     ensures { (result ≡ true) ↔ BranchOk (words image.now) s at a b t }
 {
-    let x = words::get(image, a + fields::COUNT) as u64;
-    if x == 0 {
-        return false;
-    }
-    let y = words::get(image, b + fields::COUNT) as u64;
-    if y == 0 {
-        return false;
-    }
-    if words::get(image, at + fields::COUNT) as u64 != x + y {
-        return false;
-    }
-    if words::get(image, at + fields::SKIP) as usize != t {
-        return false;
-    }
-    if !other_ok(image, s, at, b) {
-        return false;
-    }
-    branch_gcd_ok(image, s, at, a, b)
+    let less = u64::from(words::get(image, a + fields::COUNT));
+    let other = u64::from(words::get(image, b + fields::COUNT));
+    0 < less
+        && 0 < other
+        && u64::from(words::get(image, at + fields::COUNT)) == less + other
+        && words::get(image, at + fields::SKIP) as usize == t
+        && other_ok(image, s, at, b)
+        && branch_gcd_ok(image, s, at, a, b)
 }

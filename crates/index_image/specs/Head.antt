@@ -1,10 +1,8 @@
 -- The header of an image. Assumes nothing.
-use Rattle.std.specs.Prelude.{◌≡◌, List, ℕ, ◌*◌, ◌≤◌, get_or}
+use Rattle.std.specs.Prelude.{◌≡◌, List, ℕ, ◌*◌, ◌≤◌, get_or, Option, Some, None}
 use Rattle.words.specs.Tables.{part, zeros}
 use Rattle.index_image.specs.Shape as at
 use Rattle.index_image.specs.declared.Shape.{Shape}
-use Rattle.index_image.specs.declared.head.Head.{Head}
-use Rattle.index_image.specs.declared.head.Head.TheVariants.{Image, Bad}
 
 -- layout 1, numbers in range that `len` bytes have room for, and zeros in the words kept for later use
 pub record HeadOk (W : List ℕ) (len : ℕ) (s : Shape) : Type 0 where
@@ -19,6 +17,6 @@ pub record HeadOk (W : List ℕ) (len : ℕ) (s : Shape) : Type 0 where
   pub room : 4 * at.size s ≤ len
 
 -- the shape of the image, or that there is none
-unfoldable pub HeadIs : List ℕ → ℕ → Head → Type 0
-HeadIs W len (Image s) = HeadOk W len s
-HeadIs W len Bad = (s : Shape) → HeadOk W len s → ⊥
+unfoldable pub HeadIs : List ℕ → ℕ → Option Shape → Type 0
+HeadIs W len (Some s) = HeadOk W len s
+HeadIs W len None = (s : Shape) → HeadOk W len s → ⊥

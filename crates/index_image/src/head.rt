@@ -6,43 +6,25 @@ ghost use Rattle.index_image.specs.Head.{HeadIs};
 
 use crate::{Shape, fields};
 
-#[derive(Clone, Copy)]
-pub enum Head {
-    Image(Shape),
-    Bad,
-}
-
 // Question 1's numbers, and as many entries and nodes as there can be.
+#[tactic(auto, unfolding(monomial::specs::Sizes::sizes_fit, monomial::specs::Sizes::variables_fit))]
 fn in_range(s: Shape) -> bool
     ensures { (result ≡ true) ↔ at.InRange s }
 {
-    if 1 < s.kind {
-        return false;
-    }
-    if !monomial::sizes::sizes_fit(s.variables, s.capacity) {
-        return false;
-    }
-    if s.capacity < s.entries {
-        return false;
-    }
-    if s.nodes < 1 {
-        return false;
-    }
-    if 2 * s.capacity - 1 < s.nodes {
-        return false;
-    }
-    true
+    s.kind <= 1
+        && monomial::sizes::sizes_fit(s.variables, s.capacity)
+        && s.entries <= s.capacity
+        && 1 <= s.nodes
+        && s.nodes <= 2 * s.capacity - 1
 }
 
 // The shape that the header gives, where the image has one and the bytes have room for it.
-pub fn read(image: &[u8]) -> Head
+#[tactic(auto, unfolding(crate::specs::Head::HeadIs), using(crate::proofs::Heads::long_enough, crate::proofs::Bounds::size_small))]
+pub fn read(image: &[u8]) -> Option<Shape>
     ensures { HeadIs (words image.now) (length image.now) result }
 {
-    if image.len() < 4 * fields::HEADER {
-        return Head::Bad;
-    }
-    if words::get(image, fields::LAYOUT) != 1 {
-        return Head::Bad;
+    if image.len() < 4 * fields::HEADER || words::get(image, fields::LAYOUT) != 1 {
+        return None;
     }
     let s = Shape {
         kind: words::get(image, fields::KIND) as usize,
@@ -51,14 +33,12 @@ pub fn read(image: &[u8]) -> Head
         entries: words::get(image, fields::LENGTH) as usize,
         nodes: words::get(image, fields::NODES) as usize,
     };
-    if !words::runs::is_blank(image, fields::KEPT, fields::HEADER - fields::KEPT) {
-        return Head::Bad;
+    if words::runs::is_blank(image, fields::KEPT, fields::HEADER - fields::KEPT)
+        && in_range(s)
+        && 4 * s.size() <= image.len()
+    {
+        Some(s)
+    } else {
+        None
     }
-    if !in_range(s) {
-        return Head::Bad;
-    }
-    if image.len() < 4 * s.size() {
-        return Head::Bad;
-    }
-    Head::Image(s)
 }

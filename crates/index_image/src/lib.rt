@@ -11,7 +11,7 @@ ghost use Rattle.index_image.specs.Shape as at;
 ghost use Rattle.index_image.specs.Size.{IsLength};
 
 // The numbers of an image's header. They say where its tables begin, in words.
-#[derive(Clone, Copy)]
+#[derive(Clone, Copy, Debug, PartialEq, Eq)]
 pub struct Shape {
     pub kind: usize,
     pub variables: usize,

@@ -49,6 +49,17 @@ pub fn label_in(image: &[u8], s: Shape, e: usize) -> u64
     ) as u64
 }
 
+// The map of the image: the maxima that its masks were made from.
+pub fn map_of(image: &[u8], s: Shape) -> &[u8]
+    requires in_range { shape.InRange s }
+    requires s_in_bounds { 4 * shape.size s ≤ length image.now }
+    ensures { row.Taken result.now (entry.map_maxima (words image.now) s) }
+{
+    let a = 4 * (fields::HEADER + s.variables);
+    let b = a + 4 * s.variables;
+    &image[a..b]
+}
+
 // Mask and short exponent vector of a monomial, by the map of the image.
 pub fn masks_of(image: &[u8], s: Shape, monomial: &[u8]) -> u64
     requires in_range { shape.InRange s }
@@ -57,10 +68,7 @@ pub fn masks_of(image: &[u8], s: Shape, monomial: &[u8]) -> u64
     requires canonical { Canonical 1 s.variables (words monomial.now) }
     ensures { result ≡ mask s.variables (entry.map_maxima (words image.now) s) (pow 1 (words monomial.now)) + 4294967296 * vector s.variables (pow 1 (words monomial.now)) }
 {
-    let m = s.variables;
-    let x = 4 * (fields::HEADER + m);
-    let y = x + 4 * m;
-    divmask::pairs::map(&image[x..y], m as u32, monomial)
+    divmask::pairs::map(map_of(image, s), s.variables as u32, monomial)
 }
 
 // Replaces the monomial in the first n words by its gcd with the one that another slice begins with, and returns its length in words.
@@ -98,7 +106,8 @@ fn meet(acc: &mut [u8], n: usize, other: &[u8]) -> usize
     make_gcd(acc, n, other)
 }
 
-// Writes the gcd of the c entries from place lo on, and returns its length in words. Of none it is one.
+// Writes the gcd of the c entries from place lo on, and returns its length in words, as `monomial::gcd` does: a slice of `acc`
+// would be no plainer, since the gcd grows in place there, and the next step needs its length. Of none it is one.
 pub fn gcd_of(image: &[u8], s: Shape, lo: usize, c: usize, acc: &mut [u8]) -> usize
     requires ready { Ready (words image.now) s }
     requires c_bound { lo + c ≤ s.entries }
@@ -114,11 +123,9 @@ pub fn gcd_of(image: &[u8], s: Shape, lo: usize, c: usize, acc: &mut [u8]) -> us
     let first = monomial_in(image, s, s.entry_at(e));
     words::runs::paste(acc, 0, first);
     let mut n = first.len() / 4;
-    let mut i: usize = 1;
-    while i < c {
+    for i in 1..c {
         let e = words::get(image, p + i) as usize;
         n = meet(acc, n, monomial_from(image, s, s.entry_at(e)));
-        i += 1;
     }
     n
 }

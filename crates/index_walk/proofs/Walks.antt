@@ -1,5 +1,6 @@
 -- The returns of the walk. Assumes nothing.
-use mathlib.Core.Path.{◌≡◌, refl, sym, ◌∙◌}
+use mathlib.Core.Path.{◌≡◌, refl, sym, ap, ◌∙◌}
+use Rattle.std.specs.Prelude.{Option, Some, None}
 use mathlib.Core.List.{List, ◌++◌}
 use Prim.Native.Nat.{ℕ, suc, ◌+◌, ◌-◌, ◌*◌, ◌≤◌, ◌<◌}
 use native.Mathlib.Omega.{arith}
@@ -151,24 +152,24 @@ module _ {W : List ℕ} {s : Shape} (R : Ready W s) where
     pub fits : c ≤ avail
     pub tag_is : tag ≡ get_or W (tag_at (at.node_at s k)) 0
 
-  -- it is a branch's, b has the bounds of its sides, and t1 rows were found of its less side
-  pub record Less (H : List ℕ) (ll lh k lo avail c tag : ℕ) (b : Limits) (t1 : ℕ) : Type 0 where
+  -- it is a branch's, b has the bounds of its sides, and r1 is what was found of its less side
+  pub record Less (H : List ℕ) (ll lh k lo avail c tag : ℕ) (b : Limits) (r1 : Option ℕ) : Type 0 where
     pub tagged : Tagged H ll lh k lo avail c tag
     pub no-leaf : tag ≡ 0 → ⊥
     pub key : KeyIn W s (at.node_at s k)
     pub cut : Cut W s H ll lh (at.node_at s k) b
-    pub walked : Walked W s (set H b.variable b.power) ll b.less (k + 1) lo (c - 1) t1
+    pub walked : Walked W s (set H b.variable b.power) ll b.less (k + 1) lo (c - 1) r1
 
   module _ {H : List ℕ} {ll lh k lo avail : ℕ} where
     -- there is no tree
-    none : ((t : Tree) → Found W s H ll lh k lo avail t → ⊥) → Walked W s H ll lh k lo avail 0
-    none f = record { only = λ t a. absurd (f t a); made = λ h. absurd (omega arith) }
+    none : ((t : Tree) → Found W s H ll lh k lo avail t → ⊥) → Walked W s H ll lh k lo avail None
+    none f = record { only = λ t a. absurd (f t a); made = λ n (e : None ≡ Some n). let no : ⊥ = cc in absurd no }
 
-    pub no_row : s.nodes ≤ k → Walked W s H ll lh k lo avail 0
+    pub no_row : s.nodes ≤ k → Walked W s H ll lh k lo avail None
     no_row h = none (λ t f. omega (arith, some-node t, f.inside))
 
     -- one row is left, and it is not a leaf's
-    pub not-one : k < s.nodes → s.nodes ≤ k + 1 → {tag : ℕ} → tag ≡ get_or W (tag_at (at.node_at s k)) 0 → (tag ≡ 0 → ⊥) → Walked W s H ll lh k lo avail 0
+    pub not-one : k < s.nodes → s.nodes ≤ k + 1 → {tag : ℕ} → tag ≡ get_or W (tag_at (at.node_at s k)) 0 → (tag ≡ 0 → ⊥) → Walked W s H ll lh k lo avail None
     not-one hk last et n = none go
       where
         go : (t : Tree) → Found W s H ll lh k lo avail t → ⊥
@@ -179,7 +180,7 @@ module _ {W : List ℕ} {s : Shape} (R : Ready W s) where
       head : (t : Tree) → Found W s H ll lh k lo avail t → FirstRow k t
       head t f = first-row k lo t f.is f.inside (omega (arith, f.few))
 
-      pub too_many : avail < c → Walked W s H ll lh k lo avail 0
+      pub too_many : avail < c → Walked W s H ll lh k lo avail None
       too_many h = none (λ t f. omega (arith, (head t f).count, x.count, f.few))
 
     module _ {c tag : ℕ} (x : Tagged H ll lh k lo avail c tag) where
@@ -198,16 +199,16 @@ module _ {W : List ℕ} {s : Shape} (R : Ready W s) where
           let p = apart k lo d key l r (omega (arith, nodes-branch d key l r, f.inside)) (omega (arith, length-append (inorder l) (inorder r), f.few)) f.is in
           absurd (omega (arith, p.here.tag_is))
 
-      pub no-leaf : tag ≡ 0 → (LeafOk W s H ll lh (at.node_at s k) lo c → ⊥) → Walked W s H ll lh k lo avail 0
+      pub no-leaf : tag ≡ 0 → (LeafOk W s H ll lh (at.node_at s k) lo c → ⊥) → Walked W s H ll lh k lo avail None
       no-leaf z n = none (λ t f. n (leaf-only z t f).ok)
 
-      pub a-leaf : tag ≡ 0 → LeafOk W s H ll lh (at.node_at s k) lo c → Walked W s H ll lh k lo avail 1
+      pub a-leaf : tag ≡ 0 → LeafOk W s H ll lh (at.node_at s k) lo c → Walked W s H ll lh k lo avail (Some 1)
       a-leaf z o =
           let es = entries_from W s lo c in
           let le : length es ≡ c = length_part W (at.permutation_at s + lo) c (omega (arith, place-fits W s R (lo + c) (omega arith))) in
           record {
-            only = λ t f. sym (leaf-only z t f).size;
-            made = λ h. (
+            only = λ t f. ap Some (sym (leaf-only z t f).size);
+            made = λ n h. (
               leaf es,
               record {
                 is = leaf-of-row k lo es x.used (record {
@@ -262,17 +263,17 @@ module _ {W : List ℕ} {s : Shape} (R : Ready W s) where
               bounded = (bounded-each W s H ll lh (inorder l ++ inorder r)).0 f.bounded;
             }
 
-        pub no_key : (KeyIn W s (at.node_at s k) → ⊥) → Walked W s H ll lh k lo avail 0
+        pub no_key : (KeyIn W s (at.node_at s k) → ⊥) → Walked W s H ll lh k lo avail None
         no_key n = none (λ t f. let b = branch-only t f in n (key_in k b.d b.key (nodes b.l) (inorder b.l) (inorder b.r) b.here b.sides))
 
-    module _ {c tag : ℕ} {b : Limits} {t1 : ℕ} (less : Less H ll lh k lo avail c tag b t1) where
+    module _ {c tag : ℕ} {b : Limits} {r1 : Option ℕ} (less : Less H ll lh k lo avail c tag b r1) where
       abbrev K : KeyIn W s (at.node_at s k)
       K = less.key
 
       abbrev C : Cut W s H ll lh (at.node_at s k) b
       C = less.cut
 
-      abbrev w1 : Walked W s (set H b.variable b.power) ll b.less (k + 1) lo (c - 1) t1
+      abbrev w1 : Walked W s (set H b.variable b.power) ll b.less (k + 1) lo (c - 1) r1
       w1 = less.walked
 
       abbrev Branch : Tree → Type 0
@@ -294,7 +295,7 @@ module _ {W : List ℕ} {s : Shape} (R : Ready W s) where
           (bounded-each W s H b.other lh (inorder x.r)).1
           (λ e m. (C.other e).1 (x.bounded e (in_right e (inorder x.l) (inorder x.r) m), λ z. rw (ed, x.here.key-is) (x.sides.other e m)))
 
-      first : (t : Tree) (x : Branch t) → t1 ≡ nodes x.l
+      first : (t : Tree) (x : Branch t) → r1 ≡ Some (nodes x.l)
       first t x = w1.only x.l (record {
         is = x.one;
         inside = omega (arith, x.fits);
@@ -302,24 +303,28 @@ module _ {W : List ℕ} {s : Shape} (R : Ready W s) where
         bounded = less-inside t x;
       })
 
-      pub no-first : t1 ≡ 0 → Walked W s H ll lh k lo avail 0
-      no-first e = none (λ t f. let x = branch-of t f in omega (arith, first t x, some-node x.l))
+      pub no-first : r1 ≡ None → Walked W s H ll lh k lo avail None
+      no-first e = none (λ t f. let x = branch-of t f in let o : r1 ≡ Some (nodes x.l) = first t x in cc)
 
-      module _ (h1 : 0 < t1) where
+      module _ {t1 : ℕ} (h1 : r1 ≡ Some t1) where
         -- what the tree of the less side says of numbers
         pub record One : Type 0 where
+          pub some : 0 < t1
           pub inside : k + 1 + t1 ≤ s.nodes
           pub few : get_or W (count_at (at.node_at s (k + 1))) 0 ≤ c - 1
 
         l1 : Tree
-        l1 = (w1.made h1).0
+        l1 = (w1.made t1 h1).0
 
         f1 : Found W s (set H b.variable b.power) ll b.less (k + 1) lo (c - 1) l1
         unfolding l1
-        f1 = (w1.made h1).1
+        f1 = (w1.made t1 h1).1
 
         n1 : t1 ≡ nodes l1
-        n1 = w1.only l1 f1
+        n1 = let o : r1 ≡ Some (nodes l1) = w1.only l1 f1 in cc
+
+        same_less : (t : Tree) (x : Branch t) → t1 ≡ nodes x.l
+        same_less t x = let o : r1 ≡ Some (nodes x.l) = first t x in cc
 
         two-entries : 2 ≤ c
         two-entries = omega (arith, K.two)
@@ -328,25 +333,25 @@ module _ {W : List ℕ} {s : Shape} (R : Ready W s) where
         head1 = first-row (k + 1) lo l1 f1.is f1.inside (omega (arith, f1.few, two-entries))
 
         pub one-is : One
-        one-is = record { inside = omega (arith, f1.inside, n1); few = omega (arith, f1.few, head1.count) }
+        one-is = record { some = omega (arith, n1, some-node l1); inside = omega (arith, f1.inside, n1); few = omega (arith, f1.few, head1.count) }
 
-        pub no_less : {ca : ℕ} → ca ≡ get_or W (count_at (at.node_at s (k + 1))) 0 → ca ≡ 0 → Walked W s H ll lh k lo avail 0
+        pub no_less : {ca : ℕ} → ca ≡ get_or W (count_at (at.node_at s (k + 1))) 0 → ca ≡ 0 → Walked W s H ll lh k lo avail None
         no_less ea z = none (λ t f.
             let x = branch-of t f in
             let hl = first-row (k + 1) lo x.l x.one (omega (arith, x.fits)) (omega (arith, x.count)) in
             omega (arith, hl.count, x.sides.some-less))
 
-        module _ {ca : ℕ} (ea : ca ≡ get_or W (count_at (at.node_at s (k + 1))) 0) {t2 : ℕ} (w2 : Walked W s H b.other lh (k + 1 + t1) (lo + ca) (c - ca) t2) where
+        module _ {ca : ℕ} (ea : ca ≡ get_or W (count_at (at.node_at s (k + 1))) 0) {r2 : Option ℕ} (w2 : Walked W s H b.other lh (k + 1 + t1) (lo + ca) (c - ca) r2) where
           -- the numbers of the sides of a tree that is there
           record Both (t : Tree) (x : Branch t) : Type 0 where
             one : t1 ≡ nodes x.l
-            two : t2 ≡ nodes x.r
+            two : r2 ≡ Some (nodes x.r)
             left : FirstRow (k + 1) x.l
             right : FirstRow (k + 1 + t1) x.r
 
           both : (t : Tree) (x : Branch t) → Both t x
           both t x =
-              let e1 = first t x in
+              let e1 = same_less t x in
               let hl = first-row (k + 1) lo x.l x.one (omega (arith, x.fits)) (omega (arith, x.count)) in
               let e2 : ca ≡ length (inorder x.l) = ea ∙ hl.count in
               let tr : TreeAt W s (k + 1 + t1) (lo + ca) x.r = rw (e1, e2) x.two in
@@ -363,8 +368,8 @@ module _ {W : List ℕ} {s : Shape} (R : Ready W s) where
                 right = first-row (k + 1 + t1) (lo + ca) x.r tr fr.inside (omega (arith, x.count));
               }
 
-          pub no_second : t2 ≡ 0 → Walked W s H ll lh k lo avail 0
-          no_second e = none (λ t f. let x = branch-of t f in omega (arith, (both t x).two, some-node x.r))
+          pub no_second : r2 ≡ None → Walked W s H ll lh k lo avail None
+          no_second e = none (λ t f. let x = branch-of t f in let o : r2 ≡ Some (nodes x.r) = (both t x).two in cc)
 
           branch-is : (t : Tree) (x : Branch t) → BranchOk W s (at.node_at s k) (at.node_at s (k + 1)) (at.node_at s (k + 1 + t1)) t1
           branch-is t x =
@@ -381,19 +386,19 @@ module _ {W : List ℕ} {s : Shape} (R : Ready W s) where
                     x.here.key-is y.right.slot o.other;
               }
 
-          pub no-branch : (BranchOk W s (at.node_at s k) (at.node_at s (k + 1)) (at.node_at s (k + 1 + t1)) t1 → ⊥) → Walked W s H ll lh k lo avail 0
+          pub no-branch : (BranchOk W s (at.node_at s k) (at.node_at s (k + 1)) (at.node_at s (k + 1 + t1)) t1 → ⊥) → Walked W s H ll lh k lo avail None
           no-branch n = none (λ t f. n (branch-is t (branch-of t f)))
 
-          module _ (h2 : 0 < t2) where
+          module _ {t2 : ℕ} (h2 : r2 ≡ Some t2) where
             l2 : Tree
-            l2 = (w2.made h2).0
+            l2 = (w2.made t2 h2).0
 
             f2 : Found W s H b.other lh (k + 1 + t1) (lo + ca) (c - ca) l2
             unfolding l2
-            f2 = (w2.made h2).1
+            f2 = (w2.made t2 h2).1
 
             n2 : t2 ≡ nodes l2
-            n2 = w2.only l2 f2
+            n2 = let o : r2 ≡ Some (nodes l2) = w2.only l2 f2 in cc
 
             cl : ca ≡ length (inorder l1)
             cl = ea ∙ head1.count
@@ -409,13 +414,14 @@ module _ {W : List ℕ} {s : Shape} (R : Ready W s) where
 
             -- what both trees say of numbers
             pub record Two : Type 0 where
+              pub some : 0 < t2
               pub inside : k + 1 + t1 + t2 ≤ s.nodes
               pub slots : Slots W s.variables (at.node_at s (k + 1)) (at.node_at s (k + 1 + t1))
 
             pub two_is : Two
-            two_is = record { inside = omega (arith, f2.inside, n2); slots = record { one = head1.slot.some; two = head2.slot.some } }
+            two_is = record { some = omega (arith, n2, some-node l2); inside = omega (arith, f2.inside, n2); slots = record { one = head1.slot.some; two = head2.slot.some } }
 
-            pub a-branch : BranchOk W s (at.node_at s k) (at.node_at s (k + 1)) (at.node_at s (k + 1 + t1)) t1 → Walked W s H ll lh k lo avail (1 + t1 + t2)
+            pub a-branch : BranchOk W s (at.node_at s k) (at.node_at s (k + 1)) (at.node_at s (k + 1 + t1)) t1 → Walked W s H ll lh k lo avail (Some (1 + t1 + t2))
             a-branch o =
                 let d = get_or W (tag_at (at.node_at s k)) 0 - 1 in
                 let key = get_or W (key_at (at.node_at s k)) 0 in
@@ -427,8 +433,13 @@ module _ {W : List ℕ} {s : Shape} (R : Ready W s) where
                 let i2 = (bounded-each W s H b.other lh (inorder l2)).0 f2.bounded in
                 let nb = nodes-branch d key l1 l2 in
                 record {
-                  only = λ t f. let x = branch-of t f in let y = both t x in omega (arith, y.one, y.two, x.size);
-                  made = λ h. (
+                  only = λ t f.
+                      let x = branch-of t f in
+                      let y = both t x in
+                      let o : r2 ≡ Some (nodes x.r) = y.two in
+                      let z : t2 ≡ nodes x.r = cc in
+                      ap Some (omega (arith, y.one, x.size));
+                  made = λ n h. (
                     branch d key l1 l2,
                     record {
                       is = together k lo d key l1 l2 (omega (arith, f2.inside, n1)) (omega arith) (record {

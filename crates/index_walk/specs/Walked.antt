@@ -1,5 +1,5 @@
 -- What the walk over the node rows decides. Assumes nothing.
-use Rattle.std.specs.Prelude.{◌≡◌, List, ℕ, ◌+◌, ◌≤◌, ◌<◌, length}
+use Rattle.std.specs.Prelude.{◌≡◌, List, ℕ, ◌+◌, ◌≤◌, length, Option, Some}
 use Rattle.kd_theory.specs.Tree.{Tree, inorder, nodes}
 use Rattle.index_image.specs.Walk.{TreeAt}
 use Rattle.index_image.specs.declared.Shape.{Shape}
@@ -12,7 +12,7 @@ pub record Found (W : List ℕ) (s : Shape) (H : List ℕ) (ll lh k lo avail : �
   pub few : length (inorder t) ≤ avail
   pub bounded : Bounded W s H ll lh (inorder t)
 
--- r is the number of rows of that tree; 0 where there is none
-pub record Walked (W : List ℕ) (s : Shape) (H : List ℕ) (ll lh k lo avail r : ℕ) : Type 0 where
-  pub only : (t : Tree) → Found W s H ll lh k lo avail t → r ≡ nodes t
-  pub made : 0 < r → (t : Tree) × Found W s H ll lh k lo avail t
+-- r is the number of rows of that tree, or that there is none
+pub record Walked (W : List ℕ) (s : Shape) (H : List ℕ) (ll lh k lo avail : ℕ) (r : Option ℕ) : Type 0 where
+  pub only : (t : Tree) → Found W s H ll lh k lo avail t → r ≡ Some (nodes t)
+  pub made : (n : ℕ) → r ≡ Some n → (t : Tree) × Found W s H ll lh k lo avail t

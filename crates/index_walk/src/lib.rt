@@ -60,7 +60,7 @@ fn exchange(hi: &mut [u8], i: usize, x: u32) -> u32
 }
 
 // The number of rows of the tree at row k, of at most `avail` entries, which start at place lo of the permutation,
-// with powers below `hi` and labels from ll on and below lh; 0 where there is none.
+// with powers below `hi` and labels from ll on and below lh; none where there is no such tree.
 // Each side is allowed fewer entries than its branch. That is what its proof of termination counts, so no call is deeper than the entries.
 pub fn walk(
     image: &[u8],
@@ -71,7 +71,7 @@ pub fn walk(
     k: usize,
     lo: usize,
     avail: usize,
-) -> usize
+) -> Option<usize>
     requires ready { Ready (words image.now) s }
     requires uppers { Uppers s.variables hi.old }
     requires k_le_nodes { (k ≤ s.nodes) × (lo + avail ≤ s.entries) }
@@ -79,48 +79,43 @@ pub fn walk(
     ensures hi_unchanged { hi.new ≡ hi.old }
 {
     if s.nodes <= k {
-        return 0;
+        return None;
     }
     let at = s.node_at(k);
     let c = words::get(image, at + fields::COUNT) as usize;
     if avail < c {
-        return 0;
+        return None;
     }
     if words::get(image, at) == 0 {
         if leaf_rows::leaf_ok(image, s, hi, ll, lh, at, lo, c) {
-            return 1;
+            return Some(1);
         }
-        return 0;
+        return None;
     }
     if !branch_rows::key_ok(image, s, at) {
-        return 0;
+        return None;
     }
     let b = branch_rows::sides(image, s, hi, ll, lh, at);
     let old = exchange(hi, b.variable, b.power);
-    let t = walk(image, s, hi, ll, b.less, k + 1, lo, c - 1);
+    let less = walk(image, s, hi, ll, b.less, k + 1, lo, c - 1);
     words::put(hi, b.variable, old);
-    if t == 0 {
-        return 0;
-    }
+    let t = less?;
     let ca = count_behind(image, s, k, at);
     if ca == 0 {
-        return 0;
+        return None;
     }
     // read again, so that it need not be kept while the less side is walked
     let all = count_at(image, s, k);
-    let w = walk(image, s, hi, b.other, lh, k + 1 + t, lo + ca, all - ca);
-    if w == 0 {
-        return 0;
-    }
+    let w = walk(image, s, hi, b.other, lh, k + 1 + t, lo + ca, all - ca)?;
     if over_ok(image, s, k, t) {
-        return 1 + t + w;
+        return Some(1 + t + w);
     }
-    0
+    None
 }
 
 // The same from the root where there is one row: a leaf, whose entries are held against no key.
 // So `leaf_ok`, which has large local arrays, has two callers and is compiled by itself: they stay out of the frames of `walk`.
-pub fn one_row(image: &[u8], s: Shape, hi: &[u8]) -> usize
+pub fn one_row(image: &[u8], s: Shape, hi: &[u8]) -> Option<usize>
     requires ready { Ready (words image.now) s }
     requires uppers { Uppers s.variables hi.now }
     requires nodes_value { s.nodes ≡ 1 }
@@ -128,14 +123,14 @@ pub fn one_row(image: &[u8], s: Shape, hi: &[u8]) -> usize
 {
     let at = s.node_at(0);
     if words::get(image, at) != 0 {
-        return 0;
+        return None;
     }
     let c = words::get(image, at + fields::COUNT) as usize;
     if s.entries < c {
-        return 0;
+        return None;
     }
     if leaf_rows::leaf_ok(image, s, hi, 0, 4294967296, at, 0, c) {
-        return 1;
+        return Some(1);
     }
-    0
+    None
 }

@@ -1,4 +1,3 @@
-use native.Mathlib.Omega.{arith}
 use Rattle.words.specs.Words.{words}
 use Rattle.monomial.specs.Monomial.{Canonical}
 use Rattle.index_image.specs.Shape as shape
@@ -13,10 +12,6 @@ use Rattle.branch_rows.proofs.other_ok.Goals as goal
 good : (a : Start) → Canonical 1 a.args.s.variables (monomial_in (words a.args.image.now) a.args.s.variables (shape.gcd_at a.args.b))
 good a = in-canonical (words a.args.image.now) a.args.s.variables (shape.gcd_at a.args.b) a.requires.slots.one
 
-pub power_of-p-requires : goal.power_of-p-requires
-power_of-p-requires c =
-    let get = c.get-tag in record { le_kind = (omega arith, (omega arith, omega (arith, get.ensures, c.requires.key_in.to, c.requires.in_range.vars-to))); starts = rw c.monomial_in.ensures.is (starts-wide (starts-whole (good (goal.at.power_of-p-requires c).Start))) }
-
 pub returns : goal.returns
 returns c =
     let get = c.get-tag in
@@ -24,3 +19,6 @@ returns c =
     other-answer (words c.args.image.now) c.args.s c.args.at c.args.b get.result c.get.result
     power-of.result get.ensures c.get.ensures c.if-tag-s.false
     (rw (c.monomial_in.ensures.is, first-whole (good (goal.at.returns c).Start)) at power-of.ensures)
+
+pub power_of-p-requires-clause-starts : goal.power_of-p-requires-clause-starts
+power_of-p-requires-clause-starts c = rw c.monomial_in.ensures.is (starts-wide (starts-whole (good (goal.at.power_of-p-requires-clause-starts c).Start)))

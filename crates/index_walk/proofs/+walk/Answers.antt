@@ -12,7 +12,7 @@ use Rattle.branch_rows.specs.Branches.{KeyIn}
 use Rattle.index_image.proofs.Places.{node-room}
 use Rattle.index_walk.proofs.Uppers.{words-put, uppers-put, put_back}
 use Prim.Native.Nat.{ℕ, ◌+◌, ◌-◌, ◌*◌, ◌≤◌}
-use Rattle.index_walk.proofs.+walk.Goals.{After-count_at-all, After-exchange-old, After-get, After-get-c, After-node_at-at, After-slice_known-4-1, After-walk-t, After-walk-w, Else-not-key_ok, Else-t-eq0, Else-w-eq0, Start}
+use Rattle.index_walk.proofs.+walk.Goals.{After-count_at-all, After-exchange-old, After-get, After-get-c, After-node_at-at, After-slice_known-4-1, After-walk-less, After-walk, Else-not-key_ok, In_ok-t, In_ok-w, Start}
 use Rattle.index_walk.proofs.+walk.Goals as goal
 
 -- ---- what is known at the places of the walk
@@ -51,7 +51,7 @@ kept : {t : ℕ} (c : After-slice_known-4-1 t) → c.put.new.s ≡ c.args.hi.now
 kept c =
     let sides = c.sides-b in
     let exchange = c.exchange-old in
-    let walk = c.walk-t in
+    let walk = c.walk-less in
     let put = c.put in
     put_back c.args.s.variables c.args.hi.now c.requires.uppers sides.result.variable sides.result.power
     sides.ensures.known sides.ensures.small
@@ -59,8 +59,8 @@ kept c =
     exchange.result (λ i. omega (arith, c.type_inv.hi i)) (walk.ensures.hi_unchanged ∙ exchange.ensures.hi_after) exchange.ensures.value put.ensures
 
 -- the less side was walked
-less : {t : ℕ} (c : After-walk-t t) → Tagged c.requires.ready (words c.args.hi.now) c.args.ll c.args.lh c.args.k c.args.lo c.args.avail c.get-c.result c.get.result → KeyIn (words c.args.image.now) c.args.s c.node_at-at.result
-    → Less c.requires.ready (words c.args.hi.now) c.args.ll c.args.lh c.args.k c.args.lo c.args.avail c.get-c.result c.get.result c.sides-b.result c.walk-t.result
+less : {t : ℕ} (c : After-walk-less t) → Tagged c.requires.ready (words c.args.hi.now) c.args.ll c.args.lh c.args.k c.args.lo c.args.avail c.get-c.result c.get.result → KeyIn (words c.args.image.now) c.args.s c.node_at-at.result
+    → Less c.requires.ready (words c.args.hi.now) c.args.ll c.args.lh c.args.k c.args.lo c.args.avail c.get-c.result c.get.result c.sides-b.result c.walk-less.result
 less c g k =
     let sides = c.sides-b in
     let exchange = c.exchange-old in
@@ -71,27 +71,27 @@ less c g k =
       no-leaf = c.if-get-eq0.false;
       key = rw c.node_at-at.ensures at k;
       cut = rw c.node_at-at.ensures at sides.ensures;
-      walked = rw put at c.walk-t.ensures.walked;
+      walked = rw put at c.walk-less.ensures.walked;
     }
 
 -- it has a tree, so its numbers are known
-one : {t : ℕ} (c : Else-t-eq0 t) (l : Less c.requires.ready (words c.args.hi.now) c.args.ll c.args.lh c.args.k c.args.lo c.args.avail c.get-c.result c.get.result c.sides-b.result c.walk-t.result)
-    → One c.requires.ready l (omega (arith, c.if-t-eq0.false))
-one c l = one-is c.requires.ready l (omega (arith, c.if-t-eq0.false))
+one : {t : ℕ} (c : In_ok-t t) (l : Less c.requires.ready (words c.args.hi.now) c.args.ll c.args.lh c.args.k c.args.lo c.args.avail c.get-c.result c.get.result c.sides-b.result c.walk-less.result)
+    → One c.requires.ready l c.in_ok-t.was
+one c l = one-is c.requires.ready l c.in_ok-t.was
 
 -- the count that is read again is the same
 count_same : {t : ℕ} (c : After-count_at-all t) → Row c.requires.ready (words c.args.hi.now) c.args.ll c.args.lh c.args.k c.args.lo c.args.avail c.get-c.result → c.count_at-all.result ≡ c.get-c.result
 count_same c r = c.count_at-all.ensures ∙ sym r.count
 
 -- the other side was walked
-other : {t : ℕ} (c : After-walk-w t) → c.put.new.s ≡ c.args.hi.now → c.count_at-all.result ≡ c.get-c.result
-    → Walked (words c.args.image.now) c.args.s (words c.args.hi.now) c.sides-b.result.other c.args.lh (c.args.k + 1 + c.walk-t.result) (c.args.lo + c.count_behind-ca.result) (c.get-c.result - c.count_behind-ca.result) c.walk-w.result
-other c k n = rw k at (rw n at c.walk-w.ensures.walked)
+other : {t : ℕ} (c : After-walk t) → c.put.new.s ≡ c.args.hi.now → c.count_at-all.result ≡ c.get-c.result
+    → Walked (words c.args.image.now) c.args.s (words c.args.hi.now) c.sides-b.result.other c.args.lh (c.args.k + 1 + c.in_ok-t.t) (c.args.lo + c.count_behind-ca.result) (c.get-c.result - c.count_behind-ca.result) c.walk.result
+other c k n = rw k at (rw n at c.walk.ensures.walked)
 
-two : {t : ℕ} (c : Else-w-eq0 t) (l : Less c.requires.ready (words c.args.hi.now) c.args.ll c.args.lh c.args.k c.args.lo c.args.avail c.get-c.result c.get.result c.sides-b.result c.walk-t.result)
-    (o : Walked (words c.args.image.now) c.args.s (words c.args.hi.now) c.sides-b.result.other c.args.lh (c.args.k + 1 + c.walk-t.result) (c.args.lo + c.count_behind-ca.result) (c.get-c.result - c.count_behind-ca.result) c.walk-w.result)
-    → Two c.requires.ready l (omega (arith, c.if-t-eq0.false)) c.count_behind-ca.ensures o (omega (arith, c.if-w-eq0.false))
-two c l o = two_is c.requires.ready l (omega (arith, c.if-t-eq0.false)) c.count_behind-ca.ensures o (omega (arith, c.if-w-eq0.false))
+two : {t : ℕ} (c : In_ok-w t) (l : Less c.requires.ready (words c.args.hi.now) c.args.ll c.args.lh c.args.k c.args.lo c.args.avail c.get-c.result c.get.result c.sides-b.result c.walk-less.result)
+    (o : Walked (words c.args.image.now) c.args.s (words c.args.hi.now) c.sides-b.result.other c.args.lh (c.args.k + 1 + c.in_ok-t.t) (c.args.lo + c.count_behind-ca.result) (c.get-c.result - c.count_behind-ca.result) c.walk.result)
+    → Two c.requires.ready l c.in_ok-t.was c.count_behind-ca.ensures o c.in_ok-w.was
+two c l o = two_is c.requires.ready l c.in_ok-t.was c.count_behind-ca.ensures o c.in_ok-w.was
 
 pub returns-then-s-k : goal.returns-then-s-k
 returns-then-s-k t c = record { walked = no_row c.requires.ready c.if-s-k.true; hi_unchanged = refl }
@@ -99,17 +99,14 @@ returns-then-s-k t c = record { walked = no_row c.requires.ready c.if-s-k.true; 
 pub node_at-at-requires : goal.node_at-at-requires
 node_at-at-requires t c = record { in_range = c.requires.ready.range; k_bound = omega (arith, c.if-s-k.false, numbers (goal.at.node_at-at-requires t c).Start) }
 
-pub overflow_add-at : goal.overflow_add-at
-overflow_add-at t c = omega (arith, room (goal.at.overflow_add-at t c).After-node_at-at)
-
 pub get-c-requires : goal.get-c-requires
 get-c-requires t c = omega (arith, room (goal.at.get-c-requires t c).After-node_at-at)
 
-pub returns-then-avail-c : goal.returns-then-avail-c
-returns-then-avail-c t c = record { walked = too_many c.requires.ready (row (goal.at.returns-then-avail-c t c).After-get-c) c.if-avail-c.true; hi_unchanged = refl }
-
 pub get-requires : goal.get-requires
 get-requires t c = omega (arith, room (goal.at.get-requires t c).After-node_at-at)
+
+pub returns-then-avail-c : goal.returns-then-avail-c
+returns-then-avail-c t c = record { walked = too_many c.requires.ready (row (goal.at.returns-then-avail-c t c).After-get-c) c.if-avail-c.true; hi_unchanged = refl }
 
 pub leaf_ok-requires : goal.leaf_ok-requires
 leaf_ok-requires t c = record { ready = c.requires.ready; uppers = c.requires.uppers; variables_in_bounds = room (goal.at.leaf_ok-requires t c).After-node_at-at; c_bound = omega (arith, c.requires.k_le_nodes.1, c.if-avail-c.false) }
@@ -155,15 +152,15 @@ overflow_sub-c t c =
     let get = c.get-c in
     omega (arith, (keyed (goal.at.overflow_sub-c t c).Else-not-key_ok).two, get.ensures)
 
-pub walk-t-requires : goal.walk-t-requires
-walk-t-requires t c =
+pub walk-less-requires : goal.walk-less-requires
+walk-less-requires t c =
     let get = c.get-c in
     let if2 = c.if-avail-c in (
-      omega (arith, c.decreases, if2.false, (keyed (goal.at.walk-t-requires t c).Else-not-key_ok).two, get.ensures),
+      omega (arith, c.decreases, if2.false, (keyed (goal.at.walk-less-requires t c).Else-not-key_ok).two, get.ensures),
       (
         c.requires.ready,
         (
-          bounds (goal.at.walk-t-requires t c).After-exchange-old,
+          bounds (goal.at.walk-less-requires t c).After-exchange-old,
           (
             omega (arith, c.if-s-k.false),
             omega
@@ -175,42 +172,27 @@ walk-t-requires t c =
 
 pub put-requires : goal.put-requires
 put-requires t c =
-    let walk = c.walk-t in
+    let walk = c.walk-less in
     let sides = c.sides-b in
     omega (arith, sides.ensures.known, (bounds (goal.at.put-requires t c).After-exchange-old).one_each, ap length walk.ensures.hi_unchanged)
 
-pub shape_of-hi-then-t-eq0 : goal.shape_of-hi-then-t-eq0
-shape_of-hi-then-t-eq0 t c = ap length (kept (goal.at.shape_of-hi-then-t-eq0 t c).After-slice_known-4-1)
-
-pub returns-then-t-eq0 : goal.returns-then-t-eq0
-returns-then-t-eq0 t c = record {
-  walked = no-first c.requires.ready
-      (less (goal.at.returns-then-t-eq0 t c).After-walk-t (tagged (goal.at.returns-then-t-eq0 t c).After-get (row (goal.at.returns-then-t-eq0 t c).After-get-c)) (keyed (goal.at.returns-then-t-eq0 t c).Else-not-key_ok)) c.if-t-eq0.true;
-  hi_unchanged = kept (goal.at.returns-then-t-eq0 t c).After-slice_known-4-1;
+pub returns-in_err-t : goal.returns-in_err-t
+returns-in_err-t t c = record {
+  walked = rw c.from_residual.ensures (no-first c.requires.ready
+      (less (goal.at.returns-in_err-t t c).After-walk-less (tagged (goal.at.returns-in_err-t t c).After-get (row (goal.at.returns-in_err-t t c).After-get-c)) (keyed (goal.at.returns-in_err-t t c).Else-not-key_ok)) c.in_err-t.was);
+  hi_unchanged = kept (goal.at.returns-in_err-t t c).After-slice_known-4-1;
 }
 
 pub count_behind-ca-requires : goal.count_behind-ca-requires
-count_behind-ca-requires t c = record {
-  ready = c.requires.ready;
-  k_bound = (
-    omega (
-      arith,
-      (one (goal.at.count_behind-ca-requires t c).Else-t-eq0
-          (less (goal.at.count_behind-ca-requires t c).After-walk-t (tagged (goal.at.count_behind-ca-requires t c).After-get (row (goal.at.count_behind-ca-requires t c).After-get-c)) (keyed (goal.at.count_behind-ca-requires t c).Else-not-key_ok))).inside,
-      c.if-t-eq0.false,
-    ),
-    c.node_at-at.ensures,
-  );
-}
-
-pub shape_of-hi-then-ca-eq0 : goal.shape_of-hi-then-ca-eq0
-shape_of-hi-then-ca-eq0 t c = ap length (kept (goal.at.shape_of-hi-then-ca-eq0 t c).After-slice_known-4-1)
+count_behind-ca-requires t c =
+    let n = one (goal.at.count_behind-ca-requires t c).In_ok-t
+    (less (goal.at.count_behind-ca-requires t c).After-walk-less (tagged (goal.at.count_behind-ca-requires t c).After-get (row (goal.at.count_behind-ca-requires t c).After-get-c)) (keyed (goal.at.count_behind-ca-requires t c).Else-not-key_ok)) in
+    record { ready = c.requires.ready; k_bound = (omega (arith, n.some, n.inside), c.node_at-at.ensures) }
 
 pub returns-then-ca-eq0 : goal.returns-then-ca-eq0
 returns-then-ca-eq0 t c =
-    let some = c.if-t-eq0.false in
     let less-entries = no_less c.requires.ready
-    (less (goal.at.returns-then-ca-eq0 t c).After-walk-t (tagged (goal.at.returns-then-ca-eq0 t c).After-get (row (goal.at.returns-then-ca-eq0 t c).After-get-c)) (keyed (goal.at.returns-then-ca-eq0 t c).Else-not-key_ok)) (omega (arith, some)) c.count_behind-ca.ensures c.if-ca-eq0.true in record { walked = less-entries; hi_unchanged = kept (goal.at.returns-then-ca-eq0 t c).After-slice_known-4-1 }
+    (less (goal.at.returns-then-ca-eq0 t c).After-walk-less (tagged (goal.at.returns-then-ca-eq0 t c).After-get (row (goal.at.returns-then-ca-eq0 t c).After-get-c)) (keyed (goal.at.returns-then-ca-eq0 t c).Else-not-key_ok)) c.in_ok-t.was c.count_behind-ca.ensures c.if-ca-eq0.true in record { walked = less-entries; hi_unchanged = kept (goal.at.returns-then-ca-eq0 t c).After-slice_known-4-1 }
 
 pub count_at-all-requires : goal.count_at-all-requires
 count_at-all-requires t c = record { ready = c.requires.ready; k_lt_nodes = omega (arith, c.if-s-k.false) }
@@ -223,8 +205,8 @@ pub overflow_add-k-3 : goal.overflow_add-k-3
 overflow_add-k-3 t c =
     omega (
       arith,
-      (one (goal.at.overflow_add-k-3 t c).Else-t-eq0
-          (less (goal.at.overflow_add-k-3 t c).After-walk-t (tagged (goal.at.overflow_add-k-3 t c).After-get (row (goal.at.overflow_add-k-3 t c).After-get-c)) (keyed (goal.at.overflow_add-k-3 t c).Else-not-key_ok))).inside,
+      (one (goal.at.overflow_add-k-3 t c).In_ok-t
+          (less (goal.at.overflow_add-k-3 t c).After-walk-less (tagged (goal.at.overflow_add-k-3 t c).After-get (row (goal.at.overflow_add-k-3 t c).After-get-c)) (keyed (goal.at.overflow_add-k-3 t c).Else-not-key_ok))).inside,
       numbers (goal.at.overflow_add-k-3 t c).Start,
     )
 
@@ -233,8 +215,8 @@ overflow_add-lo t c =
     let if2 = c.if-avail-c in
     omega (
       arith,
-      (one (goal.at.overflow_add-lo t c).Else-t-eq0
-          (less (goal.at.overflow_add-lo t c).After-walk-t (tagged (goal.at.overflow_add-lo t c).After-get (row (goal.at.overflow_add-lo t c).After-get-c)) (keyed (goal.at.overflow_add-lo t c).Else-not-key_ok))).few,
+      (one (goal.at.overflow_add-lo t c).In_ok-t
+          (less (goal.at.overflow_add-lo t c).After-walk-less (tagged (goal.at.overflow_add-lo t c).After-get (row (goal.at.overflow_add-lo t c).After-get-c)) (keyed (goal.at.overflow_add-lo t c).Else-not-key_ok))).few,
       c.count_behind-ca.ensures,
       c.requires.k_le_nodes.1,
       if2.false,
@@ -245,58 +227,53 @@ pub overflow_sub-all : goal.overflow_sub-all
 overflow_sub-all t c = omega (
   arith,
   count_same (goal.at.overflow_sub-all t c).After-count_at-all (row (goal.at.overflow_sub-all t c).After-get-c),
-  (one (goal.at.overflow_sub-all t c).Else-t-eq0
-      (less (goal.at.overflow_sub-all t c).After-walk-t (tagged (goal.at.overflow_sub-all t c).After-get (row (goal.at.overflow_sub-all t c).After-get-c)) (keyed (goal.at.overflow_sub-all t c).Else-not-key_ok))).few,
+  (one (goal.at.overflow_sub-all t c).In_ok-t
+      (less (goal.at.overflow_sub-all t c).After-walk-less (tagged (goal.at.overflow_sub-all t c).After-get (row (goal.at.overflow_sub-all t c).After-get-c)) (keyed (goal.at.overflow_sub-all t c).Else-not-key_ok))).few,
   c.count_behind-ca.ensures,
 )
 
-pub walk-w-requires : goal.walk-w-requires
-walk-w-requires t c =
-    let Numbers-of = one (goal.at.walk-w-requires t c).Else-t-eq0 (less (goal.at.walk-w-requires t c).After-walk-t (tagged (goal.at.walk-w-requires t c).After-get (row (goal.at.walk-w-requires t c).After-get-c)) (keyed (goal.at.walk-w-requires t c).Else-not-key_ok)) in
+pub walk-requires : goal.walk-requires
+walk-requires t c =
+    let Numbers-of = one (goal.at.walk-requires t c).In_ok-t (less (goal.at.walk-requires t c).After-walk-less (tagged (goal.at.walk-requires t c).After-get (row (goal.at.walk-requires t c).After-get-c)) (keyed (goal.at.walk-requires t c).Else-not-key_ok)) in
     let if2 = c.if-avail-c in
     let count-behind = c.count_behind-ca in
     let if7 = c.if-ca-eq0 in (
-      omega (arith, count_same (goal.at.walk-w-requires t c).After-count_at-all (row (goal.at.walk-w-requires t c).After-get-c), c.decreases, if2.false, (keyed (goal.at.walk-w-requires t c).Else-not-key_ok).two, c.get-c.ensures, if7.false),
+      omega (arith, count_same (goal.at.walk-requires t c).After-count_at-all (row (goal.at.walk-requires t c).After-get-c), c.decreases, if2.false, (keyed (goal.at.walk-requires t c).Else-not-key_ok).two, c.get-c.ensures, if7.false),
       (
         c.requires.ready,
         (
-          rw (kept (goal.at.walk-w-requires t c).After-slice_known-4-1) c.requires.uppers,
+          rw (kept (goal.at.walk-requires t c).After-slice_known-4-1) c.requires.uppers,
           (
             Numbers-of.inside,
-            omega (arith, count_same (goal.at.walk-w-requires t c).After-count_at-all (row (goal.at.walk-w-requires t c).After-get-c), Numbers-of.few, count-behind.ensures, c.requires.k_le_nodes.1, if2.false),
+            omega (arith, count_same (goal.at.walk-requires t c).After-count_at-all (row (goal.at.walk-requires t c).After-get-c), Numbers-of.few, count-behind.ensures, c.requires.k_le_nodes.1, if2.false),
           ),
         ),
       ),
     )
 
-pub shape_of-hi-then-w-eq0 : goal.shape_of-hi-then-w-eq0
-shape_of-hi-then-w-eq0 t c =
-    ap length (c.walk-w.ensures.hi_unchanged ∙ kept (goal.at.shape_of-hi-then-w-eq0 t c).After-slice_known-4-1)
-
-pub returns-then-w-eq0 : goal.returns-then-w-eq0
-returns-then-w-eq0 t c =
-    let found = less (goal.at.returns-then-w-eq0 t c).After-walk-t (tagged (goal.at.returns-then-w-eq0 t c).After-get (row (goal.at.returns-then-w-eq0 t c).After-get-c)) (keyed (goal.at.returns-then-w-eq0 t c).Else-not-key_ok) in
-    let some = c.if-t-eq0.false in
+pub returns-in_err-w : goal.returns-in_err-w
+returns-in_err-w t c =
+    let found = less (goal.at.returns-in_err-w t c).After-walk-less (tagged (goal.at.returns-in_err-w t c).After-get (row (goal.at.returns-in_err-w t c).After-get-c)) (keyed (goal.at.returns-in_err-w t c).Else-not-key_ok) in
     let count-behind = c.count_behind-ca in record {
-      walked = no_second c.requires.ready found (omega (arith, some)) count-behind.ensures
-          (other (goal.at.returns-then-w-eq0 t c).After-walk-w (kept (goal.at.returns-then-w-eq0 t c).After-slice_known-4-1) (count_same (goal.at.returns-then-w-eq0 t c).After-count_at-all (row (goal.at.returns-then-w-eq0 t c).After-get-c))) c.if-w-eq0.true;
-      hi_unchanged = c.walk-w.ensures.hi_unchanged ∙ kept (goal.at.returns-then-w-eq0 t c).After-slice_known-4-1;
+      walked = rw c.from_residual-in_err-w.ensures (no_second c.requires.ready found c.in_ok-t.was count-behind.ensures
+          (other (goal.at.returns-in_err-w t c).After-walk (kept (goal.at.returns-in_err-w t c).After-slice_known-4-1) (count_same (goal.at.returns-in_err-w t c).After-count_at-all (row (goal.at.returns-in_err-w t c).After-get-c))) c.in_err-w.was);
+      hi_unchanged = c.walk.ensures.hi_unchanged ∙ kept (goal.at.returns-in_err-w t c).After-slice_known-4-1;
     }
 
 pub over_ok-requires : goal.over_ok-requires
 over_ok-requires t c =
     let Node-at = c.node_at-at in
-    let both = two (goal.at.over_ok-requires t c).Else-w-eq0
-    (less (goal.at.over_ok-requires t c).After-walk-t (tagged (goal.at.over_ok-requires t c).After-get (row (goal.at.over_ok-requires t c).After-get-c)) (keyed (goal.at.over_ok-requires t c).Else-not-key_ok))
-    (other (goal.at.over_ok-requires t c).After-walk-w (kept (goal.at.over_ok-requires t c).After-slice_known-4-1) (count_same (goal.at.over_ok-requires t c).After-count_at-all (row (goal.at.over_ok-requires t c).After-get-c))) in record { ready = c.requires.ready; t_bound = omega (arith, both.inside, c.if-w-eq0.false); key_in = rw Node-at.ensures at (keyed (goal.at.over_ok-requires t c).Else-not-key_ok); slots = both.slots }
+    let both = two (goal.at.over_ok-requires t c).In_ok-w
+    (less (goal.at.over_ok-requires t c).After-walk-less (tagged (goal.at.over_ok-requires t c).After-get (row (goal.at.over_ok-requires t c).After-get-c)) (keyed (goal.at.over_ok-requires t c).Else-not-key_ok))
+    (other (goal.at.over_ok-requires t c).After-walk (kept (goal.at.over_ok-requires t c).After-slice_known-4-1) (count_same (goal.at.over_ok-requires t c).After-count_at-all (row (goal.at.over_ok-requires t c).After-get-c))) in record { ready = c.requires.ready; t_bound = omega (arith, both.inside, both.some); key_in = rw Node-at.ensures at (keyed (goal.at.over_ok-requires t c).Else-not-key_ok); slots = both.slots }
 
 pub overflow_add-result : goal.overflow_add-result
 overflow_add-result t c =
     omega (
       arith,
-      (two (goal.at.overflow_add-result t c).Else-w-eq0
-          (less (goal.at.overflow_add-result t c).After-walk-t (tagged (goal.at.overflow_add-result t c).After-get (row (goal.at.overflow_add-result t c).After-get-c)) (keyed (goal.at.overflow_add-result t c).Else-not-key_ok))
-          (other (goal.at.overflow_add-result t c).After-walk-w (kept (goal.at.overflow_add-result t c).After-slice_known-4-1) (count_same (goal.at.overflow_add-result t c).After-count_at-all (row (goal.at.overflow_add-result t c).After-get-c)))).inside,
+      (two (goal.at.overflow_add-result t c).In_ok-w
+          (less (goal.at.overflow_add-result t c).After-walk-less (tagged (goal.at.overflow_add-result t c).After-get (row (goal.at.overflow_add-result t c).After-get-c)) (keyed (goal.at.overflow_add-result t c).Else-not-key_ok))
+          (other (goal.at.overflow_add-result t c).After-walk (kept (goal.at.overflow_add-result t c).After-slice_known-4-1) (count_same (goal.at.overflow_add-result t c).After-count_at-all (row (goal.at.overflow_add-result t c).After-get-c)))).inside,
       numbers (goal.at.overflow_add-result t c).Start,
     )
 
@@ -304,38 +281,28 @@ pub overflow_add-result-then-over_ok : goal.overflow_add-result-then-over_ok
 overflow_add-result-then-over_ok t c =
     omega (
       arith,
-      (two (goal.at.overflow_add-result-then-over_ok t c).Else-w-eq0
-          (less (goal.at.overflow_add-result-then-over_ok t c).After-walk-t (tagged (goal.at.overflow_add-result-then-over_ok t c).After-get (row (goal.at.overflow_add-result-then-over_ok t c).After-get-c)) (keyed (goal.at.overflow_add-result-then-over_ok t c).Else-not-key_ok))
-          (other (goal.at.overflow_add-result-then-over_ok t c).After-walk-w (kept (goal.at.overflow_add-result-then-over_ok t c).After-slice_known-4-1) (count_same (goal.at.overflow_add-result-then-over_ok t c).After-count_at-all (row (goal.at.overflow_add-result-then-over_ok t c).After-get-c)))).inside,
+      (two (goal.at.overflow_add-result-then-over_ok t c).In_ok-w
+          (less (goal.at.overflow_add-result-then-over_ok t c).After-walk-less (tagged (goal.at.overflow_add-result-then-over_ok t c).After-get (row (goal.at.overflow_add-result-then-over_ok t c).After-get-c)) (keyed (goal.at.overflow_add-result-then-over_ok t c).Else-not-key_ok))
+          (other (goal.at.overflow_add-result-then-over_ok t c).After-walk (kept (goal.at.overflow_add-result-then-over_ok t c).After-slice_known-4-1) (count_same (goal.at.overflow_add-result-then-over_ok t c).After-count_at-all (row (goal.at.overflow_add-result-then-over_ok t c).After-get-c)))).inside,
       numbers (goal.at.overflow_add-result-then-over_ok t c).Start,
     )
 
-pub shape_of-hi-then-over_ok : goal.shape_of-hi-then-over_ok
-shape_of-hi-then-over_ok t c =
-    ap length (c.walk-w.ensures.hi_unchanged ∙ kept (goal.at.shape_of-hi-then-over_ok t c).After-slice_known-4-1)
-
 pub returns-then-over_ok : goal.returns-then-over_ok
 returns-then-over_ok t c =
-    let found = less (goal.at.returns-then-over_ok t c).After-walk-t (tagged (goal.at.returns-then-over_ok t c).After-get (row (goal.at.returns-then-over_ok t c).After-get-c)) (keyed (goal.at.returns-then-over_ok t c).Else-not-key_ok) in
-    let some = c.if-t-eq0.false in
+    let found = less (goal.at.returns-then-over_ok t c).After-walk-less (tagged (goal.at.returns-then-over_ok t c).After-get (row (goal.at.returns-then-over_ok t c).After-get-c)) (keyed (goal.at.returns-then-over_ok t c).Else-not-key_ok) in
     let count-behind = c.count_behind-ca in
-    let some-other = c.if-w-eq0.false in record {
-      walked = a-branch c.requires.ready found (omega (arith, some)) count-behind.ensures
-          (other (goal.at.returns-then-over_ok t c).After-walk-w (kept (goal.at.returns-then-over_ok t c).After-slice_known-4-1) (count_same (goal.at.returns-then-over_ok t c).After-count_at-all (row (goal.at.returns-then-over_ok t c).After-get-c))) (omega (arith, some-other))
+    record {
+      walked = a-branch c.requires.ready found c.in_ok-t.was count-behind.ensures
+          (other (goal.at.returns-then-over_ok t c).After-walk (kept (goal.at.returns-then-over_ok t c).After-slice_known-4-1) (count_same (goal.at.returns-then-over_ok t c).After-count_at-all (row (goal.at.returns-then-over_ok t c).After-get-c))) c.in_ok-w.was
           (c.over_ok.ensures.0 c.if-over_ok.true);
-      hi_unchanged = c.walk-w.ensures.hi_unchanged ∙ kept (goal.at.returns-then-over_ok t c).After-slice_known-4-1;
+      hi_unchanged = c.walk.ensures.hi_unchanged ∙ kept (goal.at.returns-then-over_ok t c).After-slice_known-4-1;
     }
-
-pub shape_of-hi : goal.shape_of-hi
-shape_of-hi t c =
-    ap length (c.walk-w.ensures.hi_unchanged ∙ kept (goal.at.shape_of-hi t c).After-slice_known-4-1)
 
 pub returns : goal.returns
 returns t c =
-    let found = less (goal.at.returns t c).After-walk-t (tagged (goal.at.returns t c).After-get (row (goal.at.returns t c).After-get-c)) (keyed (goal.at.returns t c).Else-not-key_ok) in
-    let some = c.if-t-eq0.false in
+    let found = less (goal.at.returns t c).After-walk-less (tagged (goal.at.returns t c).After-get (row (goal.at.returns t c).After-get-c)) (keyed (goal.at.returns t c).Else-not-key_ok) in
     let count-behind = c.count_behind-ca in record {
-      walked = no-branch c.requires.ready found (omega (arith, some)) count-behind.ensures (other (goal.at.returns t c).After-walk-w (kept (goal.at.returns t c).After-slice_known-4-1) (count_same (goal.at.returns t c).After-count_at-all (row (goal.at.returns t c).After-get-c)))
+      walked = no-branch c.requires.ready found c.in_ok-t.was count-behind.ensures (other (goal.at.returns t c).After-walk (kept (goal.at.returns t c).After-slice_known-4-1) (count_same (goal.at.returns t c).After-count_at-all (row (goal.at.returns t c).After-get-c)))
           (λ o. never (sym c.if-over_ok.false ∙ c.over_ok.ensures.1 o));
-      hi_unchanged = c.walk-w.ensures.hi_unchanged ∙ kept (goal.at.returns t c).After-slice_known-4-1;
+      hi_unchanged = c.walk.ensures.hi_unchanged ∙ kept (goal.at.returns t c).After-slice_known-4-1;
     }

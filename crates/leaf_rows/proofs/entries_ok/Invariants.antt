@@ -1,4 +1,4 @@
-use Prim.Native.Nat.{ℕ, ◌+◌, ◌-◌, ◌<◌, ◌≤◌}
+use Prim.Native.Nat.{ℕ, ◌+◌, ◌<◌, ◌≤◌}
 use lib.ListN.{get_or}
 use Rattle.words.specs.Words.{words}
 use Rattle.leaf_rows.specs.Leaves.{Inside}
@@ -6,6 +6,3 @@ use Rattle.leaf_rows.proofs.entries_ok.Given as goal
 
 abbrev pub invariant-loop-i : goal.invariant-loop-i
 invariant-loop-i l = (l.i ≤ l.c) × ((k : ℕ) → k < l.i → Inside (words l.image) l.s (words l.hi) l.ll l.lh (get_or (words l.image) (l.p + k) 0))
-
-abbrev pub decreases-loop-i : goal.decreases-loop-i
-decreases-loop-i l = l.c - l.i

@@ -1,72 +1,46 @@
+use mathlib.Core.Path.{◌≡◌, refl, ap, ◌∙◌}
+use lib.ListN.{length, get_or}
 use native.Mathlib.Omega.{arith}
 use Rattle.words.proofs.Answers.{refuse, accept}
 use Rattle.words.specs.Words.{words}
-use Rattle.words.specs.Kinds.{ident}
-use Rattle.words.proofs.Fields.{is-end-true, is-end-false}
+use Rattle.words.specs.Kinds.{kind, ident}
 use Rattle.monomial.specs.Monomial.{first}
-use Rattle.monomial.proofs.Firsts.{seen, first-bytes, first-canonical}
-use Rattle.monomial.proofs.Walks.{within}
+use Rattle.monomial.specs.Walk.{words_left}
+use Rattle.monomial.proofs.Firsts.{first-canonical, starts-wide}
+use Rattle.monomial.proofs.VariableWords.{item-read, rest-read, rest-more}
 use Rattle.leaf_rows.proofs.Bounding.{passing, all-passed, Here, at-variable}
-use Rattle.leaf_rows.proofs.powers_below.Goals.{Else-is_end}
+use Rattle.leaf_rows.proofs.powers_below.Goals.{In-Some}
 use Rattle.leaf_rows.proofs.powers_below.Goals as goal
 
 -- what is known of a variable's word
-variable : (c : Else-is_end) → let loop = c.loop-variables in
-    Here c.requires.uppers.some loop.invariant (seen _ loop.invariant.ra c.get-w.ensures)
-variable c =
-    let loop-here = c.loop-variables in
-    let loop = loop-here in
-    at-variable c.requires.uppers.some loop.invariant (seen _ loop.invariant.ra c.get-w.ensures)
-    (is-end-false _ c.is_end.ensures c.if-is_end.false)
+item : (c : In-Some) → (c.in-Some.w ≡ get_or (first 1 (words c.args.lm.now)) (length c.loop-w.yielded) 0) × (kind c.in-Some.w ≡ 0 → ⊥)
+item c =
+    item-read (starts-wide c.requires.starts) _ _ _ _ _ (ap words_left c.into_iter-w-iterator.ensures.into_iter_gives ∙ c.variables_of-w-items.ensures)
+    c.loop-w.yielded_by c.next.ensures.steps c.in-Some.is
 
-pub loop-variables-init : goal.loop-variables-init
-loop-variables-init c =
+variable : (c : In-Some) → Here c.requires.uppers.some c.loop-w.invariant (item c).0
+variable c = at-variable c.requires.uppers.some c.loop-w.invariant (item c).0 (item c).1
+
+pub loop-w-init : goal.loop-w-init
+loop-w-init c =
     passing (first 1 (words c.args.lm.now)) (words c.args.hi.now) c.requires.variables_bound (first-canonical (omega arith) c.requires.starts)
 
-pub get-w-requires : goal.get-w-requires
-get-w-requires c = omega (arith, first-bytes 1 c.args.lm.now, within c.loop-variables.invariant.ra)
+pub get-requires : goal.get-requires
+get-requires c = omega (arith, c.id.ensures, (variable (goal.at.get-requires c).In-Some).known, c.requires.uppers.one_each)
 
-pub returns-then-is_end : goal.returns-then-is_end
-returns-then-is_end c =
-    let loop-here = c.loop-variables in
-    let loop = loop-here in
+pub returns-then-get-power : goal.returns-then-get-power
+returns-then-get-power c =
+    let k = variable (goal.at.returns-then-get-power c).In-Some in
+    refuse (λ h. omega (arith, h (ident c.in-Some.w) k.known, k.is, rw c.id.ensures at c.get.ensures, c.power.ensures, c.if-get-power.true))
+
+pub loop-w-preserved : goal.loop-w-preserved
+loop-w-preserved c =
+    let n = (variable (goal.at.loop-w-preserved c).In-Some).next (omega (arith, rw c.id.ensures at c.get.ensures, c.power.ensures, c.if-get-power.false)) in
+    record { b = n.b; below = n.below; ra = rest-more c.in-Some.w c.loop-w.yielded n.ra; passed = n.passed }
+
+pub returns : goal.returns
+returns c =
     accept
-    (all-passed c.requires.uppers.some loop.invariant (seen _ loop.invariant.ra c.get-w.ensures)
-    (is-end-true _ c.is_end.ensures c.if-is_end.true))
-
-pub overflow_cast-id : goal.overflow_cast-id
-overflow_cast-id c = omega arith
-
-pub get-x-requires : goal.get-x-requires
-get-x-requires c = omega (arith, c.id.ensures, (variable (goal.at.get-x-requires c).Else-is_end).known, c.requires.uppers.one_each)
-
-pub returns-then-x-power : goal.returns-then-x-power
-returns-then-x-power c =
-    let id = c.id in
-    let k = variable (goal.at.returns-then-x-power c).Else-is_end in
-    let upper = rw id.ensures at c.get-x.ensures in
-    refuse (λ h. omega (
-      arith,
-      h (ident c.get-w.result)
-          k.known,
-      k.is,
-      upper,
-      c.power.ensures,
-      c.if-x-power.true,
-    ))
-
-pub overflow_add-i : goal.overflow_add-i
-overflow_add-i c =
-    let loop = c.loop-variables in
-    omega (arith, first-bytes 1 c.args.lm.now, within loop.invariant.ra)
-
-pub loop-variables-smaller : goal.loop-variables-smaller
-loop-variables-smaller c =
-    let loop = c.loop-variables in
-    omega (arith, first-bytes 1 c.args.lm.now, within loop.invariant.ra)
-
-pub loop-variables-preserved : goal.loop-variables-preserved
-loop-variables-preserved c =
-    let id = c.id in
-    (variable (goal.at.loop-variables-preserved c).Else-is_end).next
-    (omega (arith, rw id.ensures at c.get-x.ensures, c.power.ensures, c.if-x-power.false))
+    (all-passed c.requires.uppers.some c.loop-w.invariant refl
+    (rest-read (starts-wide c.requires.starts) _ _ _ _ _ (ap words_left c.into_iter-w-iterator.ensures.into_iter_gives ∙ c.variables_of-w-items.ensures)
+    c.loop-w.yielded_by c.next.ensures.steps c.in-None.is))

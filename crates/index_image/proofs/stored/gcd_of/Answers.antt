@@ -48,9 +48,6 @@ next-lm c =
     lm-read _ c.args.s
     c.get-e-in-loop-i.result c.entry_at-in-loop-i.result _ c.entry_at-in-loop-i.ensures c.monomial_from.ensures.is
 
-pub put-requires : goal.put-requires
-put-requires c = omega (arith, c.requires.acc_len)
-
 pub returns-then-c-eq0 : goal.returns-then-c-eq0
 returns-then-c-eq0 c =
     let put = c.put in (
@@ -59,24 +56,8 @@ returns-then-c-eq0 c =
           (omega (arith, c.requires.acc_len)) c.if-c-eq0.true put.new.s put.ensures,
     )
 
-pub permutation_at-requires : goal.permutation_at-requires
-permutation_at-requires c = c.requires.ready.range
-
-pub overflow_add-p : goal.overflow_add-p
-overflow_add-p c = omega (arith, room (goal.at.overflow_add-p c).Start, c.permutation_at.ensures)
-
 pub get-e-requires : goal.get-e-requires
 get-e-requires c = omega (arith, room (goal.at.get-e-requires c).Start, c.permutation_at.ensures)
-
-pub overflow_cast-e : goal.overflow_cast-e
-overflow_cast-e c = omega arith
-
-pub entry_at-requires : goal.entry_at-requires
-entry_at-requires c = record { in_range = c.requires.ready.range; i_le_capacity = omega (arith, (first_entry (goal.at.entry_at-requires c).After-get-e).small, c.requires.ready.range.few) }
-
-pub monomial_in-first-requires : goal.monomial_in-first-requires
-monomial_in-first-requires c =
-    rw c.entry_at.ensures (c.requires.ready.lms c.get-e.result (first_entry (goal.at.monomial_in-first-requires c).After-get-e).small)
 
 pub paste-requires : goal.paste-requires
 paste-requires c =
@@ -107,18 +88,10 @@ loop-i-init c =
     (words monomial-in.result.now) (length monomial-in.result.now / 4) (omega (arith, paste.auto.s, c.requires.acc_len))
     (first-lm (goal.at.loop-i-init c).After-monomial_in-first) (sym (length-words monomial-in.result.now)) paste.ensures
 
-pub overflow_add-p-in-loop-i : goal.overflow_add-p-in-loop-i
-overflow_add-p-in-loop-i c =
-    let permutation-at = c.permutation_at in
-    omega (arith, room (goal.at.overflow_add-p-in-loop-i c).Start, permutation-at.ensures)
-
 pub get-e-requires-in-loop-i : goal.get-e-requires-in-loop-i
 get-e-requires-in-loop-i c =
     let permutation-at = c.permutation_at in
     omega (arith, room (goal.at.get-e-requires-in-loop-i c).Start, permutation-at.ensures)
-
-pub overflow_cast-e-in-loop-i : goal.overflow_cast-e-in-loop-i
-overflow_cast-e-in-loop-i c = omega arith
 
 pub entry_at-requires-in-loop-i : goal.entry_at-requires-in-loop-i
 entry_at-requires-in-loop-i c =
@@ -141,12 +114,6 @@ meet-n-requires c =
           get2.result (c.requires.ready.lms get2.result (next-entry (goal.at.meet-n-requires c).After-get-e-in-loop-i).small) _ (next-lm (goal.at.meet-n-requires c).After-monomial_from);
     }
 
-pub overflow_add-i : goal.overflow_add-i
-overflow_add-i c = omega (arith, c.loop-i-test.true)
-
-pub loop-i-smaller : goal.loop-i-smaller
-loop-i-smaller c = omega (arith, c.loop-i-test.true)
-
 pub loop-i-preserved : goal.loop-i-preserved
 loop-i-preserved c =
     let meet = c.meet-n in
@@ -159,13 +126,3 @@ loop-i-preserved c =
     loop.acc loop.n loop.i loop.invariant c.loop-i-test.true (rw permutation-at.ensures at get2.ensures) meet.new.acc
     (first 1 (words monomial-from.result.now)) meet.result (omega (arith, meet.auto.acc, loop.invariant.room))
     (next-lm (goal.at.loop-i-preserved c).After-monomial_from) meet.ensures.r_value meet.ensures.acc_after
-
-pub shape_of-acc : goal.shape_of-acc
-shape_of-acc c =
-    omega (arith, c.loop-i.invariant.room, c.requires.acc_len)
-
-pub returns : goal.returns
-returns c =
-    let loop = c.loop-i in
-    let z : loop.i ≡ c.args.c = omega (arith, loop.invariant.to, c.loop-i-test.false) in
-    (loop.invariant.few, rw z at loop.invariant.is)

@@ -1,4 +1,4 @@
-use Prim.Native.Nat.{◌+◌, ◌-◌}
+use Prim.Native.Nat.{◌+◌}
 use Rattle.words.specs.Words.{words}
 use Rattle.index_image.specs.Shape as at
 use Rattle.index_image.proofs.Reading.{Folding}
@@ -6,6 +6,3 @@ use Rattle.index_image.proofs.stored.gcd_of.Given as goal
 
 abbrev pub invariant-loop-i : goal.invariant-loop-i
 invariant-loop-i l = Folding (words l.image) l.s (at.permutation_at l.s + l.lo) l.c l.acc l.n l.i
-
-abbrev pub decreases-loop-i : goal.decreases-loop-i
-decreases-loop-i l = l.c - l.i

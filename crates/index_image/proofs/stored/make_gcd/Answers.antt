@@ -33,10 +33,6 @@ made c =
 room : (c : After-gcd-r) → 4 * c.gcd-r.result ≤ length c.gcd-r.new.out
 room c = omega (arith, (gcd-fits ((part (words c.args.acc.now) 0 c.args.n)) ((first 1 (words c.args.other.now))) c.requires.canonical c.requires.canonical_2), (rw (front-words c.args.acc.now c.args.n, first-whole c.requires.canonical) at c.gcd-r.ensures.value), c.gcd-r.auto.out)
 
-pub slice_bounds-gcd-end-2 : goal.slice_bounds-gcd-end-2
-slice_bounds-gcd-end-2 c =
-    sym (length-take-le (4 * c.args.n) c.args.acc.now (omega (arith, c.requires.acc_len, c.requires.n_bound)))
-
 pub gcd-r-requires : goal.gcd-r-requires
 gcd-r-requires c =
     let ca = c.requires.canonical in record { starts = rw (front-words c.args.acc.now c.args.n) (starts-wide (starts-whole ca)); starts_2 = c.requires.starts; b_in_bounds = rw (front-words c.args.acc.now c.args.n) (rw (first-whole ca) (omega (arith, fits (goal.at.gcd-r-requires c).Start))) }
@@ -51,12 +47,6 @@ pub slice_bounds-paste-end : goal.slice_bounds-paste-end
 slice_bounds-paste-end c =
     let gcd = c.gcd-r in
     sym (length-take-le (4 * gcd.result) gcd.new.out (room (goal.at.slice_bounds-paste-end c).After-gcd-r))
-
-pub paste-requires : goal.paste-requires
-paste-requires c =
-    let gcd = c.gcd-r in
-    let cut = length-take-le (4 * gcd.result) gcd.new.out (room (goal.at.paste-requires c).After-gcd-r) in
-    omega (arith, cut, fits (goal.at.paste-requires c).Start, made-length (goal.at.paste-requires c).After-gcd-r, c.requires.acc_len)
 
 pub returns : goal.returns
 returns c = record { r_value = made-length (goal.at.returns c).After-gcd-r; acc_after = c.paste.ensures ∙ ap (paste_w c.args.acc.now 0) (made (goal.at.returns c).After-gcd-r) }

@@ -2,15 +2,9 @@ use Rattle.words.specs.Words.{words}
 use native.Mathlib.Omega.{arith}
 use Rattle.monomial.specs.Monomial.{first}
 use mathlib.Core.Path.{sym, ◌∙◌}
-use Prim.Native.Nat.{◌*◌}
-use lib.Seq.{length-take-le}
 use Rattle.monomial.proofs.Firsts.{starts-wide, starts-whole, first-whole}
 use Rattle.index_image.proofs.Reading.{front-words, gcd-held}
 use Rattle.index_image.proofs.stored.meet.Goals as goal
-
-pub slice_bounds-divides-end-2 : goal.slice_bounds-divides-end-2
-slice_bounds-divides-end-2 c =
-    sym (length-take-le (4 * c.args.n) c.args.acc.now (omega (arith, c.requires.acc_len, c.requires.n_bound)))
 
 pub divides-requires : goal.divides-requires
 divides-requires c = record { starts = rw (front-words c.args.acc.now c.args.n) (starts-wide (starts-whole c.requires.canonical)); starts_2 = c.requires.starts }
