@@ -3,14 +3,18 @@ use mathlib.Core.Path.{◌≡◌, refl, sym, ap, ◌∙◌}
 use mathlib.Core.Bool.{Bool, true, false, ◌&&◌}
 use mathlib.Core.List.{List, [], ◌∷◌, ◌++◌, append-nil}
 use mathlib.Core.Logic.{◌⊎◌, inl, inr}
-use Prim.Native.Nat.{ℕ, suc, ◌+◌, ◌≤◌, ◌<◌}
+use Prim.Native.Nat.{ℕ, zero, suc, ◌+◌, ◌≤◌, ◌<◌}
 use native.Mathlib.Omega.{arith}
 use native.Mathlib.Numerals.{add-one}
 use native.Mathlib.Decide.{ℕ_discrete}
 use lib.ListN.{length, drop, length-drop}
 use borrow.Author.Tests.{eq-eqb, ne_eqb, eqb-true, eqb-false, ltb-true, leb-true, lt-ltb, le-leb, not-true}
 use Rattle.words.specs.Kinds.{kind, payload, ident, power}
-use Rattle.monomial.specs.Monomial.{bias, is_var, front, Canonical}
+use Rattle.std.specs.Prelude.{Some, None, IfSome}
+use Rattle.std.specs.Option.{unwrap_or}
+use Rattle.monomial.specs.Monomial.{number, bias, is_var, front, Canonical, some_words}
+use Rattle.monomial.specs.declared.Kind.{Kind}
+use Rattle.monomial.specs.declared.Kind.TheVariants.{Monomial, Ratio}
 
 pub false-not-true : false ≡ true → ⊥
 false-not-true e = let z : ◌≡◌ {A = ℕ} 0 1 = cc in omega arith
@@ -95,7 +99,7 @@ front-cases k b n w ws h =
     go z true e = inr (z, is-var k b w e)
     go z false e = absurd (h (front-bad-var k b n w ws z e))
 
-nil-of : (l : List ℕ) → length l ≡ 0 → l ≡ []
+pub nil-of : (l : List ℕ) → length l ≡ 0 → l ≡ []
 nil-of [] h = refl
 nil-of (x ∷ l) h = absurd (omega arith)
 
@@ -179,3 +183,35 @@ raise k b n (w ∷ ws) c h (inr (v, r)) =
 pub lower : (k b n : ℕ) (ws : List ℕ) → Canon k b n ws → Canon k 4096 n ws
 lower k b n [] c = absurd (omega (arith, canon-some k b n [] c))
 lower k b n (w ∷ ws) c = weaken k b n w ws 4096 (λ e. omega arith) c
+
+-- ---- a number of words told as an option, where 0 stands for none
+pub told-some : (m n : ℕ) → m ≡ n + 1 → Some (n + 1) ≡ some_words m
+told-some m n e = rw (e, add-one)
+
+pub told-none : (m : ℕ) → m ≡ 0 → None ≡ some_words m
+told-none m e = rw e
+
+pub some-told : (m n : ℕ) → Some n ≡ some_words m → n ≡ m
+some-told zero n e = cc
+some-told (suc m) n e = cc
+
+pub none-told : (m : ℕ) → None ≡ some_words m → m ≡ 0
+none-told zero e = refl
+none-told (suc m) e = cc
+
+pub or-none : (m : ℕ) → unwrap_or (some_words m) 0 ≡ m
+or-none zero = refl
+or-none (suc m) = refl
+
+pub if-some : (m : ℕ) (P : ℕ → Type 0) → ((m ≡ 0 → ⊥) → P m) → IfSome (some_words m) P
+if-some zero P h = tt
+if-some (suc m) P h = h (λ e. omega arith)
+
+-- ---- the two kinds
+pub number-some : (q : Kind) → 0 < number q
+number-some Monomial = omega arith
+number-some Ratio = omega arith
+
+pub number-few : (q : Kind) → number q ≤ 2
+number-few Monomial = omega arith
+number-few Ratio = omega arith

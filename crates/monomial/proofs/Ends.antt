@@ -38,7 +38,7 @@ pub end-within : (at n : ℕ) (W : List ℕ) → n ≡ to_end 0 (drop at W) → 
 end-within at n W e some = omega (arith, end_short 0 (drop at W), length-drop at W)
 
 -- ---- what is canonical ends there
-front_ends : (k b n : ℕ) (ws : List ℕ) → (front k b n ws ≡ 0 → ⊥) → front k b n ws ≡ to_end n ws
+pub front_ends : (k b n : ℕ) (ws : List ℕ) → (front k b n ws ≡ 0 → ⊥) → front k b n ws ≡ to_end n ws
 front_ends k b n [] h = absurd (h (front-none k b n))
 front_ends k b n (w ∷ ws) h = go (front_ends k (ident w) (n + 1) ws) (front-cases k b n w ws h)
   where

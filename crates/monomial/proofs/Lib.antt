@@ -7,4 +7,5 @@ pub mod Sums
 pub mod Divisions
 pub mod Laws
 pub mod Firsts
+pub mod VariableWords
 pub mod Sizing

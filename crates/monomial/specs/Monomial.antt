@@ -1,10 +1,15 @@
 -- Canonical monomials and ratios as lists of words, and the powers that they hold, from document 01. Assumes nothing.
 -- Here and above, k is the kind of the variables' words: 1 in a monomial, 2 in a ratio.
-use Rattle.std.specs.Prelude.{◌≡◌, Bool, cond, not, ◌&&◌, List, [], ◌∷◌, ◌++◌, ℕ, zero, suc, ◌+◌, ◌*◌, ◌-◌, ◌<◌, eqb, leb, ltb, length, take, drop}
+use Rattle.std.specs.Prelude.{◌≡◌, Bool, cond, not, ◌&&◌, List, [], ◌∷◌, ◌++◌, ℕ, zero, suc, ◌+◌, ◌*◌, ◌-◌, ◌<◌, eqb, leb, ltb, length, take, drop, Option, Some, None}
 use Rattle.words.specs.Kinds.{kind, payload, ident, power, var_word, end_word}
 use Rattle.words.specs.Words.{words}
-use Rattle.monomial.specs.declared.Power.{Power}
-use Rattle.monomial.specs.declared.Power.TheVariants.{Found, Absent}
+use Rattle.monomial.specs.declared.Kind.{Kind}
+use Rattle.monomial.specs.declared.Kind.TheVariants.{Monomial, Ratio}
+
+-- the kind of the words of a monomial's variables, and of a ratio's
+abbrev pub number : Kind → ℕ
+number Monomial = 1
+number Ratio = 2
 
 -- what a word of kind k holds for the power 0: a ratio's powers are held with 32,768 added
 abbrev pub bias : ℕ → ℕ
@@ -20,6 +25,11 @@ unfoldable pub front : ℕ → ℕ → ℕ → List ℕ → ℕ
 front k b n [] = 0
 front k b n (w ∷ ws) =
     cond (eqb (kind w) 0) (cond (eqb (payload w) n) (n + 1) 0) (cond (is_var k b w) (front k (ident w) (n + 1) ws) 0)
+
+-- a number of words, where 0 stands for none
+abbrev pub some_words : ℕ → Option ℕ
+some_words zero = None
+some_words (suc n) = Some (suc n)
 
 -- the whole list is one canonical monomial (k = 1) or ratio (k = 2) in m variables
 pub record Canonical (k m : ℕ) (ws : List ℕ) : Type 0 where
@@ -51,15 +61,15 @@ to_end n (w ∷ ws) = cond (eqb (kind w) 0) (n + 1) (to_end (n + 1) ws)
 unfoldable pub ended : List ℕ → ℕ → List ℕ
 ended s at = take (4 * to_end 0 (drop at (words s))) (drop (4 * at) s)
 
--- what a list of words says of variable v: the bits of its power, or that it is absent
-unfoldable pub find : ℕ → List ℕ → ℕ → Power
-find k [] v = Absent
-find k (w ∷ ws) v = cond (eqb (kind w) k && eqb (ident w) v) (Found (power w)) (find k ws v)
+-- what a list of words says of variable v: the bits of its power, none where it is absent
+unfoldable pub find : ℕ → List ℕ → ℕ → Option ℕ
+find k [] v = None
+find k (w ∷ ws) v = cond (eqb (kind w) k && eqb (ident w) v) (Some (power w)) (find k ws v)
 
 -- an absent variable has power 0
-unfoldable pub power_of : ℕ → Power → ℕ
-power_of k (Found p) = p
-power_of k Absent = bias k
+unfoldable pub power_of : ℕ → Option ℕ → ℕ
+power_of k (Some p) = p
+power_of k None = bias k
 
 -- the power of variable v; in a ratio, the power + 32,768
 unfoldable pub pow : ℕ → List ℕ → ℕ → ℕ

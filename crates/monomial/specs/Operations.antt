@@ -1,8 +1,6 @@
 -- What the operations on monomials give, by the powers of each variable. Assumes nothing.
-use Rattle.std.specs.Prelude.{Bool, true, false, cond, ◌&&◌, List, [], ◌∷◌, ℕ, zero, suc, min, ◌+◌, ◌-◌, ◌≤◌, eqb, leb, length}
+use Rattle.std.specs.Prelude.{Bool, true, false, cond, ◌&&◌, List, [], ◌∷◌, ℕ, zero, suc, min, ◌+◌, ◌-◌, ◌≤◌, eqb, leb, length, Option, Some, None}
 use Rattle.monomial.specs.Monomial.{pow, monomial_of}
-use Rattle.monomial.specs.declared.Division.{Division}
-use Rattle.monomial.specs.declared.Division.TheVariants.{Whole, NotDivisible}
 use Rattle.monomial.specs.declared.ordered_ops.Op.{Op}
 use Rattle.monomial.specs.declared.ordered_ops.Op.TheVariants.{Gcd, Product, Quotient, Ratio}
 
@@ -48,5 +46,5 @@ equal (x ∷ xs) [] = false
 equal (x ∷ xs) (y ∷ ys) = eqb x y && equal xs ys
 
 -- whole division: the length of the quotient's words, or none
-unfoldable pub divided : List ℕ → List ℕ → Division
-divided a b = cond (divides b a) (Whole (length (result_words Quotient a b))) NotDivisible
+unfoldable pub divided : List ℕ → List ℕ → Option ℕ
+divided a b = cond (divides b a) (Some (length (result_words Quotient a b))) None

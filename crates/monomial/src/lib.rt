@@ -4,56 +4,62 @@
 
 pub mod ordered_ops;
 pub mod sizes;
+pub mod variables;
 
-ghost use Rattle.std.specs.Prelude.{◌≡◌, cond, ◌+◌, ◌*◌, ◌<◌, ◌≤◌, length, drop};
+ghost use Rattle.std.specs.Prelude.{◌≡◌, cond, ◌+◌, ◌*◌, ◌<◌, ◌≤◌, length, take, drop, IfSome};
+ghost use Rattle.std.specs.Option.{unwrap_or};
 ghost use Rattle.words.specs.Words.{words, paste_w};
-ghost use Rattle.monomial.specs.Monomial.{Starts, first, is_var, front, lent, found, to_end, ended, find, pow};
+ghost use Rattle.monomial.specs.Monomial.{number, bias, Starts, first, is_var, front, lent, found, to_end, ended, find, pow};
+ghost use Rattle.monomial.specs.Monomial.{some_words};
 ghost use Rattle.monomial.specs.Operations as ops;
 
 use ordered_ops::Op;
 
-// What a monomial says of a variable.
-#[derive(Clone, Copy)]
-pub enum Power {
-    Found(u32),
-    Absent,
+/// What a list of words is: a monomial, or a ratio, whose powers are held with 32,768 added.
+#[derive(Clone, Copy, Debug, PartialEq, Eq)]
+pub enum Kind {
+    Monomial,
+    Ratio,
 }
 
-// A quotient's length in words, or none.
-#[derive(Clone, Copy)]
-pub enum Division {
-    Whole(usize),
-    NotDivisible,
+impl Kind {
+    /// The kind of the variables' words.
+    pub fn number(self) -> u32
+        ensures { result ≡ number self }
+    {
+        match self {
+            Kind::Monomial => 1,
+            Kind::Ratio => 2,
+        }
+    }
+
+    /// What a word holds for the power 0.
+    pub fn bias(self) -> u32
+        ensures { result ≡ bias (number self) }
+    {
+        match self {
+            Kind::Monomial => 0,
+            Kind::Ratio => 32768,
+        }
+    }
 }
 
 // Whether w is a variable's word of the kind, its id below the bound.
-pub fn is_variable(w: u32, kind: u32, bound: u32) -> bool
-    requires { (1 ≤ kind) × (kind ≤ 2) }
-    ensures { result ≡ is_var kind bound w }
+#[tactic(auto, unfolding(crate::specs::Monomial::is_var))]
+pub fn is_variable(w: u32, kind: Kind, bound: u32) -> bool
+    ensures { result ≡ is_var (number kind) bound w }
 {
-    if words::kind(w) != kind {
-        return false;
-    }
-    if bound <= words::id(w) {
-        return false;
-    }
     let p = words::power(w);
-    if p == 0 {
-        return false;
-    }
-    if 32767 + 32768 * (kind - 1) < p {
-        return false;
-    }
-    if p == 32768 * (kind - 1) {
-        return false;
-    }
-    true
+    words::kind(w) == kind.number()
+        && words::id(w) < bound
+        && p > 0
+        && p <= 32767 + kind.bias()
+        && p != kind.bias()
 }
 
-// How many words the canonical monomial or ratio at word `at` has, its end word with them; 0 where there is none.
-pub fn canonical_words(s: &[u8], at: usize, kind: u32, variables: u32) -> usize
-    requires { (1 ≤ kind) × (kind ≤ 2) }
-    ensures { result ≡ front kind variables 0 (drop at (words s.now)) }
+// How many words the canonical monomial or ratio at word `at` has, its end word with them; none where there is no such.
+pub fn canonical_words(s: &[u8], at: usize, kind: Kind, variables: u32) -> Option<usize>
+    ensures { result ≡ some_words (front (number kind) variables 0 (drop at (words s.now))) }
 {
     let end = s.len() / 4;
     let mut i = at;
@@ -63,117 +69,108 @@ pub fn canonical_words(s: &[u8], at: usize, kind: u32, variables: u32) -> usize
         let w = words::get(s, i);
         if words::is_end(w) {
             if words::payload(w) == n {
-                return n as usize + 1;
+                return Some(n as usize + 1);
             }
-            return 0;
+            return None;
         }
         if !is_variable(w, kind, bound) {
-            return 0;
+            return None;
         }
         bound = words::id(w);
         n += 1;
         i += 1;
     }
-    0
+    None
 }
 
 // Whether s is exactly one canonical monomial or ratio.
-pub fn is_canonical(s: &[u8], kind: u32, variables: u32) -> bool
-    requires { (1 ≤ kind) × (kind ≤ 2) }
-    ensures { result ≡ lent kind variables s.now }
+pub fn is_canonical(s: &[u8], kind: Kind, variables: u32) -> bool
+    ensures { result ≡ lent (number kind) variables s.now }
 {
-    if s.len() == 0 {
-        return false;
+    match canonical_words(s, 0, kind, variables) {
+        Some(n) => 4 * n == s.len(),
+        None => false,
     }
-    let n = canonical_words(s, 0, kind, variables);
-    4 * n == s.len()
+}
+
+// The n words of s from word `at` on; no bytes where n is none.
+fn words_at(s: &[u8], at: usize, n: Option<usize>) -> &[u8]
+    requires { IfSome n (λ n. 4 * (at + n) ≤ length s.now) }
+    ensures { result.now ≡ take (4 * unwrap_or n 0) (drop (4 * at) s.now) }
+{
+    match n {
+        Some(n) => &s[4 * at..4 * (at + n)],
+        None => &s[0..0],
+    }
 }
 
 // The part of s that is the canonical monomial or ratio at word `at`, from first variable word to end word; empty where none starts there.
-pub fn canonical_at(s: &[u8], at: usize, kind: u32, variables: u32) -> &[u8]
-    requires { (1 ≤ kind) × (kind ≤ 2) }
-    ensures { result.now ≡ found kind variables s.now at }
+pub fn canonical_at(s: &[u8], at: usize, kind: Kind, variables: u32) -> &[u8]
+    ensures { result.now ≡ found (number kind) variables s.now at }
 {
-    let n = canonical_words(s, at, kind, variables);
-    if n == 0 {
-        return &s[0..0];
-    }
-    let a = 4 * at;
-    let e = a + 4 * n;
-    &s[a..e]
+    words_at(s, at, canonical_words(s, at, kind, variables))
 }
 
 pub fn monomial_at(s: &[u8], at: usize, variables: u32) -> &[u8]
     ensures { result.now ≡ found 1 variables s.now at }
 {
-    canonical_at(s, at, 1, variables)
+    canonical_at(s, at, Kind::Monomial, variables)
 }
 
 pub fn ratio_at(s: &[u8], at: usize, variables: u32) -> &[u8]
     ensures { result.now ≡ found 2 variables s.now at }
 {
-    canonical_at(s, at, 2, variables)
+    canonical_at(s, at, Kind::Ratio, variables)
 }
 
-// How many words there are from word `at` up to the first end word, with it; 0 where there is none.
-fn words_to_end(s: &[u8], at: usize) -> usize
-    ensures { result ≡ to_end 0 (drop at (words s.now)) }
+// How many words there are from word `at` up to the first end word, with it; none where no such word comes.
+fn words_to_end(s: &[u8], at: usize) -> Option<usize>
+    ensures { result ≡ some_words (to_end 0 (drop at (words s.now))) }
 {
     let end = s.len() / 4;
     let mut i = at;
     while i < end {
         if words::is_end(words::get(s, i)) {
-            return i - at + 1;
+            return Some(i - at + 1);
         }
         i += 1;
     }
-    0
+    None
 }
 
 // The part of s from word `at` up to the first end word: the monomial or ratio there, where it is known to be canonical.
 pub fn known_at(s: &[u8], at: usize) -> &[u8]
     ensures { result.now ≡ ended s.now at }
 {
-    let n = words_to_end(s, at);
-    if n == 0 {
-        return &s[0..0];
-    }
-    let a = 4 * at;
-    let e = a + 4 * n;
-    &s[a..e]
+    words_at(s, at, words_to_end(s, at))
 }
 
-// What m says of variable v. Ids fall, so the walk stops at the first that is not above v.
-pub fn find_power(m: &[u8], kind: u32, v: u32) -> Power
-    requires le_kind { (1 ≤ kind) × ((kind ≤ 2) × (v < 4096)) }
-    requires starts { Starts kind 4096 (words m.now) }
-    ensures { result ≡ find kind (first kind (words m.now)) v }
+// The bits of variable v's power in m, none where it is absent. Ids fall, so the walk stops at the first that is not above v.
+pub fn find_power(m: &[u8], kind: Kind, v: u32) -> Option<u32>
+    requires id { v < 4096 }
+    requires starts { Starts (number kind) 4096 (words m.now) }
+    ensures { result ≡ find (number kind) (first (number kind) (words m.now)) v }
 {
-    let upper = 4096 * kind + v;
-    let mut i: usize = 0;
-    loop {
-        let w = words::get(m, i);
+    let upper = 4096 * kind.number() + v;
+    for w in variables::variables_of(m) {
         let u = words::upper_half(w);
         if u < upper {
-            return Power::Absent;
+            return None;
         }
         if u == upper {
-            return Power::Found(words::power(w));
+            return Some(words::power(w));
         }
-        i += 1;
     }
+    None
 }
 
 // The power of variable v, absent being 0; in a ratio with 32,768 added.
-pub fn power_of(m: &[u8], kind: u32, v: u32) -> u32
-    requires le_kind { (1 ≤ kind) × ((kind ≤ 2) × (v < 4096)) }
-    requires starts { Starts kind 4096 (words m.now) }
-    ensures { result ≡ pow kind (first kind (words m.now)) v }
+pub fn power_of(m: &[u8], kind: Kind, v: u32) -> u32
+    requires id { v < 4096 }
+    requires starts { Starts (number kind) 4096 (words m.now) }
+    ensures { result ≡ pow (number kind) (first (number kind) (words m.now)) v }
 {
-    let Power::Found(p) = find_power(m, kind, v) else {
-        return 32768 * (kind - 1);
-    };
-    p
+    find_power(m, kind, v).unwrap_or(kind.bias())
 }
 
 // Whether a divides b, each a part of some longer list. A word of b below that of a lacks its variable or has the lower power.
@@ -250,7 +247,7 @@ pub fn fraction_division(a: &[u8], b: &[u8], out: &mut [u8]) -> usize
 }
 
 // Writes the quotient a / b where b divides a; else nothing.
-pub fn whole_division(a: &[u8], b: &[u8], out: &mut [u8]) -> Division
+pub fn whole_division(a: &[u8], b: &[u8], out: &mut [u8]) -> Option<usize>
     requires starts { Starts 1 4096 (words a.now) }
     requires starts_2 { Starts 1 4096 (words b.now) }
     requires b_in_bounds { 4 * length (ops.result_words Op.Quotient (first 1 (words a.now)) (first 1 (words b.now))) ≤ length out.old }
@@ -258,8 +255,8 @@ pub fn whole_division(a: &[u8], b: &[u8], out: &mut [u8]) -> Division
     ensures out_after { out.new ≡ cond (ops.divides (first 1 (words b.now)) (first 1 (words a.now))) (paste_w out.old 0 (ops.result_words Op.Quotient (first 1 (words a.now)) (first 1 (words b.now)))) out.old }
 {
     if divides(b, a) {
-        Division::Whole(ordered_ops::sum(a, b, Op::Quotient, out))
+        Some(ordered_ops::sum(a, b, Op::Quotient, out))
     } else {
-        Division::NotDivisible
+        None
     }
 }

@@ -1,12 +1,8 @@
-use Rattle.monomial.specs.Monomial.{first}
-use Prim.Native.Nat.{◌-◌}
 use lib.ListN.{length}
 use Rattle.words.specs.Words.{words}
+use Rattle.monomial.specs.Monomial.{number, first}
 use Rattle.monomial.proofs.Divisions.{Finding}
 use Rattle.monomial.proofs.find_power.Given as goal
 
-abbrev pub invariant-loop-kind : goal.invariant-loop-kind
-invariant-loop-kind l = Finding l.kind (first l.kind (words l.m)) l.v l.i
-
-abbrev pub decreases-loop-kind : goal.decreases-loop-kind
-decreases-loop-kind l = length (first l.kind (words l.m)) - l.i
+abbrev pub invariant-loop-w : goal.invariant-loop-w
+invariant-loop-w l = Finding (number l.fn.kind) (first (number l.fn.kind) (words l.m)) l.v (length l.yielded)

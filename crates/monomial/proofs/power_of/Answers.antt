@@ -1,11 +1,15 @@
-use mathlib.Core.Path.{sym, ap, ◌∙◌}
-use Rattle.monomial.specs.Monomial.{pow, power_of}
+use mathlib.Core.Path.{◌≡◌, refl}
+use Prim.Native.Nat.{ℕ}
+use Rattle.std.specs.Prelude.{Option, Some, None}
+use Rattle.std.specs.Option.{unwrap_or}
+use Rattle.monomial.specs.Monomial.{bias, pow, power_of}
 use Rattle.monomial.proofs.power_of.Goals as goal
 
-pub returns-in_default : goal.returns-in_default
-unfolding pow power_of
-returns-in_default c = ap (power_of c.args.kind) (sym c.in_default.is ∙ c.find_power.ensures)
+or-bias : (k : ℕ) (r : Option ℕ) → unwrap_or r (bias k) ≡ power_of k r
+unfolding power_of
+or-bias k None = refl
+or-bias k (Some p) = refl
 
 pub returns : goal.returns
-unfolding pow power_of
-returns c = ap (power_of c.args.kind) (sym c.in-Found.is ∙ c.find_power.ensures)
+unfolding pow
+returns c = rw (c.unwrap_or.ensures, c.find_power.ensures, c.bias.ensures) (or-bias _ _)
