@@ -9,6 +9,7 @@ ghost use Rattle.kd_theory.specs.Bifurcate as bif;
 ghost use Rattle.kd_dimension.specs.Choice.{key_in, mark_in, Chose};
 
 use index_image::Shape;
+use monomial::Kind;
 
 #[derive(Clone, Copy)]
 pub struct Spread {
@@ -29,7 +30,7 @@ fn power_in(image: &[u8], s: Shape, v: usize, e: usize) -> u32
     ensures { result ≡ walk.power (words image.now) s v e }
 {
     let a = 4 * s.entry_at(e);
-    monomial::power_of(&image[a..], 1, v as u32)
+    monomial::power_of(&image[a..], Kind::Monomial, v as u32)
 }
 
 // The number of entry e in dimension d: in dimension 0 of a ratio index the label of its ratio, else a power of its lm.
