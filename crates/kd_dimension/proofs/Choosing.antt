@@ -23,7 +23,7 @@ use Rattle.index_image.specs.declared.Shape.{Shape}
 use Rattle.index_image.proofs.Places.{place-fits}
 use Rattle.index_image.proofs.Gcds.{power_small}
 use Rattle.index_image.proofs.Reading.{lm-read}
-use Rattle.kd_dimension.specs.declared.Dimension.TheVariants.{At, Flat}
+use Rattle.std.specs.Prelude.{Some, None}
 use Rattle.kd_dimension.specs.Choice.{key_by, key_in, Chose}
 
 pub power-read : (W : List ℕ) (s : Shape) (v e a r : ℕ) (ws : List ℕ) → a ≡ at.entry_at s e → ws ≡ monomial_in W s.variables a → r ≡ pow 1 ws v → r ≡ power W s v e
@@ -180,12 +180,12 @@ module _ (pw : ℕ → ℕ → ℕ) (mark : ℕ → ℕ → List ℕ → ℕ) (D
       t ∙ (rw y at u)
 
   pub tried-hit : (i a b : ℕ) → i < D → (n + i) % D < D → a ≡ least (pw ((n + i) % D)) es → b ≡ greatest (pw ((n + i) % D)) es → a < b → Tried i
-      → Chose pw mark D D n es (At (record { dim = (n + i) % D; value = (a + b + 1) / 2 }))
+      → Chose pw mark D D n es (Some (record { dim = (n + i) % D; value = (a + b + 1) / 2 }))
   unfolding Tried Chose
   tried-hit i a b h m ea eb l t =
       let z : D - i ≡ suc (D - (i + 1)) = omega arith in
       (t ∙ rw z (try-yes (D - (i + 1)) (n + i) a b ea eb l), m)
 
-  pub tried-all : (i : ℕ) → D ≤ i → Tried i → Chose pw mark D D n es Flat
+  pub tried-all : (i : ℕ) → D ≤ i → Tried i → Chose pw mark D D n es None
   unfolding Tried Chose
   tried-all i h t = let z : D - i ≡ 0 = omega arith in t ∙ rw z (try-none (n + i))

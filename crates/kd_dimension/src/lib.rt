@@ -9,6 +9,7 @@ ghost use Rattle.kd_theory.specs.Bifurcate as bif;
 ghost use Rattle.kd_dimension.specs.Choice.{key_in, mark_in, Chose};
 
 use index_image::Shape;
+use monomial::Kind;
 
 #[derive(Clone, Copy)]
 pub struct Spread {
@@ -22,13 +23,6 @@ pub struct Average {
     pub value: u32,
 }
 
-// Where a leaf is split, if its entries are not the same in every dimension.
-#[derive(Clone, Copy)]
-pub enum Dimension {
-    At(Average),
-    Flat,
-}
-
 // The power of variable v in the lm of entry e.
 fn power_in(image: &[u8], s: Shape, v: usize, e: usize) -> u32
     requires ready { walk.Ready (words image.now) s }
@@ -36,7 +30,7 @@ fn power_in(image: &[u8], s: Shape, v: usize, e: usize) -> u32
     ensures { result ≡ walk.power (words image.now) s v e }
 {
     let a = 4 * s.entry_at(e);
-    monomial::power_of(&image[a..], 1, v as u32)
+    monomial::power_of(&image[a..], Kind::Monomial, v as u32)
 }
 
 // The number of entry e in dimension d: in dimension 0 of a ratio index the label of its ratio, else a power of its lm.
@@ -46,12 +40,12 @@ pub fn key_in(image: &[u8], s: Shape, d: usize, e: usize) -> u64
     ensures { result ≡ key_in (words image.now) s d e }
 {
     if s.kind == 0 {
-        return power_in(image, s, d, e) as u64;
+        return u64::from(power_in(image, s, d, e));
     }
     if d == 0 {
         return index_image::stored::label_in(image, s, e);
     }
-    power_in(image, s, d - 1, e) as u64
+    u64::from(power_in(image, s, d - 1, e))
 }
 
 // The least and greatest number in dimension d among the c entries from place lo on.
@@ -64,41 +58,30 @@ fn extremes(image: &[u8], s: Shape, v: usize, lo: usize, c: usize) -> Spread
     let first = key_in(image, s, v, words::get(image, p) as usize);
     let mut least = first;
     let mut greatest = first;
-    let mut i: usize = 1;
-    while i < c {
+    for i in 1..c {
         let x = key_in(image, s, v, words::get(image, p + i) as usize);
-        if x < least {
-            least = x;
-        }
-        if greatest < x {
-            greatest = x;
-        }
-        i += 1;
+        least = least.min(x);
+        greatest = greatest.max(x);
     }
-    Spread {
-        least: least,
-        greatest: greatest,
-    }
+    Spread { least, greatest }
 }
 
-// The first dimension, from `dim` on and round, in which two of the c entries from place lo on differ.
-pub fn choose(image: &[u8], s: Shape, dim: usize, lo: usize, c: usize) -> Dimension
+// The first dimension, from `dim` on and round, in which two of the c entries from place lo on differ: none where they are the same in each.
+pub fn choose(image: &[u8], s: Shape, dim: usize, lo: usize, c: usize) -> Option<Average>
     requires ready { walk.Ready (words image.now) s }
     requires dim_bound { (dim ≤ 65) × ((lo + c ≤ s.entries) × (1 ≤ c)) }
     ensures { Chose (key_in (words image.now) s) (mark_in (words image.now) s) (walk.dims s) (walk.dims s) dim (entries_from (words image.now) s lo c) result }
 {
     let n = s.variables + s.kind;
-    let mut i: usize = 0;
-    while i < n {
+    for i in 0..n {
         let d = (dim + i) % n;
         let r = extremes(image, s, d, lo, c);
         if r.least < r.greatest {
-            return Dimension::At(Average {
+            return Some(Average {
                 dim: d,
                 value: ((r.least + r.greatest + 1) / 2) as u32,
             });
         }
-        i += 1;
     }
-    Dimension::Flat
+    None
 }

@@ -40,10 +40,7 @@ fn is_divisor(image: &[u8], q: &[u8], m: &[u8], e: usize) -> bool
     requires { Entered image.now m.now (shape_in (words q.now)) (words q.now) e }
     ensures { result ≡ divisor_at (words image.now) (shape_in (words q.now)) (words q.now) (words m.now) e }
 {
-    if !may(image, q, m, e) {
-        return false;
-    }
-    divides(image, q, m, e)
+    may(image, q, m, e) && divides(image, q, m, e)
 }
 
 // Whether entry e divides and has a label from `least` on that counts. Masks are asked first, then labels.
@@ -56,13 +53,7 @@ fn counts(image: &[u8], q: &[u8], m: &[u8], e: usize, least: u64) -> bool
         return false;
     }
     let l = query::label(image, q, e);
-    if l < least {
-        return false;
-    }
-    if words::pairs::get(q, query::TO) <= l {
-        return false;
-    }
-    divides(image, q, m, e)
+    least <= l && l < words::pairs::get(q, query::TO) && divides(image, q, m, e)
 }
 
 // Stops at the first divisor.
@@ -71,31 +62,28 @@ fn contained(image: &[u8], q: &[u8], m: &[u8], lo: usize, c: usize, acc: u64) ->
     requires acc_value { (on_of acc ≡ true) × (search_in (words q.now) ≡ 0) }
     ensures { Visited image.now m.now (shape_in (words q.now)) (words q.now) lo c (best_of acc) (best_of result) (on_of result) × (rows_of result ≡ rows_of acc) }
 {
-    let mut i: usize = 0;
-    while i < c {
+    for i in 0..c {
         let e = query::entry_at(image, q, lo + i);
         if is_divisor(image, q, m, e) {
             return step::stopped(acc, e + 1);
         }
-        i += 1;
     }
     acc
 }
 
-// Stops at the first that counts.
+// Stops at the first that counts. One loop for this and `contained`, given the test as a closure, would be no plainer: its contract would have
+// to say what either answer of the test makes of each search.
 fn singular(image: &[u8], q: &[u8], m: &[u8], lo: usize, c: usize, acc: u64) -> u64
     requires ready_entries { ReadyEntries image.now m.now (shape_in (words q.now)) (words q.now) lo c (best_of acc) }
     requires acc_value { (on_of acc ≡ true) × (search_in (words q.now) ≡ 4) }
     ensures { Visited image.now m.now (shape_in (words q.now)) (words q.now) lo c (best_of acc) (best_of result) (on_of result) × (rows_of result ≡ rows_of acc) }
 {
     let from = words::pairs::get(q, query::FROM);
-    let mut i: usize = 0;
-    while i < c {
+    for i in 0..c {
         let e = query::entry_at(image, q, lo + i);
         if counts(image, q, m, e, from) {
             return step::stopped(acc, e + 1);
         }
-        i += 1;
     }
     acc
 }
@@ -108,8 +96,7 @@ fn reducer(image: &[u8], q: &[u8], m: &[u8], lo: usize, c: usize, acc: u64) -> u
 {
     let from = words::pairs::get(q, query::FROM);
     let mut found = step::best(acc);
-    let mut i: usize = 0;
-    while i < c {
+    for i in 0..c {
         let e = query::entry_at(image, q, lo + i);
         if counts(image, q, m, e, from) {
             if query::label(image, q, e) < words::pairs::get(q, query::FLOOR) {
@@ -117,7 +104,6 @@ fn reducer(image: &[u8], q: &[u8], m: &[u8], lo: usize, c: usize, acc: u64) -> u
             }
             found = e + 1;
         }
-        i += 1;
     }
     step::going(acc, found)
 }
@@ -133,8 +119,7 @@ fn least_above(image: &[u8], q: &[u8], found: usize) -> u64
     if found == 0 {
         return from;
     }
-    let l = query::label(image, q, found - 1);
-    if from <= l { l + 1 } else { from }
+    from.max(query::label(image, q, found - 1) + 1)
 }
 
 // The first of the largest label: only an entry of a larger one than that found is divided.
@@ -145,14 +130,12 @@ fn largest(image: &[u8], q: &[u8], m: &[u8], lo: usize, c: usize, acc: u64) -> u
 {
     let mut found = step::best(acc);
     let mut least = least_above(image, q, found);
-    let mut i: usize = 0;
-    while i < c {
+    for i in 0..c {
         let e = query::entry_at(image, q, lo + i);
         if counts(image, q, m, e, least) {
             found = e + 1;
             least = least_above(image, q, found);
         }
-        i += 1;
     }
     step::going(acc, found)
 }
@@ -166,8 +149,7 @@ pub fn search(image: &[u8], q: &[u8], m: &[u8], lo: usize, c: usize, acc: u64) -
     match query::search_in(q) {
         Search::Contained => contained(image, q, m, lo, c, acc),
         Search::Reducer => reducer(image, q, m, lo, c, acc),
-        Search::High => largest(image, q, m, lo, c, acc),
-        Search::Low => largest(image, q, m, lo, c, acc),
+        Search::High | Search::Low => largest(image, q, m, lo, c, acc),
         Search::Singular => singular(image, q, m, lo, c, acc),
     }
 }

@@ -14,7 +14,7 @@ use divmask::DivMaskTestResult;
 use index_image::fields;
 use query_words as query;
 
-// Which sides of a branch a search visits, and the dimension that is tried first there.
+// Which sides of a branch a search visits, and the dimension that is tried first there, which is the branch's tag.
 #[derive(Clone, Copy)]
 pub struct Sides {
     pub less: bool,
@@ -42,7 +42,7 @@ pub fn grow(image: &mut [u8], q: &[u8], k: usize, added: usize) -> Other
     words::put(image, at + fields::SKIP, skip as u32);
     Other {
         row: k + 1 + skip,
-        less: less,
+        less,
     }
 }
 
@@ -51,13 +51,11 @@ fn may(image: &[u8], q: &[u8], at: usize) -> bool
     requires { (4 * (at + 5) ≤ length image.now) × (368 ≤ length q.now) }
     ensures { result ≡ within (get_or (words image.now) (at + 4) 0) (node_mask_in (words q.now)) }
 {
-    match divmask::divides(
+    let answer = divmask::divides(
         words::get(image, at + fields::NODE_MASK),
         words::get(q, query::NODE_MASK),
-    ) {
-        DivMaskTestResult::NotDivisible => false,
-        DivMaskTestResult::Unsure => true,
-    }
+    );
+    matches!(answer, DivMaskTestResult::Unsure)
 }
 
 // Which sides of the branch at row k are to be visited.
@@ -66,33 +64,40 @@ pub fn path_at(image: &[u8], q: &[u8], m: &[u8], k: usize, lo: usize, acc: u64) 
     ensures { Chosen image.now m.now (shape_in (words q.now)) (words q.now) k lo (rows_of acc) result.less result.other result.next }
 {
     let at = query::node_at(q, k);
-    let tag = words::get(image, at) as usize;
+    let next = words::get(image, at) as usize;
     if !may(image, q, at) {
         return Sides {
             less: false,
             other: false,
-            next: tag,
+            next,
         };
     }
     let key = words::get(image, at + fields::KEY);
-    if tag == query::num(q, query::KIND) {
+    if next == query::num(q, query::KIND) {
         let l = query::label(image, q, key as usize);
         return Sides {
             less: words::pairs::get(q, query::FROM) <= l,
             other: l < words::pairs::get(q, query::TO),
-            next: tag,
+            next,
         };
     }
-    let limit = words::get(q, tag);
+    let limit = words::get(q, next);
     Sides {
         less: true,
         other: key <= limit,
-        next: tag,
+        next,
     }
 }
 
-// Opens the node at row k: a leaf of more than 64 entries is split, if it can be. 0 where it is a leaf that stays, else the rows in use.
-pub fn open_node(image: &mut [u8], q: &[u8], dim: usize, k: usize, lo: usize, rows: usize) -> usize
+// Opens the node at row k: a leaf of more than 64 entries is split, if it can be. None where it is a leaf that stays, else the rows in use.
+pub fn open_node(
+    image: &mut [u8],
+    q: &[u8],
+    dim: usize,
+    k: usize,
+    lo: usize,
+    rows: usize,
+) -> Option<usize>
     requires laid { Laid (words q.now) (shape_in (words q.now)) }
     requires standing { Standing image.old (shape_in (words q.now)) k lo rows }
     requires dim_bound { dim ≤ 65 }
@@ -100,10 +105,10 @@ pub fn open_node(image: &mut [u8], q: &[u8], dim: usize, k: usize, lo: usize, ro
 {
     let at = query::node_at(q, k);
     if words::get(image, at) != 0 {
-        return rows;
+        return Some(rows);
     }
     if words::get(image, at + fields::COUNT) <= 64 {
-        return 0;
+        return None;
     }
     kd_split::split_node(image, query::shape(q), dim, k, lo, rows)
 }

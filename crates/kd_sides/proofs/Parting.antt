@@ -1,13 +1,13 @@
 -- How a leaf's entries are parted and the least label of a side is found, over the words of an image. Assumes nothing.
 use mathlib.Core.Path.{◌≡◌, refl, sym, ap, ◌∙◌}
-use mathlib.Core.Bool.{Bool, true, false, not, cond}
+use mathlib.Core.Bool.{Bool, true, false, not, cond, beq}
 use mathlib.Core.List.{List, [], ◌∷◌, ◌++◌}
+use Rattle.std.specs.Prelude.{Option, Some, None, IfSome, unwrap_or}
 use Prim.Native.Nat.{ℕ, zero, suc, ◌+◌, ◌-◌, ◌*◌, ◌≤◌, ◌<◌}
-use native.Mathlib.Decide.{dec_le}
 use native.Mathlib.Omega.{arith}
-use lib.Dec.{leb, ltb}
+use lib.Dec.{ltb}
 use lib.ListN.{length, get_or, length-append}
-use borrow.Author.Tests.{lt-ltb, le-ltb, le-leb, lt-leb}
+use borrow.Author.Tests.{lt-ltb, le-ltb}
 use Rattle.words.specs.Words.{put_w, paste_w}
 use Rattle.words.specs.Tables.{part}
 use Rattle.words.proofs.Laws.{paste_w-nil, put_w-paste}
@@ -24,19 +24,15 @@ use Rattle.kd_dimension.specs.Choice.{key_by, key_in, least_place, mark_by, mark
 use Rattle.kd_sides.specs.Sides.{lower_of, on_side}
 use Rattle.kd_dimension.proofs.Choosing.{by-label, place}
 
-pub leb-not : (a b : ℕ) → leb a b ≡ not (ltb b a)
-leb-not a b = elim (dec_le a b) [
-  | yes l ↦ le-leb a b l ∙ ap not (sym (le-ltb b a l))
-  | no l ↦ lt-leb a b (omega arith) ∙ ap not (sym (lt-ltb b a (omega arith)))
-]
-
-pub side-yes : (pw : ℕ → ℕ → ℕ) (d x : ℕ) (want : Bool) (e p : ℕ) → want ≡ true → p ≡ pw d e → ltb p x ≡ on_side pw d x want e
+pub side-is : (pw : ℕ → ℕ → ℕ) (d x : ℕ) (want : Bool) (e p y : ℕ) → p ≡ pw d e → y ≡ x → beq (ltb p y) want ≡ on_side pw d x want e
 unfolding on_side
-side-yes pw d x want e p w h = rw (w, h) refl
-
-pub side-no : (pw : ℕ → ℕ → ℕ) (d x : ℕ) (want : Bool) (e p : ℕ) → want ≡ false → p ≡ pw d e → leb x p ≡ on_side pw d x want e
-unfolding on_side
-side-no pw d x want e p w h = rw (w, h) (leb-not x (pw d e))
+side-is pw d x want e p y h z = rw (h, z) (same (ltb (pw d e) x) want)
+  where
+    same : (b w : Bool) → beq b w ≡ cond w b (not b)
+    same true true = refl
+    same true false = refl
+    same false true = refl
+    same false false = refl
 
 -- ---- those on a side
 pub keep-joined : (p : ℕ → Bool) (xs ys : List ℕ) → keep p (xs ++ ys) ≡ keep p xs ++ keep p ys
@@ -56,23 +52,6 @@ keep_one : (p : ℕ → Bool) (e : ℕ) (b : Bool) → p e ≡ b → keep p (e �
 unfolding keep
 keep_one p e true h = rw (h, keep) refl
 keep_one p e false h = rw (h, keep) refl
-
-pub push-few : (p : ℕ → Bool) (e m : ℕ) → m ≡ length (keep p (e ∷ [])) → m ≤ 1
-push-few p e m h = omega (arith, keep-most p (e ∷ []))
-
-pub push-room : (p : ℕ → Bool) (e : ℕ) (b : Bool) (bs : List ℕ) (o : ℕ) → b ≡ p e → b ≡ true → 4 * (o + length (keep p (e ∷ []))) ≤ length bs → 4 * o + 4 ≤ length bs
-push-room p e b bs o eb t h = let z : length (keep p (e ∷ [])) ≡ 1 = rw (keep_one p e true (sym eb ∙ t)) refl in omega (arith, z)
-
-pub push-yes : (p : ℕ → Bool) (e : ℕ) (b : Bool) (bs bs' : List ℕ) (o : ℕ) → b ≡ p e → b ≡ true → 4 * o + 4 ≤ length bs → bs' ≡ put_w bs o e
-    → (◌≡◌ {A = ℕ} 1 (length (keep p (e ∷ [])))) × (bs' ≡ paste_w bs o (keep p (e ∷ [])))
-push-yes p e b bs bs' o eb t r w =
-    let k = keep_one p e true (sym eb ∙ t) in
-    (rw k refl, w ∙ put_w-paste bs o e r ∙ rw k refl)
-
-pub push-no : (p : ℕ → Bool) (e : ℕ) (b : Bool) (bs : List ℕ) (o : ℕ) → b ≡ p e → b ≡ false → (◌≡◌ {A = ℕ} 0 (length (keep p (e ∷ [])))) × (bs ≡ paste_w bs o (keep p (e ∷ [])))
-push-no p e b bs o eb t =
-    let k = keep_one p e false (sym eb ∙ t) in
-    (rw k refl, rw k (sym (paste_w-nil bs o)))
 
 pub record Gathered (W : List ℕ) (s : Shape) (p : ℕ → Bool) (lo i : ℕ) (out₀ out : List ℕ) (o n : ℕ) : Type 0 where
   pub count : n ≡ length (keep p (entries_from W s lo i))
@@ -96,17 +75,17 @@ module _ (W : List ℕ) (s : Shape) (p : ℕ → Bool) (lo : ℕ) (out₀ : List
       let k = ap (length {A = ℕ}) (ap (keep p) z ∙ keep-joined p (entries_from W s lo i) (part W (at.permutation_at s + lo + i) (c - i))) in
       omega (arith, k, length-append (keep p (entries_from W s lo i)) (keep p (part W (at.permutation_at s + lo + i) (c - i))))
 
-  pub gather-room : (c i e n : ℕ) (out : List ℕ) → walk.Ready W s → lo + c ≤ s.entries → i < c → (q : ℕ) → q ≡ at.permutation_at s → e ≡ get_or W (q + lo + i) 0
+  gather_room : (c i e n : ℕ) (out : List ℕ) → walk.Ready W s → lo + c ≤ s.entries → i < c → (q : ℕ) → q ≡ at.permutation_at s → e ≡ get_or W (q + lo + i) 0
       → Gathered W s p lo i out₀ out o n → 4 * (o + length (keep p (entries_from W s lo c))) ≤ length out₀ → 4 * (o + n + length (keep p (e ∷ []))) ≤ length out
-  gather-room c i e n out R hc hi q eq ee g hr =
+  gather_room c i e n out R hc hi q eq ee g hr =
       let z = place W s R lo c i q e hc hi eq ee in
       let k = ap (length {A = ℕ}) (ap (keep p) z.snoc ∙ keep-joined p (entries_from W s lo i) (e ∷ [])) in
       omega (arith, k, length-append (keep p (entries_from W s lo i)) (keep p (e ∷ [])), prefix (i + 1) c (omega arith), g.count, g.long)
 
-  pub gather-more : (c i e n m : ℕ) (out out' : List ℕ) → walk.Ready W s → lo + c ≤ s.entries → i < c → (q : ℕ) → q ≡ at.permutation_at s → e ≡ get_or W (q + lo + i) 0
+  gather_more : (c i e n m : ℕ) (out out' : List ℕ) → walk.Ready W s → lo + c ≤ s.entries → i < c → (q : ℕ) → q ≡ at.permutation_at s → e ≡ get_or W (q + lo + i) 0
       → Gathered W s p lo i out₀ out o n → m ≡ length (keep p (e ∷ [])) → 4 * (o + length (keep p (entries_from W s lo c))) ≤ length out₀ → length out' ≡ length out
       → out' ≡ paste_w out (o + n) (keep p (e ∷ [])) → Gathered W s p lo (i + 1) out₀ out' o (n + m)
-  gather-more c i e n m out out' R hc hi q eq ee g em hr l w =
+  gather_more c i e n m out out' R hc hi q eq ee g em hr l w =
       let z = place W s R lo c i q e hc hi eq ee in
       let k : keep p (entries_from W s lo (i + 1)) ≡ keep p (entries_from W s lo i) ++ keep p (e ∷ []) = ap (keep p) z.snoc ∙ keep-joined p (entries_from W s lo i) (e ∷ []) in
       record {
@@ -116,38 +95,51 @@ module _ (W : List ℕ) (s : Shape) (p : ℕ → Bool) (lo : ℕ) (out₀ : List
         bytes = w ∙ rw (g.bytes, k) (paste_w-append out₀ o (keep p (entries_from W s lo i)) (o + n) (keep p (e ∷ [])) (omega (arith, g.count)) (omega (arith, g.count, prefix i c (omega arith))));
       }
 
+  module _ (c i e n : ℕ) (out : List ℕ) (R : walk.Ready W s) (hc : lo + c ≤ s.entries) (hi : i < c) (q : ℕ) (eq : q ≡ at.permutation_at s) (ee : e ≡ get_or W (q + lo + i) 0)
+      (g : Gathered W s p lo i out₀ out o n) (hr : 4 * (o + length (keep p (entries_from W s lo c))) ≤ length out₀) where
+    -- entry e is on the side: there is room for it, and it is written
+    pub gather-room : p e ≡ true → 4 * (o + n) + 4 ≤ length out
+    gather-room t = let z = ap (length {A = ℕ}) (keep_one p e true t) in omega (arith, gather_room c i e n out R hc hi q eq ee g hr, z)
+
+    pub gather-taken : (out' : List ℕ) → p e ≡ true → length out' ≡ length out → out' ≡ put_w out (o + n) e → Gathered W s p lo (i + 1) out₀ out' o (n + 1)
+    gather-taken out' t l w =
+        let k = keep_one p e true t in
+        gather_more c i e n 1 out out' R hc hi q eq ee g (rw k refl) hr l (w ∙ put_w-paste out (o + n) e (gather-room t) ∙ rw k refl)
+
+    pub gather-left : p e ≡ false → Gathered W s p lo (i + 1) out₀ out o n
+    gather-left t =
+        let k = keep_one p e false t in
+        let z : n + 0 ≡ n = omega arith in
+        rw z at (gather_more c i e n 0 out out R hc hi q eq ee g (rw k refl) hr refl (rw k (sym (paste_w-nil out (o + n)))))
+
 -- ---- the first of least label
-least-snoc-place : (lb : ℕ → ℕ) (xs : List ℕ) (y : ℕ) → least_place lb (xs ++ (y ∷ [])) ≡ lower_of lb y (least_place lb xs)
+least-snoc-place : (lb : ℕ → ℕ) (xs : List ℕ) (y : ℕ) → least_place lb (xs ++ (y ∷ [])) ≡ Some (lower_of lb y (least_place lb xs))
 unfolding least_place lower_of first_least
 least-snoc-place lb [] y = refl
-least-snoc-place lb (x ∷ xs) y = go x xs
+least-snoc-place lb (x ∷ xs) y = ap Some (go x xs)
   where
-    go : (x : ℕ) (xs : List ℕ) → suc (first_least lb x (xs ++ (y ∷ []))) ≡ cond (ltb (lb y) (lb (first_least lb x xs))) (suc y) (suc (first_least lb x xs))
-    go x [] = pulled (ltb (lb y) (lb x)) x
-      where
-        pulled : (b : Bool) (x : ℕ) → suc (cond b y x) ≡ cond b (suc y) (suc x)
-        pulled true x = refl
-        pulled false x = refl
+    go : (x : ℕ) (xs : List ℕ) → first_least lb x (xs ++ (y ∷ [])) ≡ cond (ltb (lb y) (lb (first_least lb x xs))) y (first_least lb x xs)
+    go x [] = refl
     go x (z ∷ xs) = go (cond (ltb (lb z) (lb x)) z x) xs
 
-pub record Lowest (W : List ℕ) (s : Shape) (x lo i best : ℕ) : Type 0 where
+pub record Lowest (W : List ℕ) (s : Shape) (x lo i : ℕ) (best : Option ℕ) : Type 0 where
   pub is : best ≡ least_place (label W s) (keep (on_side (key_in W s) 0 x false) (entries_from W s lo i))
-  pub small : best ≤ s.entries
+  pub small : IfSome best (λ e. e < s.entries)
 
 module _ (W : List ℕ) (s : Shape) (k : s.kind ≡ 1) (x lo : ℕ) where
   abbrev p : ℕ → Bool
   p = on_side (key_in W s) 0 x false
 
-  pub lowest-none : Lowest W s x lo 0 0
+  pub lowest-none : Lowest W s x lo 0 None
   unfolding keep least_place
-  lowest-none = let e : entries_from W s lo 0 ≡ [] = part-nil W (at.permutation_at s + lo) in record { is = rw e refl; small = omega arith }
+  lowest-none = let e : entries_from W s lo 0 ≡ [] = part-nil W (at.permutation_at s + lo) in record { is = rw e refl; small = tt }
 
   on-label : (e : ℕ) → on_side (key_in W s) 0 x false e ≡ not (ltb (label W s e) x)
   unfolding on_side key_in key_by
   on-label e = ap (λ (y : ℕ). not (ltb y x)) (by-label s.kind (power W s) (label W s) 0 e k refl)
 
-  pub lowest-more : (c i e q best best' : ℕ) → walk.Ready W s → lo + c ≤ s.entries → i < c → q ≡ at.permutation_at s → e ≡ get_or W (q + lo + i) 0
-      → best' ≡ cond (ltb (label W s e) x) best (lower_of (label W s) e best) → best' ≤ s.entries → Lowest W s x lo i best → Lowest W s x lo (i + 1) best'
+  pub lowest-more : (c i e q : ℕ) (best best' : Option ℕ) → walk.Ready W s → lo + c ≤ s.entries → i < c → q ≡ at.permutation_at s → e ≡ get_or W (q + lo + i) 0
+      → best' ≡ cond (ltb (label W s e) x) best (Some (lower_of (label W s) e best)) → IfSome best' (λ b. b < s.entries) → Lowest W s x lo i best → Lowest W s x lo (i + 1) best'
   lowest-more c i e q best best' R hc hi eq ee eb l L =
       let z = place W s R lo c i q e hc hi eq ee in
       let kk : keep p (entries_from W s lo (i + 1)) ≡ keep p (entries_from W s lo i) ++ keep p (e ∷ []) = ap (keep p) z.snoc ∙ keep-joined p (entries_from W s lo i) (e ∷ []) in
@@ -157,7 +149,7 @@ module _ (W : List ℕ) (s : Shape) (k : s.kind ≡ 1) (x lo : ℕ) where
       none_more [] = refl
       none_more (y ∷ ys) = rw (none_more ys) refl
 
-      go : (b : Bool) → ltb (label W s e) x ≡ b → cond b best (lower_of (label W s) e best) ≡ least_place (label W s) (keep p (entries_from W s lo i) ++ keep p (e ∷ []))
+      go : (b : Bool) → ltb (label W s e) x ≡ b → cond b best (Some (lower_of (label W s) e best)) ≡ least_place (label W s) (keep p (entries_from W s lo i) ++ keep p (e ∷ []))
       go true h =
           let o : keep p (e ∷ []) ≡ [] = keep_one p e false (on-label e ∙ rw h refl) in
           L.is ∙ ap (least_place (label W s)) (sym (rw o (none_more (keep p (entries_from W s lo i)))))
@@ -166,27 +158,27 @@ module _ (W : List ℕ) (s : Shape) (k : s.kind ≡ 1) (x lo : ℕ) where
           rw (L.is, o) (sym (least-snoc-place (label W s) (keep p (entries_from W s lo i)) e))
 
 -- the returns of `lower`
-module _ (lb : ℕ → ℕ) (x e best l : ℕ) (el : l ≡ lb e) where
-  pub lower-below : l < x → best ≡ cond (ltb (lb e) x) best (lower_of lb e best)
-  lower-below h = let z : ltb (lb e) x ≡ true = lt-ltb (lb e) x (omega arith) in rw z refl
+module _ (lb : ℕ → ℕ) (x e l : ℕ) (el : l ≡ lb e) where
+  pub lower-below : (best : Option ℕ) → l < x → best ≡ cond (ltb (lb e) x) best (Some (lower_of lb e best))
+  lower-below best h = let z : ltb (lb e) x ≡ true = lt-ltb (lb e) x (omega arith) in rw z refl
 
-  pub lower-first : x ≤ l → best ≡ 0 → e + 1 ≡ cond (ltb (lb e) x) best (lower_of lb e best)
+  pub lower-first : x ≤ l → Some e ≡ cond (ltb (lb e) x) None (Some (lower_of lb e None))
   unfolding lower_of
-  lower-first h b = let z : ltb (lb e) x ≡ false = le-ltb (lb e) x (omega arith) in rw (z, b, lower_of) (omega arith)
+  lower-first h = let z : ltb (lb e) x ≡ false = le-ltb (lb e) x (omega arith) in rw z refl
 
-  lower-is : (r : ℕ) → x ≤ l → (best ≡ 0 → ⊥) → r ≡ cond (ltb l (lb (best - 1))) (e + 1) best → r ≡ cond (ltb (lb e) x) best (lower_of lb e best)
+  pub lower-new : (b m : ℕ) → x ≤ l → m ≡ lb b → l < m → Some e ≡ cond (ltb (lb e) x) (Some b) (Some (lower_of lb e (Some b)))
   unfolding lower_of
-  lower-is r h n er = let z : ltb (lb e) x ≡ false = le-ltb (lb e) x (omega arith) in er ∙ rw (z, el) (go best n)
-    where
-      go : (best : ℕ) → (best ≡ 0 → ⊥) → cond (ltb (lb e) (lb (best - 1))) (e + 1) best ≡ lower_of lb e best
-      go zero n = absurd (n refl)
-      go (suc b) n = let a : suc b - 1 ≡ b = omega arith in let c : e + 1 ≡ suc e = omega arith in rw (a, c) refl
+  lower-new b m h em n =
+      let z : ltb (lb e) x ≡ false = le-ltb (lb e) x (omega arith) in
+      let y : ltb (lb e) (lb b) ≡ true = lt-ltb (lb e) (lb b) (omega arith) in
+      rw (z, y) refl
 
-  pub lower-new : (m : ℕ) → x ≤ l → (best ≡ 0 → ⊥) → m ≡ lb (best - 1) → l < m → e + 1 ≡ cond (ltb (lb e) x) best (lower_of lb e best)
-  lower-new m h n em b = lower-is (e + 1) h n (let z : ltb l (lb (best - 1)) ≡ true = lt-ltb l (lb (best - 1)) (omega arith) in rw z refl)
-
-  pub lower-old : (m : ℕ) → x ≤ l → (best ≡ 0 → ⊥) → m ≡ lb (best - 1) → m ≤ l → best ≡ cond (ltb (lb e) x) best (lower_of lb e best)
-  lower-old m h n em b = lower-is best h n (let z : ltb l (lb (best - 1)) ≡ false = le-ltb l (lb (best - 1)) (omega arith) in rw z refl)
+  pub lower-old : (b m : ℕ) → x ≤ l → m ≡ lb b → m ≤ l → Some b ≡ cond (ltb (lb e) x) (Some b) (Some (lower_of lb e (Some b)))
+  unfolding lower_of
+  lower-old b m h em n =
+      let z : ltb (lb e) x ≡ false = le-ltb (lb e) x (omega arith) in
+      let y : ltb (lb e) (lb b) ≡ false = le-ltb (lb e) (lb b) (omega arith) in
+      rw (z, y) refl
 
 -- the returns of `mark`
 pub mark-by-plain : (k : ℕ) (lb : ℕ → ℕ) (d x : ℕ) (es : List ℕ) → k ≡ 0 → mark_by k lb d x es ≡ x
@@ -198,7 +190,7 @@ unfolding mark_by
 mark-by-power k lb zero x es z n = absurd (n refl)
 mark-by-power k lb (suc d) x es z n = rw (z, mark_by) refl
 
-pub mark-by-entry : (k : ℕ) (lb : ℕ → ℕ) (d x : ℕ) (es : List ℕ) → k ≡ 1 → d ≡ 0 → mark_by k lb d x es ≡ least_place lb es - 1
+pub mark-by-entry : (k : ℕ) (lb : ℕ → ℕ) (d x : ℕ) (es : List ℕ) → k ≡ 1 → d ≡ 0 → mark_by k lb d x es ≡ unwrap_or (least_place lb es) 0
 unfolding mark_by
 mark-by-entry k lb d x es z n = rw (z, n, mark_by) refl
 
@@ -211,8 +203,8 @@ module _ (W : List ℕ) (s : Shape) (d x : ℕ) (es : List ℕ) where
   unfolding mark_in
   mark-power k n = sym (mark-by-power s.kind (label W s) d x es k n)
 
-pub mark-entry : (W : List ℕ) (s : Shape) (d x lo c e r : ℕ) → s.kind ≡ 1 → d ≡ 0
-    → e ≡ least_place (label W s) (keep (on_side (key_in W s) 0 x false) (entries_from W s lo c)) → r ≡ e - 1
-    → r ≡ mark_in W s d x (keep (on_side (key_in W s) d x false) (entries_from W s lo c))
+pub mark-entry : (W : List ℕ) (s : Shape) (d x lo c : ℕ) (e : Option ℕ) → s.kind ≡ 1 → d ≡ 0
+    → e ≡ least_place (label W s) (keep (on_side (key_in W s) 0 x false) (entries_from W s lo c))
+    → unwrap_or e 0 ≡ mark_in W s d x (keep (on_side (key_in W s) d x false) (entries_from W s lo c))
 unfolding mark_in
-mark-entry W s d x lo c e r k z h er = er ∙ rw z (ap (λ (y : ℕ). y - 1) h ∙ sym (mark-by-entry s.kind (label W s) 0 x (keep (on_side (key_in W s) 0 x false) (entries_from W s lo c)) k refl))
+mark-entry W s d x lo c e k z h = rw z (ap (λ (y : Option ℕ). unwrap_or y 0) h ∙ sym (mark-by-entry s.kind (label W s) 0 x (keep (on_side (key_in W s) 0 x false) (entries_from W s lo c)) k refl))

@@ -1,5 +1,5 @@
 -- The two sides of the c entries from place lo of the permutation on. Assumes nothing.
-use Rattle.std.specs.Prelude.{Bool, true, false, not, cond, List, ℕ, zero, suc, ltb}
+use Rattle.std.specs.Prelude.{Bool, true, false, not, cond, Option, Some, None, List, ℕ, ltb}
 use Rattle.index_image.specs.Rows.{entries_from}
 use Rattle.index_image.specs.declared.Shape.{Shape}
 use Rattle.kd_theory.specs.Bag.{keep}
@@ -16,6 +16,6 @@ abbrev pub others : List ℕ → Shape → ℕ → ℕ → ℕ → ℕ → List 
 others W s d x lo c = keep (on_side (key_in W s) d x false) (entries_from W s lo c)
 
 -- of entry y and the one so far, the one of the lower label; the first of equals
-unfoldable pub lower_of : (ℕ → ℕ) → ℕ → ℕ → ℕ
-lower_of lb y zero = suc y
-lower_of lb y (suc b) = cond (ltb (lb y) (lb b)) (suc y) (suc b)
+unfoldable pub lower_of : (ℕ → ℕ) → ℕ → Option ℕ → ℕ
+lower_of lb y None = y
+lower_of lb y (Some b) = cond (ltb (lb y) (lb b)) y b

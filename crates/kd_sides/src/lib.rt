@@ -1,7 +1,7 @@
 // The entries of a leaf of the k-d tree, parted into the two sides of a branch, and the key of that branch.
 #![tactic(auto)]
 
-ghost use Rattle.std.specs.Prelude.{◌≡◌, true, false, cond, [], ◌∷◌, ◌++◌, ◌+◌, ◌*◌, ◌<◌, ◌≤◌, ltb, length};
+ghost use Rattle.std.specs.Prelude.{◌≡◌, true, false, cond, Some, IfSome, ◌++◌, ◌+◌, ◌*◌, ◌<◌, ◌≤◌, ltb, length};
 ghost use Rattle.words.specs.Words.{words, paste_w};
 ghost use Rattle.index_image.specs.Shape as at;
 ghost use Rattle.index_image.specs.Walk as walk;
@@ -12,41 +12,14 @@ ghost use Rattle.kd_sides.specs.Sides.{lower_of, on_side, lesses, others};
 
 use index_image::Shape;
 
-// Whether entry e is on the side that is wanted.
+// Whether entry e is on the side that is wanted: the less side, if `want` is true.
 fn wanted(image: &[u8], s: Shape, d: usize, x: u32, want: bool, e: usize) -> bool
     requires ready { walk.Ready (words image.now) s }
     requires d_bound { (d < walk.dims s) × (e < s.entries) }
     ensures { result ≡ on_side (key_in (words image.now) s) d x want e }
 {
-    let v = kd_dimension::key_in(image, s, d, e);
-    if want {
-        return v < x as u64;
-    }
-    x as u64 <= v
-}
-
-// Writes entry e as word `at` of `out`, if it is on the side that is wanted. Returns how many words that is.
-fn push(
-    image: &[u8],
-    s: Shape,
-    d: usize,
-    x: u32,
-    want: bool,
-    e: u32,
-    out: &mut [u8],
-    at: usize,
-) -> usize
-    requires ready { walk.Ready (words image.now) s }
-    requires d_bound { (d < walk.dims s) × (e < s.entries) }
-    requires e_in_bounds { 4 * (at + length (keep (on_side (key_in (words image.now) s) d x want) (e ∷ []))) ≤ length out.old }
-    ensures value { result ≡ length (keep (on_side (key_in (words image.now) s) d x want) (e ∷ [])) }
-    ensures out_after { out.new ≡ paste_w out.old at (keep (on_side (key_in (words image.now) s) d x want) (e ∷ [])) }
-{
-    if wanted(image, s, d, x, want, e as usize) {
-        words::put(out, at, e);
-        return 1;
-    }
-    0
+    let below = kd_dimension::key_in(image, s, d, e) < u64::from(x);
+    below == want
 }
 
 // Writes those of the c entries from place lo on that are on the side wanted, in their order, from word `at` of `out` on. Returns how many they are.
@@ -68,12 +41,13 @@ fn gather(
     ensures out_after { out.new ≡ paste_w out.old at (keep (on_side (key_in (words image.now) s) d x want) (entries_from (words image.now) s lo c)) }
 {
     let p = s.permutation_at() + lo;
-    let mut n: usize = 0;
-    let mut i: usize = 0;
-    while i < c {
+    let mut n = 0;
+    for i in 0..c {
         let e = words::get(image, p + i);
-        n += push(image, s, d, x, want, e, out, at + n);
-        i += 1;
+        if wanted(image, s, d, x, want, e as usize) {
+            words::put(out, at + n, e);
+            n += 1;
+        }
     }
     n
 }
@@ -93,38 +67,40 @@ pub fn part_entries(image: &mut [u8], s: Shape, d: usize, x: u32, lo: usize, c: 
     n
 }
 
-// Of entry e and the one so far (0, or an entry + 1) the one of the lower label, if that of e is not below x.
-fn lower(image: &[u8], s: Shape, x: u32, e: usize, best: usize) -> usize
+// Of entry e and the one so far the one of the lower label, if that of e is not below x.
+fn lower(image: &[u8], s: Shape, x: u32, e: usize, best: Option<usize>) -> Option<usize>
     requires ready { walk.Ready (words image.now) s }
-    requires kind_value { (s.kind ≡ 1) × ((e < s.entries) × (best ≤ s.entries)) }
-    ensures { (result ≡ cond (ltb (walk.label (words image.now) s e) x) best (lower_of (walk.label (words image.now) s) e best)) × (result ≤ s.entries) }
+    requires kind_value { (s.kind ≡ 1) × (e < s.entries) }
+    requires best_bound { IfSome best (λ b. b < s.entries) }
+    ensures value { result ≡ cond (ltb (walk.label (words image.now) s e) x) best (Some (lower_of (walk.label (words image.now) s) e best)) }
+    ensures bound { IfSome result (λ b. b < s.entries) }
 {
     let l = index_image::stored::label_in(image, s, e);
-    if l < x as u64 {
+    if l < u64::from(x) {
         return best;
     }
-    if best == 0 {
-        return e + 1;
+    let Some(b) = best else {
+        return Some(e);
+    };
+    if l < index_image::stored::label_in(image, s, b) {
+        Some(e)
+    } else {
+        best
     }
-    if l < index_image::stored::label_in(image, s, best - 1) {
-        return e + 1;
-    }
-    best
 }
 
-// The first of least label among those of the c entries from place lo on whose label is not below x: 0, or the entry + 1.
-fn first_least(image: &[u8], s: Shape, x: u32, lo: usize, c: usize) -> usize
+// The first of least label among those of the c entries from place lo on whose label is not below x.
+fn first_least(image: &[u8], s: Shape, x: u32, lo: usize, c: usize) -> Option<usize>
     requires ready { walk.Ready (words image.now) s }
     requires kind_value { (s.kind ≡ 1) × (lo + c ≤ s.entries) }
-    ensures { (result ≡ least_place (walk.label (words image.now) s) (keep (on_side (key_in (words image.now) s) 0 x false) (entries_from (words image.now) s lo c))) × (result ≤ s.entries) }
+    ensures value { result ≡ least_place (walk.label (words image.now) s) (keep (on_side (key_in (words image.now) s) 0 x false) (entries_from (words image.now) s lo c)) }
+    ensures bound { IfSome result (λ e. e < s.entries) }
 {
     let p = s.permutation_at() + lo;
-    let mut best: usize = 0;
-    let mut i: usize = 0;
-    while i < c {
+    let mut best = None;
+    for i in 0..c {
         let e = words::get(image, p + i) as usize;
         best = lower(image, s, x, e, best);
-        i += 1;
     }
     best
 }
@@ -135,15 +111,11 @@ pub fn mark(image: &[u8], s: Shape, d: usize, x: u32, lo: usize, c: usize) -> u3
     requires c_bound { lo + c ≤ s.entries }
     ensures { result ≡ mark_in (words image.now) s d x (others (words image.now) s d x lo c) }
 {
-    if s.kind == 0 {
+    if s.kind == 0 || d != 0 {
         return x;
     }
-    if d != 0 {
-        return x;
+    match first_least(image, s, x, lo, c) {
+        Some(e) => e as u32,
+        None => 0,
     }
-    let e = first_least(image, s, x, lo, c);
-    if e == 0 {
-        return 0;
-    }
-    (e - 1) as u32
 }

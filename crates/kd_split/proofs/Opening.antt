@@ -2,6 +2,7 @@
 use mathlib.Core.Path.{◌≡◌, refl, sym, ap, ◌∙◌}
 use mathlib.Core.Bool.{Bool, true, false, not, cond}
 use mathlib.Core.Option.{Option, none, some}
+use Rattle.std.specs.Prelude.{Some, None}
 use mathlib.Core.List.{List, [], ◌∷◌}
 use Prim.Native.Nat.{ℕ, zero, suc, ◌+◌, ◌-◌, ◌*◌, ◌%◌, ◌≤◌, ◌<◌}
 use native.Mathlib.Omega.{arith}
@@ -26,10 +27,8 @@ use Rattle.index_image.specs.Rows.{entries_from}
 use Rattle.index_image.specs.declared.Shape.{Shape}
 use Rattle.index_image.proofs.Trees.{some-node, nodes-leaf}
 use Rattle.kd_dimension.specs.declared.Average.{Average}
-use Rattle.kd_dimension.specs.declared.Dimension.{Dimension}
-use Rattle.kd_dimension.specs.declared.Dimension.TheVariants.{At, Flat}
 use Rattle.kd_image.specs.HasTree.{HasTree, Became}
-use Rattle.kd_split.specs.Split.{RootSplitAs, RootSplit}
+use Rattle.kd_split.specs.Split.{RootBranch, RootSplitAs, RootSplit}
 use Rattle.kd_dimension.specs.Choice.{key_by, least_place, mark_by, key_in, mark_in, Chose}
 use Rattle.kd_split.specs.Split.{Standing, Splittable, SplitAt}
 use Rattle.kd_sides.specs.Sides.{on_side}
@@ -142,9 +141,7 @@ module _ (es : List Entry) (l : map.State) (k : ℕ) (one : k ≡ 1) (pw : ℕ �
   unfolding ratio_mark least_place
   ratio-mark zero m [] h = sym (mark-by-entry k lb 0 m [] one refl)
   ratio-mark zero m (x ∷ xs) h =
-      let a = first_least-ext (λ e. label_of l (ratio_of (entry_at es e))) lb x xs (λ e i. sym (h e i)) in
-      let b : first_least lb x xs ≡ suc (first_least lb x xs) - 1 = omega arith in
-      a ∙ b ∙ sym (mark-by-entry k lb 0 m (x ∷ xs) one refl)
+      first_least-ext (λ e. label_of l (ratio_of (entry_at es e))) lb x xs (λ e i. sym (h e i)) ∙ sym (mark-by-entry k lb 0 m (x ∷ xs) one refl)
   ratio-mark (suc v) m xs h = sym (mark-by-power k lb (suc v) m xs one (λ z. omega arith))
 
 -- the split of a leaf, by the words
@@ -198,17 +195,13 @@ module _ (bs : List ℕ) (s : Shape) (k lo rows : ℕ) where
       }
 
   -- a branch stays as it is
-  pub node-branch : (dim : ℕ) → (get_or (words bs) (at.node_at s k) 0 ≡ 0 → ⊥) → RootSplit bs bs s dim k lo rows rows
+  pub node-branch : (dim : ℕ) → (get_or (words bs) (at.node_at s k) 0 ≡ 0 → ⊥) → RootSplit bs bs s dim k lo rows (Some rows)
   unfolding RootSplit RootSplitAs split_root
   node-branch dim z st t h = go t h
     where
-      branch-as : (d key : ℕ) (a b : Tree) (n : ℕ) → n ≡ rows → HasTree st (words bs) s k lo rows (branch d key a b) → RootSplitAs st bs bs s dim k lo rows (branch d key a b) n
-      branch-as d key a b zero e h = absurd (omega (arith, h.fits, some-node (branch d key a b)))
-      branch-as d key a b (suc n) e h = record { d = d; key = key; less = a; other = b; split_root-is = refl; became = rw e (became-refl st s bs k lo rows (branch d key a b) h) }
-
-      go : (t : Tree) → HasTree st (words bs) s k lo rows t → RootSplitAs st bs bs s dim k lo rows t rows
+      go : (t : Tree) → HasTree st (words bs) s k lo rows t → RootBranch st bs bs s dim k lo rows t rows
       go (leaf es) h = absurd (z (leaf-of st es h).tag_is)
-      go (branch d key a b) h = branch-as d key a b rows refl h
+      go (branch d key a b) h = record { d = d; key = key; less = a; other = b; split_root-is = refl; became = became-refl st s bs k lo rows (branch d key a b) h }
 
   module _ (z : get_or (words bs) (at.node_at s k) 0 ≡ 0) where
     -- which leaf it is
@@ -238,15 +231,15 @@ module _ (bs : List ℕ) (s : Shape) (k lo rows : ℕ) where
     unfolding split_leaf
     leaf-some es x = refl
 
-    as-zero : (st : State) (dim : ℕ) (t : Tree) (l : IsLeaf st t) → split_root (split st) dim (leaf l.es) ≡ leaf l.es → RootSplitAs st bs bs s dim k lo rows t 0
+    as-none : (st : State) (dim : ℕ) (t : Tree) (l : IsLeaf st t) → split_root (split st) dim (leaf l.es) ≡ leaf l.es → RootSplitAs st bs bs s dim k lo rows t None
     unfolding RootSplitAs
-    as-zero st dim t l e = record { es = l.es; is = l.is; split_root-is = ap (split_root (split st) dim) l.is ∙ e; bytes = refl }
+    as-none st dim t l e = record { es = l.es; is = l.is; split_root-is = ap (split_root (split st) dim) l.is ∙ e; bytes = refl }
 
-    pub node-short : (dim : ℕ) → get_or (words bs) (at.node_at s k + 2) 0 ≤ 64 → RootSplit bs bs s dim k lo rows 0
+    pub node-short : (dim : ℕ) → get_or (words bs) (at.node_at s k + 2) 0 ≤ 64 → RootSplit bs bs s dim k lo rows None
     unfolding RootSplit
     node-short dim h st t w =
         let l = is_leaf st t w in
-        as-zero st dim t l (split_root-stays st dim l.es false (split st dim l.es) (le-ltb 64 (length l.es) (omega (arith, l.count))) refl ∙ leaf-false l.es (split st dim l.es))
+        as-none st dim t l (split_root-stays st dim l.es false (split st dim l.es) (le-ltb 64 (length l.es) (omega (arith, l.count))) refl ∙ leaf-false l.es (split st dim l.es))
 
     pub record LeafHere (c : ℕ) : Type 0 where
       pub few : lo + c ≤ s.entries
@@ -255,36 +248,32 @@ module _ (bs : List ℕ) (s : Shape) (k lo rows : ℕ) where
     pub leaf-here : (c : ℕ) → c ≡ get_or (words bs) (at.node_at s k + 2) 0 → Standing bs s k lo rows → LeafHere c
     leaf-here c e w = let l = is_leaf w.state w.tree w.has in record { few = omega (arith, l.count, l.has.inside); is = e }
 
-    module _ (c : ℕ) (ec : c ≡ get_or (words bs) (at.node_at s k + 2) 0) (many : 64 < c) (dim : ℕ) (D : Dimension)
-        (C : Chose (key_in (words bs) s) (mark_in (words bs) s) (dims s) (dims s) dim (entries_from (words bs) s lo c) D) where
+    module _ (c : ℕ) (ec : c ≡ get_or (words bs) (at.node_at s k + 2) 0) (many : 64 < c) (dim : ℕ) where
       entries-are : (st : State) (t : Tree) (l : IsLeaf st t) → entries_from (words bs) s lo c ≡ l.es
       entries-are st t l = let e : c ≡ length l.es = ec ∙ l.count in rw e l.has.stands.perm
 
-      pub node-flat : D ≡ Flat → RootSplit bs bs s dim k lo rows 0
+      pub node-flat : Chose (key_in (words bs) s) (mark_in (words bs) s) (dims s) (dims s) dim (entries_from (words bs) s lo c) None → RootSplit bs bs s dim k lo rows None
       unfolding RootSplit Chose
-      node-flat e st t w =
+      node-flat C st t w =
           let l = is_leaf st t w in
-          let n : try_from (key_in (words bs) s) (mark_in (words bs) s) (dims s) (dims s) dim l.es ≡ none = rw (entries-are st t l) at (flat e C) in
-          as-zero st dim t l (split_root-stays st dim l.es true none (lt-ltb 64 (length l.es) (omega (arith, l.count)))
+          let x : try_from (key_in (words bs) s) (mark_in (words bs) s) (dims s) (dims s) dim (entries_from (words bs) s lo c) ≡ none = C in
+          let n : try_from (key_in (words bs) s) (mark_in (words bs) s) (dims s) (dims s) dim l.es ≡ none = rw (entries-are st t l) at x in
+          as-none st dim t l (split_root-stays st dim l.es true none (lt-ltb 64 (length l.es) (omega (arith, l.count)))
           (split-is st (words bs) s k lo rows dim l.es l.has ∙ n) ∙ leaf-none l.es)
-        where
-          flat : {D : Dimension} → D ≡ Flat → Chose (key_in (words bs) s) (mark_in (words bs) s) (dims s) (dims s) dim (entries_from (words bs) s lo c) D
-              → try_from (key_in (words bs) s) (mark_in (words bs) s) (dims s) (dims s) dim (entries_from (words bs) s lo c) ≡ none
-          flat e x = rw e at x
 
       record Chosen (a : Average) : Type 0 where
         is : try_from (key_in (words bs) s) (mark_in (words bs) s) (dims s) (dims s) dim (entries_from (words bs) s lo c) ≡ some
             (cut (key_in (words bs) s) (mark_in (words bs) s) a.dim a.value (entries_from (words bs) s lo c))
         small : a.dim < dims s
 
-      chosen : (a : Average) → D ≡ At a → Chosen a
+      chosen : (a : Average) → Chose (key_in (words bs) s) (mark_in (words bs) s) (dims s) (dims s) dim (entries_from (words bs) s lo c) (Some a) → Chosen a
       unfolding Chose
-      chosen a e = let x : Chose (key_in (words bs) s) (mark_in (words bs) s) (dims s) (dims s) dim (entries_from (words bs) s lo c) (At a) = rw e at C in record { is = x.0; small = x.1 }
+      chosen a C = record { is = C.0; small = C.1 }
 
-      pub splittable : (a : Average) → D ≡ At a → Standing bs s k lo rows → Splittable bs s k lo rows c a.dim
-      splittable a e w =
+      pub splittable : (a : Average) → Chose (key_in (words bs) s) (mark_in (words bs) s) (dims s) (dims s) dim (entries_from (words bs) s lo c) (Some a) → Standing bs s k lo rows → Splittable bs s k lo rows c a.dim
+      splittable a C w =
           let l = is_leaf w.state w.tree w.has in
-          record { state = w.state; es = l.es; has = l.has; count = ec ∙ l.count; many = many; dim = (chosen a e).small }
+          record { state = w.state; es = l.es; has = l.has; count = ec ∙ l.count; many = many; dim = (chosen a C).small }
 
       cut-is : (d m : ℕ) (es : List ℕ) → branch (cut (key_in (words bs) s) (mark_in (words bs) s) d m es).dim (cut (key_in (words bs) s) (mark_in (words bs) s) d m es).key
           (leaf (cut (key_in (words bs) s) (mark_in (words bs) s) d m es).less) (leaf (cut (key_in (words bs) s) (mark_in (words bs) s) d m es).other)
@@ -293,26 +282,25 @@ module _ (bs : List ℕ) (s : Shape) (k lo rows : ℕ) where
       unfolding cut on_side
       cut-is d m es = refl
 
-      as-more : (st : State) (t : Tree) (d key : ℕ) (x y : Tree) (bs' : List ℕ) (n : ℕ) → 0 < n → split_root (split st) dim t ≡ branch d key x y
-          → Became st bs bs' s k lo rows n t (branch d key x y) → RootSplitAs st bs bs' s dim k lo rows t n
+      as-some : (st : State) (t : Tree) (d key : ℕ) (x y : Tree) (bs' : List ℕ) (n : ℕ) → split_root (split st) dim t ≡ branch d key x y
+          → Became st bs bs' s k lo rows n t (branch d key x y) → RootSplitAs st bs bs' s dim k lo rows t (Some n)
       unfolding RootSplitAs
-      as-more st t d key x y bs' zero h e b = absurd (omega arith)
-      as-more st t d key x y bs' (suc n) h e b = record { d = d; key = key; less = x; other = y; split_root-is = e; became = b }
+      as-some st t d key x y bs' n e b = record { d = d; key = key; less = x; other = y; split_root-is = e; became = b }
 
-      pub node-split : (a : Average) → D ≡ At a → (bs' : List ℕ) → SplitAt bs bs' s k lo rows a.dim a.value → RootSplit bs bs' s dim k lo rows (rows + 2)
+      pub node-split : (a : Average) → Chose (key_in (words bs) s) (mark_in (words bs) s) (dims s) (dims s) dim (entries_from (words bs) s lo c) (Some a) → (bs' : List ℕ) → SplitAt bs bs' s k lo rows a.dim a.value → RootSplit bs bs' s dim k lo rows (Some (rows + 2))
       unfolding RootSplit SplitAt
-      node-split a e bs' S st t w =
+      node-split a C bs' S st t w =
           let l = is_leaf st t w in
           let es = l.es in
           let y : try_from (key_in (words bs) s) (mark_in (words bs) s) (dims s) (dims s) dim es ≡ some
-          (cut (key_in (words bs) s) (mark_in (words bs) s) a.dim a.value es) = rw (entries-are st t l) at (chosen a e).is in
+          (cut (key_in (words bs) s) (mark_in (words bs) s) a.dim a.value es) = rw (entries-are st t l) at (chosen a C).is in
           let o : split_root (split st) dim t ≡ branch a.dim (mark_in (words bs) s a.dim a.value (keep (on_side (key_in (words bs) s) a.dim a.value false) es))
           (leaf (keep (on_side (key_in (words bs) s) a.dim a.value true) es)) (leaf (keep (on_side (key_in (words bs) s) a.dim a.value false) es)) =
           ap (split_root (split st) dim) l.is
           ∙ split_root-stays st dim es true (some (cut (key_in (words bs) s) (mark_in (words bs) s) a.dim a.value es))
           (lt-ltb 64 (length es) (omega (arith, l.count))) (split-is st (words bs) s k lo rows dim es l.has ∙ y)
           ∙ leaf-some es (cut (key_in (words bs) s) (mark_in (words bs) s) a.dim a.value es) ∙ cut-is a.dim a.value es in
-          as-more st t a.dim _ _ _ bs' (rows + 2) (omega arith) o (turned l.is (S st es l.has))
+          as-some st t a.dim _ _ _ bs' (rows + 2) o (turned l.is (S st es l.has))
         where
           turned : {t u v : Tree} → t ≡ u → Became st bs bs' s k lo rows (rows + 2) u v → Became st bs bs' s k lo rows (rows + 2) t v
           turned e b = rw e b

@@ -1,5 +1,5 @@
 -- What the functions that split a leaf ask and promise. Assumes nothing.
-use Rattle.std.specs.Prelude.{◌≡◌, true, false, List, ℕ, zero, suc, ◌+◌, ◌<◌, length}
+use Rattle.std.specs.Prelude.{◌≡◌, true, false, Option, Some, None, List, ℕ, ◌+◌, ◌<◌, length}
 use Rattle.words.specs.Words.{words}
 use Rattle.index_image.specs.Walk.{dims}
 use Rattle.index_image.specs.declared.Shape.{Shape}
@@ -34,7 +34,7 @@ SplitAt bs bs' s k lo rows d x =
     (branch d (mark_in (words bs) s d x (keep (on_side (key_in (words bs) s) d x false) es)) (leaf (keep (on_side (key_in (words bs) s) d x true) es))
     (leaf (keep (on_side (key_in (words bs) s) d x false) es)))
 
--- a node is opened: n is 0 where it is a leaf that stays, else the number of rows then in use
+-- a node is opened: n is none where it is a leaf that stays, else the number of rows then in use
 pub record Stays (st : State) (bs bs' : List ℕ) (dim : ℕ) (t : Tree) : Type 0 where
   pub es : List ℕ
   pub is : t ≡ leaf es
@@ -49,9 +49,9 @@ pub record RootBranch (st : State) (bs bs' : List ℕ) (s : Shape) (dim k lo row
   pub split_root-is : split_root (split st) dim t ≡ branch d key less other
   pub became : Became st bs bs' s k lo rows n t (branch d key less other)
 
-unfoldable pub RootSplitAs : (st : State) (bs bs' : List ℕ) (s : Shape) (dim k lo rows : ℕ) (t : Tree) → ℕ → Type 0
-RootSplitAs st bs bs' s dim k lo rows t zero = Stays st bs bs' dim t
-RootSplitAs st bs bs' s dim k lo rows t (suc n) = RootBranch st bs bs' s dim k lo rows t (suc n)
+unfoldable pub RootSplitAs : (st : State) (bs bs' : List ℕ) (s : Shape) (dim k lo rows : ℕ) (t : Tree) → Option ℕ → Type 0
+RootSplitAs st bs bs' s dim k lo rows t None = Stays st bs bs' dim t
+RootSplitAs st bs bs' s dim k lo rows t (Some n) = RootBranch st bs bs' s dim k lo rows t n
 
-unfoldable pub RootSplit : (bs bs' : List ℕ) (s : Shape) (dim k lo rows n : ℕ) → Type 0
+unfoldable pub RootSplit : (bs bs' : List ℕ) (s : Shape) (dim k lo rows : ℕ) → Option ℕ → Type 0
 RootSplit bs bs' s dim k lo rows n = (st : State) (t : Tree) → HasTree st (words bs) s k lo rows t → RootSplitAs st bs bs' s dim k lo rows t n

@@ -5,7 +5,6 @@ ghost use Rattle.std.specs.Prelude.{◌≤◌};
 ghost use Rattle.kd_split.specs.Split.{Standing, Splittable, SplitAt, RootSplit};
 
 use index_image::{Shape, fields};
-use kd_dimension::Dimension;
 
 // Splits the leaf at row k, of the c entries from place lo on, in dimension d at x. In dimension 0 of a ratio index the key is an entry.
 pub fn split_leaf(
@@ -32,25 +31,28 @@ pub fn split_leaf(
     kd_rows::write_leaf(image, s, at + 2 * w, lo + n, c - n);
 }
 
-// Opens the node at row k: a leaf of more than 64 entries is split, if it can be. 0 where it is a leaf that stays, else the rows in use.
-pub fn split_node(image: &mut [u8], s: Shape, dim: usize, k: usize, lo: usize, rows: usize) -> usize
+// Opens the node at row k: a leaf of more than 64 entries is split, if it can be. None where it is a leaf that stays, else the rows in use.
+pub fn split_node(
+    image: &mut [u8],
+    s: Shape,
+    dim: usize,
+    k: usize,
+    lo: usize,
+    rows: usize,
+) -> Option<usize>
     requires standing { Standing image.old s k lo rows }
     requires dim_bound { dim ≤ 65 }
     ensures { RootSplit image.old image.new s dim k lo rows result }
 {
     let at = s.node_at(k);
     if words::get(image, at) != 0 {
-        return rows;
+        return Some(rows);
     }
     let c = words::get(image, at + fields::COUNT) as usize;
     if c <= 64 {
-        return 0;
+        return None;
     }
-    match kd_dimension::choose(image, s, dim, lo, c) {
-        Dimension::At(a) => {
-            split_leaf(image, s, k, lo, rows, c, a.dim, a.value);
-            rows + 2
-        }
-        Dimension::Flat => 0,
-    }
+    let a = kd_dimension::choose(image, s, dim, lo, c)?;
+    split_leaf(image, s, k, lo, rows, c, a.dim, a.value);
+    Some(rows + 2)
 }

@@ -20,7 +20,8 @@ pub enum Search {
     Singular,
 }
 
-// Its number in the words of a query.
+// Its number in the words of a query: they are 32-bit words of a slice, since nothing here is on the heap.
+#[tactic(auto, unfolding(crate::specs::Asked::search_number))]
 pub fn number(search: Search) -> usize
     ensures { result ≡ search_number search }
 {
@@ -83,27 +84,23 @@ pub fn num(q: &[u8], i: usize) -> usize
 }
 
 // What the words of a query search for.
+#[tactic(auto, unfolding(crate::specs::Asked::search_number))]
 pub fn search_in(q: &[u8]) -> Search
     requires in_bounds { 368 ≤ length q.now }
     requires q_bound { search_in (words q.now) ≤ 4 }
     ensures { search_in (words q.now) ≡ search_number result }
 {
-    let n = num(q, SEARCH);
-    if n == 0 {
-        return Search::Contained;
+    match num(q, SEARCH) {
+        0 => Search::Contained,
+        1 => Search::Reducer,
+        2 => Search::High,
+        3 => Search::Low,
+        _ => Search::Singular,
     }
-    if n == 1 {
-        return Search::Reducer;
-    }
-    if n == 2 {
-        return Search::High;
-    }
-    if n == 3 {
-        return Search::Low;
-    }
-    Search::Singular
 }
 
+// The shape of the image that is asked.
+#[tactic(auto, unfolding(crate::specs::Asked::shape_in))]
 pub fn shape(q: &[u8]) -> Shape
     requires { 368 ≤ length q.now }
     ensures { result ≡ shape_in (words q.now) }
@@ -144,5 +141,5 @@ pub fn label(image: &[u8], q: &[u8], e: usize) -> u64
     ensures { (result ≡ walk.label (words image.now) (shape_in (words q.now)) e) × (result < 4294967296) }
 {
     let row = num(image, num(q, ROW) + e * num(q, ENTRY_WIDTH));
-    num(image, num(q, LABEL) + row * num(q, ROW_WIDTH)) as u64
+    u64::from(words::get(image, num(q, LABEL) + row * num(q, ROW_WIDTH)))
 }

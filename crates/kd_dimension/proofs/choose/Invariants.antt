@@ -1,13 +1,9 @@
-use Rattle.kd_dimension.proofs.Choosing.{Tried}
-use Prim.Native.Nat.{◌-◌, ◌≤◌}
 use Rattle.words.specs.Words.{words}
 use Rattle.index_image.specs.Walk as walk
 use Rattle.index_image.specs.Rows.{entries_from}
 use Rattle.kd_dimension.specs.Choice.{key_in, mark_in}
+use Rattle.kd_dimension.proofs.Choosing.{Tried}
 use Rattle.kd_dimension.proofs.choose.Given as goal
 
 abbrev pub invariant-loop-i : goal.invariant-loop-i
-invariant-loop-i l = (l.i ≤ l.n) × Tried (key_in (words l.image) l.s) (mark_in (words l.image) l.s) (walk.dims l.s) l.dim (entries_from (words l.image) l.s l.lo l.c) l.i
-
-abbrev pub decreases-loop-i : goal.decreases-loop-i
-decreases-loop-i l = l.n - l.i
+invariant-loop-i l = Tried (key_in (words l.image) l.s) (mark_in (words l.image) l.s) (walk.dims l.s) l.dim (entries_from (words l.image) l.s l.lo l.c) l.i

@@ -1,10 +1,6 @@
-use Prim.Native.Nat.{◌-◌, ◌≤◌}
 use Rattle.words.specs.Words.{words}
 use Rattle.kd_dimension.proofs.Choosing.{Extremes}
 use Rattle.kd_dimension.proofs.extremes.Given as goal
 
 abbrev pub invariant-loop-i : goal.invariant-loop-i
-invariant-loop-i l = (l.i ≤ l.c) × Extremes (words l.image) l.s l.v l.lo l.i l.least l.greatest
-
-abbrev pub decreases-loop-i : goal.decreases-loop-i
-decreases-loop-i l = l.c - l.i
+invariant-loop-i l = Extremes (words l.image) l.s l.v l.lo l.i l.least l.greatest

@@ -1,27 +1,24 @@
-use native.Mathlib.Omega.{arith}
-use mathlib.Core.Path.{refl, ◌∙◌}
-use lib.ListN.{length}
-use Prim.Native.Nat.{◌-◌, ◌*◌}
+use Rattle.std.proofs.Common.{length, ◌-◌, ◌*◌, refl, ◌∙◌, arith}
 use Rattle.index_image.proofs.Places.{entry-room}
-use Rattle.kd_dimension.proofs.Choosing.{power-read}
 use Rattle.index_image.proofs.Asking.{rest-starts, rest-first}
+use Rattle.kd_dimension.proofs.Choosing.{power-read}
 use Rattle.kd_dimension.proofs.power_in.Goals as goal
 
 pub overflow_mul-a : goal.overflow_mul-a
-overflow_mul-a c = omega (arith, entry-room c.args.image.now _ c.requires.ready c.args.e c.requires.v_lt_variables.1, c.entry_at-a.ensures)
+overflow_mul-a c = omega (arith, entry-room c.args.image.now _ c.requires.ready c.args.e c.requires.v_lt_variables.1)
 
 pub slice_bounds-power_of-count : goal.slice_bounds-power_of-count
-slice_bounds-power_of-count c = omega (arith, entry-room c.args.image.now _ c.requires.ready c.args.e c.requires.v_lt_variables.1, c.entry_at-a.ensures)
+slice_bounds-power_of-count c = omega (arith, entry-room c.args.image.now _ c.requires.ready c.args.e c.requires.v_lt_variables.1)
 
 pub slice_bounds-power_of-start : goal.slice_bounds-power_of-start
-slice_bounds-power_of-start c = omega (arith, entry-room c.args.image.now _ c.requires.ready c.args.e c.requires.v_lt_variables.1, c.entry_at-a.ensures)
+slice_bounds-power_of-start c = omega (arith, entry-room c.args.image.now _ c.requires.ready c.args.e c.requires.v_lt_variables.1)
 
 pub slice_bounds-power_of-end : goal.slice_bounds-power_of-end
-slice_bounds-power_of-end c = omega (arith, entry-room c.args.image.now _ c.requires.ready c.args.e c.requires.v_lt_variables.1, c.entry_at-a.ensures)
+slice_bounds-power_of-end c = omega (arith, entry-room c.args.image.now _ c.requires.ready c.args.e c.requires.v_lt_variables.1)
 
 pub power_of-requires : goal.power_of-requires
 power_of-requires c = record {
-  le_kind = (omega arith, (omega arith, omega (arith, c.requires.v_lt_variables.0, c.requires.ready.range.vars-to)));
+  id = omega arith;
   starts = rest-starts c.args.image.now c.args.s.variables c.entry_at-a.result
       (length c.args.image.now - 4 * c.entry_at-a.result) (omega arith)
       (rw c.entry_at-a.ensures (c.requires.ready.lms c.args.e c.requires.v_lt_variables.1));

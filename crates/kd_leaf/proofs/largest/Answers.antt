@@ -7,8 +7,7 @@ pub least_above-least-requires : goal.least_above-least-requires
 least_above-least-requires c = record { laid = c.requires.ready_entries.asks.laid; ready = entries-ready _ _ _ _ _ _ _ c.requires.ready_entries; q_value = (has-labels _ _ _ _ _ _ _ c.requires.ready_entries (λ z. omega (arith, c.requires.bound)), rw c.best-found.ensures c.requires.ready_entries.small) }
 
 pub loop-i-init : goal.loop-i-init
-loop-i-init c =
-    (omega arith, (rw c.best-found.ensures c.requires.ready_entries.small, (c.least_above-least.ensures, rw c.best-found.ensures (scan-none _ _ _ _ _ _ _ c.requires.ready_entries.inside))))
+loop-i-init c = (rw c.best-found.ensures c.requires.ready_entries.small, (c.least_above-least.ensures, rw c.best-found.ensures (scan-none _ _ _ _ _ _ _ c.requires.ready_entries.inside)))
 
 pub overflow_add-lo : goal.overflow_add-lo
 overflow_add-lo c = omega (arith, c.requires.ready_entries.inside, few-entries _ _ _ _ _ _ _ c.requires.ready_entries)
@@ -25,50 +24,38 @@ overflow_add-found c = omega (arith, c.entry_at-e.ensures.1, few-entries _ _ _ _
 pub least_above-least-requires-then-counts : goal.least_above-least-requires-then-counts
 least_above-least-requires-then-counts c = record { laid = c.requires.ready_entries.asks.laid; ready = entries-ready _ _ _ _ _ _ _ c.requires.ready_entries; q_value = (has-labels _ _ _ _ _ _ _ c.requires.ready_entries (λ z. omega (arith, c.requires.bound)), omega (arith, c.entry_at-e.ensures.1)) }
 
-pub overflow_add-i : goal.overflow_add-i
-overflow_add-i c = omega arith
-
-pub loop-i-smaller : goal.loop-i-smaller
-loop-i-smaller c = omega arith
-
 pub loop-i-preserved : goal.loop-i-preserved
 loop-i-preserved c =
     let loop = c.loop-i in
     let loop-test = c.loop-i-test in
     let entry_at = c.entry_at-e in
-    let p = rw loop.invariant.1.1.0 at c.counts.ensures in
+    let p = rw loop.invariant.1.0 at c.counts.ensures in
     elim c.if-counts.branch [
       | then-counts w ↦ (
-        omega arith,
+        rw w.found-is (omega (arith, entry_at.ensures.1)),
         (
-          rw w.found-is (omega (arith, entry_at.ensures.1)),
-          (
-            rw (w.found-is, w.least-is) w.least_above-least-then-counts.ensures,
-            rw w.found-is (scan-more _ _ _ _ _ _ _ c.requires.ready_entries.inside _ _ _ loop.invariant.1.1.1 loop-test.true entry_at.ensures.0
-                _ (largest-hit _ _ _ _ _ _ entry_at.ensures.1 _ c.requires.bound.0 c.requires.bound.1 loop.invariant.1.0 p w.if-counts.true)),
-          ),
+          rw (w.found-is, w.least-is) w.least_above-least-then-counts.ensures,
+          rw w.found-is (scan-more _ _ _ _ _ _ _ c.requires.ready_entries.inside _ _ _ loop.invariant.1.1 loop-test.true entry_at.ensures.0
+              _ (largest-hit _ _ _ _ _ _ entry_at.ensures.1 _ c.requires.bound.0 c.requires.bound.1 loop.invariant.0 p w.if-counts.true)),
         ),
       )
       | else-counts w ↦ (
-        omega arith,
+        rw w.found-is loop.invariant.0,
         (
-          rw w.found-is loop.invariant.1.0,
-          (
-            rw (w.found-is, w.least-is) loop.invariant.1.1.0,
-            rw w.found-is (scan-more _ _ _ _ _ _ _ c.requires.ready_entries.inside _ _ _ loop.invariant.1.1.1 loop-test.true entry_at.ensures.0 _
-                (largest-miss _ _ _ _ _ _ entry_at.ensures.1 _ c.requires.bound.0 c.requires.bound.1 loop.invariant.1.0 p w.if-counts.false)),
-          ),
+          rw (w.found-is, w.least-is) loop.invariant.1.0,
+          rw w.found-is (scan-more _ _ _ _ _ _ _ c.requires.ready_entries.inside _ _ _ loop.invariant.1.1 loop-test.true entry_at.ensures.0 _
+              (largest-miss _ _ _ _ _ _ entry_at.ensures.1 _ c.requires.bound.0 c.requires.bound.1 loop.invariant.0 p w.if-counts.false)),
         ),
       )
     ]
 
 pub going-requires : goal.going-requires
-going-requires c = omega (arith, c.loop-i.invariant.1.0, few-entries _ _ _ _ _ _ _ c.requires.ready_entries)
+going-requires c = omega (arith, c.loop-i.invariant.0, few-entries _ _ _ _ _ _ _ c.requires.ready_entries)
 
 pub returns : goal.returns
 returns c =
     let loop = c.loop-i in (
-      scan-end _ _ _ _ _ _ _ c.requires.ready_entries.inside _ _ _ _ loop.invariant.1.1.1 (omega (arith, c.loop-i-test.false)) c.going.ensures.1.0
-          c.going.ensures.1.1 loop.invariant.1.0,
+      scan-end _ _ _ _ _ _ _ c.requires.ready_entries.inside _ _ _ _ loop.invariant.1.1 (omega arith) c.going.ensures.1.0
+          c.going.ensures.1.1 loop.invariant.0,
       c.going.ensures.0,
     )

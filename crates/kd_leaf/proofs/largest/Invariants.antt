@@ -1,5 +1,5 @@
 use mathlib.Core.Path.{◌≡◌}
-use Prim.Native.Nat.{◌-◌, ◌≤◌}
+use Prim.Native.Nat.{◌≤◌}
 use Rattle.words.specs.Words.{words}
 use Rattle.index_image.specs.Walk as walk
 use Rattle.query_words.specs.Asked.{shape_in, from_in}
@@ -9,9 +9,5 @@ use Rattle.kd_leaf.proofs.Scanning.{Scanning}
 use Rattle.kd_leaf.proofs.largest.Given as goal
 
 abbrev pub invariant-loop-i : goal.invariant-loop-i
-invariant-loop-i l = (l.i ≤ l.c) ×
-    ((l.found ≤ (shape_in (words l.q)).entries) × ((l.least ≡ least_above (walk.label (words l.image) (shape_in (words l.q))) (from_in (words l.q)) l.found) × Scanning l.image l.m
-    (shape_in (words l.q)) (words l.q) l.lo l.c (best_of l.acc) l.found l.i))
-
-abbrev pub decreases-loop-i : goal.decreases-loop-i
-decreases-loop-i l = l.c - l.i
+invariant-loop-i l = (l.found ≤ (shape_in (words l.q)).entries) × ((l.least ≡ least_above (walk.label (words l.image) (shape_in (words l.q))) (from_in (words l.q)) l.found) × Scanning l.image l.m
+    (shape_in (words l.q)) (words l.q) l.lo l.c (best_of l.acc) l.found l.i)

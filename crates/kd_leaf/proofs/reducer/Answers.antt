@@ -8,8 +8,7 @@ pub get-from-requires : goal.get-from-requires
 get-from-requires c = omega (arith, query-long _ _ c.requires.ready_entries.asks.laid)
 
 pub loop-i-init : goal.loop-i-init
-loop-i-init c =
-    (omega arith, (rw c.best-found.ensures c.requires.ready_entries.small, rw c.best-found.ensures (scan-none _ _ _ _ _ _ _ c.requires.ready_entries.inside)))
+loop-i-init c = (rw c.best-found.ensures c.requires.ready_entries.small, rw c.best-found.ensures (scan-none _ _ _ _ _ _ _ c.requires.ready_entries.inside))
 
 pub overflow_add-lo : goal.overflow_add-lo
 overflow_add-lo c = omega (arith, c.requires.ready_entries.inside, few-entries _ _ _ _ _ _ _ c.requires.ready_entries)
@@ -45,7 +44,7 @@ returns-then-label-get c =
     let counts = c.counts in
     let if1 = c.if-counts in
     let label = c.label in (
-      scan-stop _ _ _ _ _ _ _ c.requires.ready_entries.inside _ _ _ loop.invariant.1.1 loop-test.true entry_at.ensures.0 _ _ _ c.stopped.ensures.1.0
+      scan-stop _ _ _ _ _ _ _ c.requires.ready_entries.inside _ _ _ loop.invariant.1 loop-test.true entry_at.ensures.0 _ _ _ c.stopped.ensures.1.0
           c.stopped.ensures.1.1 (omega (arith, entry_at.ensures.1))
           (regular-made _ _ _ _ _ _ entry_at.ensures.1 _ (λ z. omega (arith, c.requires.acc_value.1)) (λ x y. omega (arith, c.requires.acc_value.1))
           (rw get.ensures at counts.ensures) _ c.requires.acc_value.1 if1.true label.ensures.0
@@ -58,12 +57,6 @@ overflow_add-found c =
     let entry_at = c.entry_at-e in
     omega (arith, entry_at.ensures.1, few-entries _ _ _ _ _ _ _ c.requires.ready_entries)
 
-pub overflow_add-i : goal.overflow_add-i
-overflow_add-i c = omega arith
-
-pub loop-i-smaller : goal.loop-i-smaller
-loop-i-smaller c = omega arith
-
 pub loop-i-preserved : goal.loop-i-preserved
 loop-i-preserved c =
     let get = c.get-from in
@@ -73,32 +66,26 @@ loop-i-preserved c =
     let p = rw get.ensures at c.counts.ensures in
     elim c.if-counts.branch [
       | then-counts+else-label-get w ↦ (
-        omega arith,
-        (
-          rw w.found-is (omega (arith, entry_at.ensures.1)),
-          rw w.found-is (scan-more _ _ _ _ _ _ _ c.requires.ready_entries.inside _ _ _ loop.invariant.1.1 loop-test.true entry_at.ensures.0 _
-              (singular-made _ _ _ _ _ _ entry_at.ensures.1 _ (λ z. omega (arith, c.requires.acc_value.1)) (λ x y. omega (arith, c.requires.acc_value.1)) p _ c.requires.acc_value.1
-              w.if-counts.true w.label.ensures.0 (omega (arith, w.if-label-get.false, w.get.ensures)))),
-        ),
+        rw w.found-is (omega (arith, entry_at.ensures.1)),
+        rw w.found-is (scan-more _ _ _ _ _ _ _ c.requires.ready_entries.inside _ _ _ loop.invariant.1 loop-test.true entry_at.ensures.0 _
+            (singular-made _ _ _ _ _ _ entry_at.ensures.1 _ (λ z. omega (arith, c.requires.acc_value.1)) (λ x y. omega (arith, c.requires.acc_value.1)) p _ c.requires.acc_value.1
+            w.if-counts.true w.label.ensures.0 (omega (arith, w.if-label-get.false, w.get.ensures)))),
       )
       | else-counts w ↦ (
-        omega arith,
-        (
-          rw w.found-is loop.invariant.1.0,
-          rw w.found-is (scan-more _ _ _ _ _ _ _ c.requires.ready_entries.inside _ _ _ loop.invariant.1.1 loop-test.true
-              entry_at.ensures.0 _ (counted-miss _ _ _ _ _ _ entry_at.ensures.1 _ (λ z. omega (arith, c.requires.acc_value.1)) (λ x y. omega (arith, c.requires.acc_value.1)) p
-              w.if-counts.false)),
-        ),
+        rw w.found-is loop.invariant.0,
+        rw w.found-is (scan-more _ _ _ _ _ _ _ c.requires.ready_entries.inside _ _ _ loop.invariant.1 loop-test.true
+            entry_at.ensures.0 _ (counted-miss _ _ _ _ _ _ entry_at.ensures.1 _ (λ z. omega (arith, c.requires.acc_value.1)) (λ x y. omega (arith, c.requires.acc_value.1)) p
+            w.if-counts.false)),
       )
     ]
 
 pub going-requires : goal.going-requires
-going-requires c = omega (arith, c.loop-i.invariant.1.0, few-entries _ _ _ _ _ _ _ c.requires.ready_entries)
+going-requires c = omega (arith, c.loop-i.invariant.0, few-entries _ _ _ _ _ _ _ c.requires.ready_entries)
 
 pub returns : goal.returns
 returns c =
     let loop = c.loop-i in (
-      scan-end _ _ _ _ _ _ _ c.requires.ready_entries.inside _ _ _ _ loop.invariant.1.1 (omega (arith, c.loop-i-test.false)) c.going.ensures.1.0
-          c.going.ensures.1.1 loop.invariant.1.0,
+      scan-end _ _ _ _ _ _ _ c.requires.ready_entries.inside _ _ _ _ loop.invariant.1 (omega arith) c.going.ensures.1.0
+          c.going.ensures.1.1 loop.invariant.0,
       c.going.ensures.0,
     )

@@ -1,4 +1,5 @@
 use native.Mathlib.Omega.{arith}
+use mathlib.Core.Logic.{inl, inr}
 use mathlib.Core.Path.{ap, ◌∙◌}
 use Rattle.query_words.specs.Asked.{search_number}
 use Rattle.query_words.proofs.Laying.{query-long}
@@ -16,14 +17,13 @@ pub reducer-requires : goal.reducer-requires
 unfolding search_number
 reducer-requires c = record { ready_entries = c.requires.ready_entries; acc_value = (c.requires.acc_value, c.search_in.ensures ∙ ap search_number c.in-Reducer.is) }
 
-pub largest-requires : goal.largest-requires
-unfolding search_number
-largest-requires c = let e = c.search_in.ensures ∙ ap search_number c.in-High.is in record { ready_entries = c.requires.ready_entries; bound = (omega (arith, e), omega (arith, e)) }
-
-pub largest-requires-in-Low : goal.largest-requires-in-Low
-unfolding search_number
-largest-requires-in-Low c = let e = c.search_in.ensures ∙ ap search_number c.in-Low.is in record { ready_entries = c.requires.ready_entries; bound = (omega (arith, e), omega (arith, e)) }
-
 pub singular-requires : goal.singular-requires
 unfolding search_number
 singular-requires c = record { ready_entries = c.requires.ready_entries; acc_value = (c.requires.acc_value, c.search_in.ensures ∙ ap search_number c.in-Singular.is) }
+
+pub largest-requires-clause-bound : goal.largest-requires-clause-bound
+unfolding search_number
+largest-requires-clause-bound c = elim c.in-High.is [
+  | inl h ↦ let e = c.search_in.ensures ∙ ap search_number h in (omega (arith, e), omega (arith, e))
+  | inr l ↦ let e = c.search_in.ensures ∙ ap search_number l in (omega (arith, e), omega (arith, e))
+]

@@ -8,7 +8,7 @@ pub get-from-requires : goal.get-from-requires
 get-from-requires c = omega (arith, query-long _ _ c.requires.ready_entries.asks.laid)
 
 pub loop-i-init : goal.loop-i-init
-loop-i-init c = (omega arith, scan-none _ _ _ _ _ _ _ c.requires.ready_entries.inside)
+loop-i-init c = scan-none _ _ _ _ _ _ _ c.requires.ready_entries.inside
 
 pub overflow_add-lo : goal.overflow_add-lo
 overflow_add-lo c = omega (arith, c.requires.ready_entries.inside, few-entries _ _ _ _ _ _ _ c.requires.ready_entries)
@@ -31,31 +31,23 @@ returns-then-counts c =
     let loop = c.loop-i in
     let loop-test = c.loop-i-test in
     let entry_at = c.entry_at-e in (
-      scan-stop _ _ _ _ _ _ _ c.requires.ready_entries.inside _ _ _ loop.invariant.1 loop-test.true entry_at.ensures.0 _ _ _ c.stopped.ensures.1.0
+      scan-stop _ _ _ _ _ _ _ c.requires.ready_entries.inside _ _ _ loop.invariant loop-test.true entry_at.ensures.0 _ _ _ c.stopped.ensures.1.0
           c.stopped.ensures.1.1 (omega (arith, entry_at.ensures.1))
           (counted_stop _ _ _ _ _ _ entry_at.ensures.1 _ (λ z. omega (arith, c.requires.acc_value.1)) (λ x y. omega (arith, c.requires.acc_value.1))
           (rw get.ensures at c.counts.ensures) (λ z. omega (arith, c.requires.acc_value.1)) c.if-counts.true),
       c.stopped.ensures.0,
     )
 
-pub overflow_add-i : goal.overflow_add-i
-overflow_add-i c = omega arith
-
-pub loop-i-smaller : goal.loop-i-smaller
-loop-i-smaller c = omega arith
-
 pub loop-i-preserved : goal.loop-i-preserved
 loop-i-preserved c =
     let get = c.get-from in
     let loop = c.loop-i in
     let loop-test = c.loop-i-test in
-    let entry_at = c.entry_at-e in (
-      omega arith,
-      scan-more _ _ _ _ _ _ _ c.requires.ready_entries.inside _ _ _ loop.invariant.1 loop-test.true entry_at.ensures.0 _
-          (counted-miss _ _ _ _ _ _ entry_at.ensures.1 _ (λ z. omega (arith, c.requires.acc_value.1)) (λ x y. omega (arith, c.requires.acc_value.1))
-          (rw get.ensures at c.counts.ensures) c.if-counts.false),
-    )
+    let entry_at = c.entry_at-e in
+    scan-more _ _ _ _ _ _ _ c.requires.ready_entries.inside _ _ _ loop.invariant loop-test.true entry_at.ensures.0 _
+    (counted-miss _ _ _ _ _ _ entry_at.ensures.1 _ (λ z. omega (arith, c.requires.acc_value.1)) (λ x y. omega (arith, c.requires.acc_value.1))
+    (rw get.ensures at c.counts.ensures) c.if-counts.false)
 
 pub returns : goal.returns
 returns c =
-    (scan-end _ _ _ _ _ _ _ c.requires.ready_entries.inside _ _ _ _ c.loop-i.invariant.1 (omega (arith, c.loop-i-test.false)) refl c.requires.acc_value.0 c.requires.ready_entries.small, refl)
+    (scan-end _ _ _ _ _ _ _ c.requires.ready_entries.inside _ _ _ _ c.loop-i.invariant (omega arith) refl c.requires.acc_value.0 c.requires.ready_entries.small, refl)

@@ -8,8 +8,8 @@ use Rattle.kd_node.proofs.path_at.Goals as goal
 pub node_at-at-requires : goal.node_at-at-requires
 node_at-at-requires c = record { laid = c.requires.asks.laid; k_bound = (branch-numbers _ _ _ _ _ _ _ _ c.requires).row }
 
-pub get-tag-requires : goal.get-tag-requires
-get-tag-requires c = omega (arith, (branch-numbers _ _ _ _ _ _ _ _ c.requires).room, c.node_at-at.ensures)
+pub get-next-requires : goal.get-next-requires
+get-next-requires c = omega (arith, (branch-numbers _ _ _ _ _ _ _ _ c.requires).room, c.node_at-at.ensures)
 
 pub may-requires : goal.may-requires
 may-requires c =
@@ -18,7 +18,7 @@ may-requires c =
 pub returns-then-not-may : goal.returns-then-not-may
 returns-then-not-may c =
     let Node-at = c.node_at-at in
-    path-stop _ _ _ _ _ _ _ _ (rw Node-at.ensures at c.get-tag.ensures)
+    path-stop _ _ _ _ _ _ _ _ (rw Node-at.ensures at c.get-next.ensures)
     (words_small c.args.image.now (λ j. (c.type_inv.image j).fits)) _ (c.if-not-may.true) (rw Node-at.ensures at c.may.ensures)
 
 pub overflow_add-at : goal.overflow_add-at
@@ -33,42 +33,42 @@ num-requires c = omega (arith, query-long _ _ c.requires.asks.laid)
 pub label-l-requires : goal.label-l-requires
 label-l-requires c =
     let Node-at = c.node_at-at in
-    let get = c.get-tag in
-    let p = sym (rw Node-at.ensures at get.ensures) ∙ (c.if-tag-num.true ∙ (c.num.ensures.0 ∙ kind-is _ _ c.requires.asks.laid)) in record { laid = c.requires.asks.laid; ready = (branch-numbers _ _ _ _ _ _ _ _ c.requires).ready; q_value = (((branch-numbers _ _ _ _ _ _ _ _ c.requires).entry p).0, rw (c.get-key.ensures, Node-at.ensures) ((branch-numbers _ _ _ _ _ _ _ _ c.requires).entry p).1) }
+    let get = c.get-next in
+    let p = sym (rw Node-at.ensures at get.ensures) ∙ (c.if-next-num.true ∙ (c.num.ensures.0 ∙ kind-is _ _ c.requires.asks.laid)) in record { laid = c.requires.asks.laid; ready = (branch-numbers _ _ _ _ _ _ _ _ c.requires).ready; q_value = (((branch-numbers _ _ _ _ _ _ _ _ c.requires).entry p).0, rw (c.get-key.ensures, Node-at.ensures) ((branch-numbers _ _ _ _ _ _ _ _ c.requires).entry p).1) }
 
 pub get-requires : goal.get-requires
 get-requires c = omega (arith, query-long _ _ c.requires.asks.laid)
 
-pub get-requires-then-tag-num : goal.get-requires-then-tag-num
-get-requires-then-tag-num c = omega (arith, query-long _ _ c.requires.asks.laid)
+pub get-requires-then-next-num : goal.get-requires-then-next-num
+get-requires-then-next-num c = omega (arith, query-long _ _ c.requires.asks.laid)
 
-pub returns-then-tag-num : goal.returns-then-tag-num
-returns-then-tag-num c =
+pub returns-then-next-num : goal.returns-then-next-num
+returns-then-next-num c =
     let Node-at = c.node_at-at in
-    let get = c.get-tag in
+    let get = c.get-next in
     let may = c.may in
     let if1 = c.if-not-may in
     let get2 = c.get-key in
     let num = c.num in
-    let if2 = c.if-tag-num in
-    rw (c.get.ensures, c.get-then-tag-num.ensures) (path-label _ _ _ _ _ _ _ _ (rw Node-at.ensures at get.ensures)
+    let if2 = c.if-next-num in
+    rw (c.get.ensures, c.get-then-next-num.ensures) (path-label _ _ _ _ _ _ _ _ (rw Node-at.ensures at get.ensures)
     (words_small c.args.image.now (λ j. (c.type_inv.image j).fits)) _ (if1.false) (rw Node-at.ensures at may.ensures)
     (if2.true ∙ (num.ensures.0 ∙ kind-is _ _ c.requires.asks.laid)) _ (c.label-l.ensures.0 ∙ rw (get2.ensures, Node-at.ensures) refl))
 
 pub get-limit-requires : goal.get-limit-requires
 get-limit-requires c =
     let Node-at = c.node_at-at in
-    let get = c.get-tag in
+    let get = c.get-next in
     omega (arith, query-long _ _ c.requires.asks.laid, (branch-numbers _ _ _ _ _ _ _ _ c.requires).small, (rw Node-at.ensures at get.ensures))
 
 pub returns : goal.returns
 returns c =
     let Node-at = c.node_at-at in
-    let get = c.get-tag in
+    let get = c.get-next in
     let may = c.may in
     let if1 = c.if-not-may in
     let get2 = c.get-key in
     path-limit _ _ _ _ _ _ _ _ (rw Node-at.ensures at get.ensures) (words_small c.args.image.now (λ j. (c.type_inv.image j).fits)) _
     (if1.false) (rw Node-at.ensures at may.ensures)
-    (λ z. c.if-tag-num.false (z ∙ sym (c.num.ensures.0 ∙ kind-is _ _ c.requires.asks.laid))) _
+    (λ z. c.if-next-num.false (z ∙ sym (c.num.ensures.0 ∙ kind-is _ _ c.requires.asks.laid))) _
     (rw (get2.ensures, Node-at.ensures, c.get-limit.ensures) refl)

@@ -1,10 +1,6 @@
-use Rattle.kd_sides.proofs.Parting.{Lowest}
-use Prim.Native.Nat.{◌-◌, ◌≤◌}
 use Rattle.words.specs.Words.{words}
+use Rattle.kd_sides.proofs.Parting.{Lowest}
 use Rattle.kd_sides.proofs.first_least.Given as goal
 
 abbrev pub invariant-loop-i : goal.invariant-loop-i
-invariant-loop-i l = (l.i ≤ l.c) × Lowest (words l.image) l.s l.x l.lo l.i l.best
-
-abbrev pub decreases-loop-i : goal.decreases-loop-i
-decreases-loop-i l = l.c - l.i
+invariant-loop-i l = Lowest (words l.image) l.s l.x l.lo l.i l.best

@@ -1,4 +1,3 @@
-use Prim.Native.Nat.{◌-◌, ◌≤◌}
 use Rattle.words.specs.Words.{words}
 use Rattle.kd_dimension.specs.Choice.{key_in}
 use Rattle.kd_sides.specs.Sides.{on_side}
@@ -6,7 +5,4 @@ use Rattle.kd_sides.proofs.Parting.{Gathered}
 use Rattle.kd_sides.proofs.gather.Given as goal
 
 abbrev pub invariant-loop-i : goal.invariant-loop-i
-invariant-loop-i l = (l.i ≤ l.c) × Gathered (words l.image) l.s (on_side (key_in (words l.image) l.s) l.d l.x l.want) l.lo l.i l.initial.out l.out l.at l.n
-
-abbrev pub decreases-loop-i : goal.decreases-loop-i
-decreases-loop-i l = l.c - l.i
+invariant-loop-i l = Gathered (words l.image) l.s (on_side (key_in (words l.image) l.s) l.d l.x l.want) l.lo l.i l.initial.out l.out l.at l.n

@@ -1,5 +1,4 @@
-use native.Mathlib.Omega.{arith}
-use mathlib.Core.Path.{sym, ◌∙◌}
+use Rattle.std.proofs.Common.{sym, ◌∙◌, arith}
 use Rattle.kd_split.proofs.Opening.{node-numbers, node-branch, node-short, leaf-here, node-flat, splittable, node-split}
 use Rattle.kd_split.proofs.split_node.Goals as goal
 
@@ -20,56 +19,33 @@ get-c-requires c = omega (arith, (node-numbers _ _ _ _ _ c.requires.standing).ro
 
 pub returns-then-c-le64 : goal.returns-then-c-le64
 returns-then-c-le64 c =
-    let Node-at = c.node_at-at in
-    let get = c.get in
-    let if1 = c.if-get-ne0 in
-    node-short _ _ _ _ _ (sym (rw Node-at.ensures at get.ensures) ∙ if1.false) _ (omega (arith, (rw Node-at.ensures at c.get-c.ensures)))
+    node-short _ _ _ _ _ (sym (rw c.node_at-at.ensures at c.get.ensures) ∙ c.if-get-ne0.false) _
+    (omega (arith, (rw c.node_at-at.ensures at c.get-c.ensures)))
 
 pub choose-requires : goal.choose-requires
-choose-requires c =
-    let Node-at = c.node_at-at in
-    let get = c.get in
-    let if1 = c.if-get-ne0 in record {
-      ready = (node-numbers _ _ _ _ _ c.requires.standing).ready;
-      dim_bound = (
-        c.requires.dim_bound,
-        (
-          (leaf-here _ _ _ _ _ (sym (rw Node-at.ensures at get.ensures) ∙ if1.false) _ (rw Node-at.ensures at c.get-c.ensures)
-              c.requires.standing).few,
-          omega arith,
-        ),
-      );
-    }
+choose-requires c = record {
+  ready = (node-numbers _ _ _ _ _ c.requires.standing).ready;
+  dim_bound = (
+    c.requires.dim_bound,
+    (
+      (leaf-here _ _ _ _ _ (sym (rw c.node_at-at.ensures at c.get.ensures) ∙ c.if-get-ne0.false) _
+          (rw c.node_at-at.ensures at c.get-c.ensures) c.requires.standing).few,
+      omega arith,
+    ),
+  );
+}
+
+pub returns-in_err-a : goal.returns-in_err-a
+returns-in_err-a c =
+    rw c.from_residual.ensures (node-flat _ _ _ _ _ (sym (rw c.node_at-at.ensures at c.get.ensures) ∙ c.if-get-ne0.false) _
+    (rw c.node_at-at.ensures at c.get-c.ensures) (omega arith) _ c.in_err-a.ensures)
 
 pub split_leaf-requires : goal.split_leaf-requires
 split_leaf-requires c =
-    let Node-at = c.node_at-at in
-    let get = c.get in
-    let if1 = c.if-get-ne0 in
-    let get2 = c.get-c in
-    let choose = c.choose in
-    splittable _ _ _ _ _ (sym (rw Node-at.ensures at get.ensures) ∙ if1.false) _ (rw Node-at.ensures at get2.ensures) (omega arith) _ _ choose.ensures
-    c.in-At.a c.in-At.is c.requires.standing
+    splittable _ _ _ _ _ (sym (rw c.node_at-at.ensures at c.get.ensures) ∙ c.if-get-ne0.false) _ (rw c.node_at-at.ensures at c.get-c.ensures)
+    (omega arith) _ c.in_ok-a.a c.in_ok-a.ensures c.requires.standing
 
-pub overflow_add-result : goal.overflow_add-result
-overflow_add-result c =
-    omega (arith, (node-numbers _ _ _ _ _ c.requires.standing).rows-to)
-
-pub returns-in-At : goal.returns-in-At
-returns-in-At c =
-    let Node-at = c.node_at-at in
-    let get = c.get in
-    let if1 = c.if-get-ne0 in
-    let get2 = c.get-c in
-    let choose = c.choose in
-    node-split _ _ _ _ _ (sym (rw Node-at.ensures at get.ensures) ∙ if1.false) _ (rw Node-at.ensures at get2.ensures) (omega arith) _ _ choose.ensures
-    c.in-At.a c.in-At.is _ c.split_leaf.ensures
-
-pub returns-in-Flat : goal.returns-in-Flat
-returns-in-Flat c =
-    let Node-at = c.node_at-at in
-    let get = c.get in
-    let if1 = c.if-get-ne0 in
-    let get2 = c.get-c in
-    node-flat _ _ _ _ _ (sym (rw Node-at.ensures at get.ensures) ∙ if1.false) _ (rw Node-at.ensures at get2.ensures) (omega arith) _ _
-    c.choose.ensures c.in-Flat.is
+pub returns : goal.returns
+returns c =
+    node-split _ _ _ _ _ (sym (rw c.node_at-at.ensures at c.get.ensures) ∙ c.if-get-ne0.false) _ (rw c.node_at-at.ensures at c.get-c.ensures)
+    (omega arith) _ c.in_ok-a.a c.in_ok-a.ensures _ c.split_leaf.ensures

@@ -70,8 +70,8 @@ overflow_add-num-2 c =
       c.num-3.ensures.0,
     ))
 
-pub num-requires-5 : goal.num-requires-5
-num-requires-5 c =
+pub get-requires : goal.get-requires
+get-requires c =
     let num = c.num in
     let num2 = c.num-2 in
     let num3 = c.num-row in
@@ -89,6 +89,6 @@ returns c =
     let num3 = c.num-row in (
       (label-read c.args.image.now c.args.q.now _ c.requires.laid c.requires.ready c.args.e c.requires.q_value.0 c.requires.q_value.1
           num3.result (num3.ensures.0 ∙ rw (num.ensures.0, num2.ensures.0) refl)).is _
-          (c.num-5.ensures.0 ∙ rw (c.num-3.ensures.0, c.num-4.ensures.0) refl),
-      c.num-5.ensures.1,
+          (c.from.ensures ∙ c.get.ensures ∙ rw (c.num-3.ensures.0, c.num-4.ensures.0) refl),
+      omega (arith, c.from.ensures, c.get.type_inv),
     )
