@@ -5,26 +5,26 @@ use mathlib.Core.List.{List, [], ◌∷◌}
 use mathlib.Core.Option.{some}
 use mathlib.Core.Option as option
 use mathlib.Core.Logic.{◌↔◌}
-use Prim.Native.Nat.{ℕ, zero, suc, ◌+◌, ◌*◌, ◌/◌, ◌%◌, ◌≤◌, ◌<◌}
+use Prim.Native.Nat.{ℕ, zero, suc, ◌+◌, ◌-◌, ◌*◌, ◌%◌, ◌≤◌, ◌<◌}
 use native.Mathlib.Omega.{arith}
+use mir.Val.{bool_byte}
 use lib.Dec.{eqb}
 use lib.ListN.{length, get_or, take, drop, length-drop, length-take}
-use lib.Seq.{drop-cons, drop-drop}
+use lib.Seq.{drop-cons, take_all}
 use borrow.Author.Tests.{eq-eqb, ne_eqb}
+use Rattle.std.specs.Borrow.{Bor}
+use Rattle.std.specs.Prelude.{Result, Ok, Err, IsErrAnd}
+use Rattle.refusals.specs.declared.Refusal.{Refusal}
+use Rattle.refusals.specs.Numbers.{number}
+use Rattle.refusals.specs.declared.Refusal.TheVariants.{BadWords}
 use Rattle.words.specs.Kinds.{kind, payload}
 use Rattle.words.specs.Words.{words}
 use Rattle.words.proofs.Laws.{length-words, words_take, words-drop}
-use Rattle.monomial.specs.Monomial.{front, found, Canonical}
+use Rattle.monomial.specs.Monomial.{front, found}
 use Rattle.monomial.proofs.Canon.{front-short}
 use Rattle.monomial.proofs.Laws.{front-canonical}
 use Rattle.index_theory.specs.Calls.{listed, Request, Asked, refused, asks, body_of, calls, with_index, with_part, at_end}
-use Rattle.index_theory.proofs.Lists.{front-body}
-use Rattle.call_list.specs.Bodies.{none, IsList, Leads, Single, Paired, Tripled}
-use Rattle.call_list.specs.declared.Body.{Body}
-
-same : {x y : Asked} (g : Bool) → (g ≡ true → x ≡ y) → cond g x (refused 7) ≡ cond g y (refused 7)
-same true h = h refl
-same false h = refl
+use Rattle.call_list.specs.Bodies.{IsList, Body, Leads, Begins, Single, Paired, Tripled}
 
 -- ---- the questions of a body, one at a time
 part-bad : (k m : ℕ) (b : List ℕ) (f : List ℕ → List ℕ → Asked) → front k m 0 b ≡ 0 → with_part k m b f ≡ refused 7
@@ -35,17 +35,15 @@ part-good : (k m n : ℕ) (b : List ℕ) (f : List ℕ → List ℕ → Asked) �
 unfolding with_part
 part-good k m n b f e h = rw (← e, ne_eqb n 0 h)
 
--- the rest of a body, of which a test g tells whether it is empty
-pub record Empty (ws : List ℕ) (g : Bool) : Type 0 where
-  pub yes : g ≡ true → length ws ≡ 0
-  pub no : g ≡ false → length ws ≡ 0 → ⊥
-
-end_is : (ws : List ℕ) (r : Request) (g : Bool) → Empty ws g → at_end ws r ≡ cond g (asks r) (refused 7)
+end_good : (ws : List ℕ) (r : Request) → length ws ≡ 0 → at_end ws r ≡ asks r
 unfolding at_end
-end_is [] r true e = refl
-end_is [] r false e = absurd (e.no refl refl)
-end_is (w ∷ ws) r true e = absurd (let z = e.yes refl in omega arith)
-end_is (w ∷ ws) r false e = refl
+end_good [] r h = refl
+end_good (w ∷ ws) r h = absurd (omega arith)
+
+end_bad : (ws : List ℕ) (r : Request) → 0 < length ws → at_end ws r ≡ refused 7
+unfolding at_end
+end_bad [] r h = absurd (omega arith)
+end_bad (w ∷ ws) r h = refl
 
 index-bad : (w : ℕ) (ws : List ℕ) (f : ℕ → List ℕ → Asked) → (kind w ≡ 3 → ⊥) → with_index (w ∷ ws) f ≡ refused 7
 unfolding with_index
@@ -59,22 +57,92 @@ index-none : (f : ℕ → List ℕ → Asked) → with_index [] f ≡ refused 7
 unfolding with_index
 index-none f = refl
 
-part-canonical : (k m n : ℕ) (b : List ℕ) → 0 < k → n ≡ front k m 0 b → (n ≡ 0 → ⊥) → Canonical k m (take n b)
-part-canonical k m n b pos e h = rw e (front-canonical k m b pos (λ z. h (e ∙ z)))
+bad-words : refused 7 ≡ refused (number BadWords)
+unfolding number
+bad-words = refl
 
--- ---- a body at its place in the list
--- its rest behind i words is a body too
-pub body-rest : (ws : List ℕ) (i : ℕ) → i ≤ length (body_of ws) → drop i (body_of ws) ≡ body_of (drop i ws)
-unfolding body_of
-body-rest ws zero h = refl
-body-rest [] (suc i) h = refl
-body-rest (w ∷ ws) (suc i) h = go (eqb (kind w) 6) h (body-rest ws i)
-  where
-    go : (t : Bool) → suc i ≤ length (cond t [] (w ∷ body_of ws)) → (i ≤ length (body_of ws) → drop i (body_of ws) ≡ body_of (drop i ws))
-        → drop (suc i) (cond t [] (w ∷ body_of ws)) ≡ body_of (drop i ws)
-    go true l r = absurd (omega arith)
-    go false l r = r (omega arith)
+-- what is behind a part
+pub rest_of : (n : ℕ) (b : List ℕ) → take (length b - n) (drop n b) ≡ drop n b
+rest_of n b = take_all _ _ (omega (arith, length-drop n b))
 
+nothing : (b : List ℕ) → length b ≡ 0 → b ≡ []
+nothing [] h = refl
+nothing (x ∷ b) h = absurd (omega arith)
+
+-- ---- an index word in front of the body b
+pub leads-none : (b : List ℕ) → length b < 4 → Leads (words b) (Err BadWords)
+leads-none b h = rw (nothing (words b) (omega (arith, length-words b))) (record { asked = λ f. index-none f ∙ bad-words; good = tt })
+
+module _ (b : List ℕ) (w : ℕ) (h : 4 ≤ length b) (e : w ≡ get_or (words b) 0 0) where
+  front-word : words b ≡ w ∷ drop 1 (words b)
+  front-word = drop-cons (words b) 0 0 (omega (arith, length-words b)) ∙ rw (← e)
+
+  pub leads-other : (kind w ≡ 3 → ⊥) → Leads (words b) (Err BadWords)
+  leads-other k = rw front-word (record { asked = λ f. index-bad w (drop 1 (words b)) f k ∙ bad-words; good = tt })
+
+  pub leads : kind w ≡ 3 → (i : ℕ) (rest : Bor (List ℕ)) → i ≡ payload w → rest.now ≡ drop 4 b → Leads (words b) (Ok (i, rest))
+  leads k i rest ei er = record {
+    asked = λ f. ap (λ ws. with_index ws f) front-word ∙ index-good w (drop 1 (words b)) f k ∙ rw (← ei, er) (ap (f i) (sym (words-drop b 1)));
+    good = omega arith;
+  }
+
+-- ---- a monomial or ratio there, as the finder hands it back
+module _ (k m : ℕ) (b x : List ℕ) (e : x ≡ found k m b 0) where
+  abbrev n : ℕ
+  n = front k m 0 (words b)
+
+  most : n ≤ length (words b)
+  most = omega (arith, front-short k m 0 (words b))
+
+  pub found-long : length x ≡ 4 * n
+  unfolding found
+  found-long = omega (arith, ap length e, most, length-words b, length-take (4 * n) b)
+
+  pub found-inside : length x ≤ length b
+  found-inside = omega (arith, found-long, most, length-words b)
+
+  found-words : words x ≡ take n (words b)
+  unfolding found
+  found-words = ap words e ∙ words_take b n
+
+  pub begins-none : length x ≡ 0 → Begins k m (words b) (Err BadWords)
+  begins-none z = record { asked = λ f. part-bad k m (words b) f (omega (arith, found-long)) ∙ bad-words; good = tt }
+
+  pub begins : 1 ≤ k → (length x ≡ 0 → ⊥) → (p rest : Bor (List ℕ)) → p.now ≡ x → rest.now ≡ drop (length x) b → Begins k m (words b) (Ok (p, rest))
+  begins pos z p rest ep er =
+      let some : n ≡ 0 → ⊥ = λ y. z (omega (arith, found-long)) in
+      let ex : words p.now ≡ take n (words b) = ap words ep ∙ found-words in
+      let ey : words rest.now ≡ drop n (words b) = ap words er ∙ rw found-long (words-drop b n) in
+      record {
+        asked = λ f. part-good k m n (words b) f refl some ∙ rw (ex, ey);
+        good = record { canonical = rw ex (front-canonical k m (words b) pos some); whole = omega (arith, found-long, ap length ep) };
+      }
+
+-- ---- the bodies of the calls
+module _ (m : ℕ) (b : List ℕ) (p rest : Bor (List ℕ)) (l : Begins 1 m b (Ok (p, rest))) where
+  pub single-more : 4 ≤ length rest.now → Single m b (Err BadWords)
+  single-more h = record { asked = λ f. l.asked _ ∙ end_bad (words rest.now) _ (omega (arith, length-words rest.now)) ∙ bad-words; good = tt }
+
+  pub single-all : length rest.now < 4 → Single m b (Ok p)
+  single-all h = record { asked = λ f. l.asked _ ∙ end_good (words rest.now) _ (omega (arith, length-words rest.now)); good = l.good }
+
+module _ (m : ℕ) (b : List ℕ) (i : ℕ) (rest : Bor (List ℕ)) (l : Leads b (Ok (i, rest))) where
+  pub paired : (x : Bor (List ℕ)) → Single m (words rest.now) (Ok x) → Paired m b (Ok (i, x))
+  paired x s = record { asked = λ f. l.asked _ ∙ s.asked (f i); good = (l.good, s.good) }
+
+  pub paired_bad : (r : Result (ℕ × Bor (List ℕ)) Refusal) (e : Refusal) → IsErrAnd r (λ x. x ≡ e) → Single m (words rest.now) (Err e) → Paired m b r
+  paired_bad (Ok p) e h s = absurd h
+  paired_bad (Err x) e h s = rw h (record { asked = λ f. l.asked _ ∙ s.asked (f i); good = tt })
+
+  pub tripled_bad : (k : ℕ) (x more : Bor (List ℕ)) → Begins k m (words rest.now) (Ok (x, more))
+      → (r : Result (ℕ × Bor (List ℕ) × Bor (List ℕ)) Refusal) (e : Refusal) → IsErrAnd r (λ x. x ≡ e) → Single m (words more.now) (Err e) → Tripled k m b r
+  tripled_bad k x more g (Ok p) e h s = absurd h
+  tripled_bad k x more g (Err y) e h s = rw h (record { asked = λ f. l.asked _ ∙ g.asked _ ∙ s.asked (f i (words x.now)); good = tt })
+
+  pub tripled : (k : ℕ) (x more y : Bor (List ℕ)) → Begins k m (words rest.now) (Ok (x, more)) → Single m (words more.now) (Ok y) → Tripled k m b (Ok (i, x, y))
+  tripled k x more y g s = record { asked = λ f. l.asked _ ∙ g.asked _ ∙ s.asked (f i (words x.now)); good = (l.good, g.good, s.good) }
+
+-- ---- a body at the front of a list
 body-cons : (w : ℕ) (ws : List ℕ) → body_of (w ∷ ws) ≡ cond (eqb (kind w) 6) [] (w ∷ body_of ws)
 unfolding body_of
 body-cons w ws = refl
@@ -82,14 +150,6 @@ body-cons w ws = refl
 pub body-nil : body_of [] ≡ []
 unfolding body_of
 body-nil = refl
-
-body-short : (w : ℕ) (ws : List ℕ) → 0 < length (body_of (w ∷ ws)) → body_of (w ∷ ws) ≡ w ∷ body_of ws
-unfolding body_of
-body-short w ws h = go (eqb (kind w) 6) h
-  where
-    go : (t : Bool) → 0 < length (cond t [] (w ∷ body_of ws)) → cond t [] (w ∷ body_of ws) ≡ w ∷ body_of ws
-    go true l = absurd (omega arith)
-    go false l = refl
 
 pub body-most : (ws : List ℕ) → length (body_of ws) ≤ length ws
 unfolding body_of
@@ -100,18 +160,7 @@ body-most (w ∷ ws) = go (eqb (kind w) 6) (body-most ws)
     go true h = omega arith
     go false h = omega arith
 
-no_true : {X : Type 0} → false ≡ true → X
-no_true e = absurd (let y : ◌≡◌ {A = ℕ} 0 1 = cc in omega arith)
-
-nothing : (b : List ℕ) → length b ≡ 0 → b ≡ []
-nothing [] h = refl
-nothing (x ∷ b) h = absurd (omega arith)
-
-small-payload : (w : ℕ) → payload w < 268435456
-small-payload w = omega arith
-
--- ---- what is found at a place of the list L lies within the body there
-pub body-take : (ws : List ℕ) (n : ℕ) → n ≤ length (body_of ws) → take n (body_of ws) ≡ take n ws
+body-take : (ws : List ℕ) (n : ℕ) → n ≤ length (body_of ws) → take n (body_of ws) ≡ take n ws
 unfolding body_of
 body-take ws zero h = refl
 body-take [] (suc n) h = refl
@@ -122,145 +171,8 @@ body-take (w ∷ ws) (suc n) h = go (eqb (kind w) 6) h (body-take ws n)
     go true l r = absurd (omega arith)
     go false l r = ap (λ (l : List ℕ). w ∷ l) (r (omega arith))
 
--- n words of it, the bytes x
-record Part (k m : ℕ) (L : List ℕ) (at : ℕ) (x : List ℕ) (n : ℕ) : Type 0 where
-  is : n ≡ front k m 0 (body_of (drop at (words L)))
-  bytes : length x ≡ 4 * n
-  few : n ≤ length (body_of (drop at (words L)))
-  are : take n (body_of (drop at (words L))) ≡ words x
-
-part-found : (k m : ℕ) (L : List ℕ) (at : ℕ) (x : List ℕ) → k < 6 → at ≤ length (words L) → x ≡ found k m L at → Part k m L at x (length x / 4)
-unfolding found
-part-found k m L at x h inside e =
-    let ws = drop at (words L) in
-    let f = front k m 0 ws in
-    let q : front k m 0 (body_of ws) ≡ f = front-body k m 0 ws h in
-    let few : f ≤ length (body_of ws) = omega (arith, front-short k m 0 (body_of ws)) in
-    let most : f ≤ length ws = omega (arith, front-short k m 0 ws) in
-    let room : 4 * f ≤ length (drop (4 * at) L) = omega (arith, length-drop at (words L), length-drop (4 * at) L, length-words L) in
-    let long : length x ≡ 4 * f = omega (arith, ap length e, length-take (4 * f) (drop (4 * at) L)) in
-    let n : length x / 4 ≡ f = omega (arith, long) in
-    let w : words x ≡ take f ws = ap words e ∙ words_take (drop (4 * at) L) f ∙ rw (words-drop L at) in
-    rw n (record { is = sym q; bytes = long; few = few; are = body-take ws f few ∙ sym w })
-
-pub found-whole : (k m : ℕ) (L : List ℕ) (at : ℕ) (x : List ℕ) → x ≡ found k m L at → length x % 4 ≡ 0
-unfolding found
-found-whole k m L at x e =
-    let f = front k m 0 (drop at (words L)) in
-    let most : f ≤ length (drop at (words L)) = omega (arith, front-short k m 0 (drop at (words L))) in
-    omega (arith, ap length e, length-take (4 * f) (drop (4 * at) L), length-drop at (words L), length-drop (4 * at) L, length-words L)
-
--- ---- a body at word `at` of the list L, that ends before word `end`
-module _ (L : List ℕ) (at end : ℕ) (inside : at ≤ length (words L)) (ends : end ≡ at + length (body_of (drop at (words L)))) where
-  abbrev B : List ℕ
-  B = body_of (drop at (words L))
-
-  abbrev R : List ℕ
-  R = body_of (drop (at + 1) (words L))
-
-  -- ---- a monomial alone
-  module _ (m : ℕ) (x : List ℕ) (e : x ≡ found 1 m L at) where
-    pub single-bad : length x ≡ 0 → Single m B (words x) false
-    single-bad z =
-        let p = part-found 1 m L at x (omega arith) inside e in
-        record { asked = λ f. part-bad 1 m B (λ q ws. at_end ws (f q)) (sym p.is ∙ omega arith); canonical = no_true }
-
-    pub single-good : (length x ≡ 0 → ⊥) → (g : Bool) → (g ≡ true → at + length x / 4 ≡ end) → (g ≡ false → at + length x / 4 ≡ end → ⊥) → Single m B (words x) g
-    single-good z g gt gf =
-        let p = part-found 1 m L at x (omega arith) inside e in
-        let n = length x / 4 in
-        let some : n ≡ 0 → ⊥ = λ y. z (omega (arith, p.bytes)) in
-        let empty : Empty (drop n B) g = record { yes = λ t. simp length-drop (omega (arith, gt t)); no = λ t l. gf t (omega (arith, length-drop n B, p.few)) } in
-        record {
-          asked = λ f. part-good 1 m n B (λ q ws. at_end ws (f q)) p.is some ∙ end_is (drop n B) (f (take n B)) g empty ∙ same g (λ t. ap (λ (q : List ℕ). asks (f q)) p.are);
-          canonical = λ t. rw p.are at (part-canonical 1 m n B (omega arith) p.is some);
-        }
-
-  -- ---- an index word in front
-  pub leads-none : end ≤ at → Leads B R none
-  leads-none h = rw (nothing B (omega arith)) (record { asked = λ f. index-none f; index-small = omega arith; long = no_true })
-
-  module _ (w : ℕ) (ew : w ≡ get_or (words L) at 0) (h : at < end) where
-    led : B ≡ w ∷ R
-    led =
-        let fit : at < length (words L) = omega (arith, ends, length-drop at (words L), body-most (drop at (words L))) in
-        let e1 : suc at ≡ at + 1 = omega arith in
-        let e : drop at (words L) ≡ w ∷ drop (at + 1) (words L) = drop-cons (words L) at 0 fit ∙ rw (e1, ew) in
-        let l : 0 < length (body_of (drop at (words L))) = omega arith in
-        ap body_of e ∙ body-short w (drop (at + 1) (words L)) (rw e at l)
-
-    pub leads-other : (kind w ≡ 3 → ⊥) → Leads B R none
-    leads-other k = rw led (record { asked = λ f. index-bad w R f k; index-small = omega arith; long = no_true })
-
-    pub leads : kind w ≡ 3 → (i : ℕ) → i ≡ payload w → Leads B R (record { good = true; index = i })
-    leads k i ei = rw (led, ei) (record { asked = λ f. index-good w R f k; index-small = small-payload w; long = λ t. omega arith })
-
-  -- ---- and the parts behind it
-  module _ (p : Body) (l : Leads B R p) where
-    pub paired_none : (m : ℕ) (x : List ℕ) → p.good ≡ false → Paired m B x p
-    paired_none m x h = record { asked = λ f. l.asked _ ∙ rw h; index-small = l.index-small; canonical = λ t. no_true (sym h ∙ t) }
-
-    pub tripled-none : (k m : ℕ) (x y : List ℕ) → p.good ≡ false → Tripled k m B x y p
-    tripled-none k m x y h =
-        record { asked = λ f. l.asked _ ∙ rw h; index-small = l.index-small; first-canonical = λ t. no_true (sym h ∙ t); second-canonical = λ t. no_true (sym h ∙ t) }
-
-    module _ (h : p.good ≡ true) where
-      -- where the rest of the body stands
-      pub rest-fits : at + 1 ≤ length (words L)
-      rest-fits = omega (arith, l.long h, body-most (drop at (words L)), length-drop at (words L))
-
-      pub rest-ends : end ≡ at + 1 + length R
-      rest-ends = omega (arith, l.long h)
-
-      pub paired : (m : ℕ) (x : List ℕ) (g : Bool) → Single m R x g → Paired m B x (record { good = g; index = p.index })
-      paired m x g s = record { asked = λ f. l.asked _ ∙ rw h (s.asked (f p.index)); index-small = l.index-small; canonical = s.canonical }
-
-      module _ (k m : ℕ) (x y : List ℕ) (pos : 0 < k) (few : k < 6) (ex : x ≡ found k m L (at + 1)) where
-        first : Part k m L (at + 1) x (length x / 4)
-        first = part-found k m L (at + 1) x few rest-fits ex
-
-        pub no-first : length x ≡ 0 → Tripled k m B (words x) (words y) none
-        no-first z = record {
-          asked = λ f. l.asked _ ∙ rw h (part-bad k m R _ (sym first.is ∙ omega arith));
-          index-small = omega arith;
-          first-canonical = no_true;
-          second-canonical = no_true;
-        }
-
-        -- the second part
-        module _ (z : length x ≡ 0 → ⊥) where
-          abbrev n : ℕ
-          n = length x / 4
-
-          long-one : n ≡ 0 → ⊥
-          long-one q = z (omega (arith, first.bytes))
-
-          pub second_fits : at + 1 + n ≤ length (words L)
-          second_fits = omega (arith, first.few, rest-fits, body-most (drop (at + 1) (words L)), length-drop (at + 1) (words L))
-
-          behind : drop n R ≡ body_of (drop (at + 1 + n) (words L))
-          behind = body-rest (drop (at + 1) (words L)) n first.few ∙ rw (drop-drop n (at + 1) (words L))
-
-          pub second-ends : end ≡ at + 1 + n + length (body_of (drop (at + 1 + n) (words L)))
-          second-ends = omega (arith, rest-ends, first.few, length-drop n R, ap length behind)
-
-          pub no_second : y ≡ found 1 m L (at + 1 + n) → length y ≡ 0 → Tripled k m B (words x) (words y) none
-          no_second ey q =
-              let p₂ = part-found 1 m L (at + 1 + n) y (omega arith) second_fits ey in
-              record {
-                asked = λ f. l.asked _ ∙ rw h (part-good k m n R _ first.is long-one ∙ part-bad 1 m (drop n R) _ (rw behind (sym p₂.is ∙ omega arith)));
-                index-small = omega arith;
-                first-canonical = no_true;
-                second-canonical = no_true;
-              }
-
-          pub tripled : (g : Bool) → Single m (body_of (drop (at + 1 + n) (words L))) (words y) g → Tripled k m B (words x) (words y) (record { good = g; index = p.index })
-          tripled g s = record {
-            asked = λ f. l.asked _ ∙ rw h (part-good k m n R _ first.is long-one ∙ rw (behind, first.are) (s.asked (f p.index (words x))));
-            index-small = l.index-small;
-            first-canonical = λ t. rw first.are at (part-canonical k m n R pos first.is long-one);
-            second-canonical = s.canonical;
-          }
+pub body-front : (bs b : List ℕ) → b ≡ take (4 * length (body_of (words bs))) bs → Body bs b
+body-front bs b e = record { front = e; words-are = ap words e ∙ words_take bs _ ∙ sym (body-take (words bs) _ (omega arith)) ∙ take_all _ _ (omega arith) }
 
 -- ---- question 4, and the calls counted
 listed_nil : listed (words []) ≡ some []
@@ -310,31 +222,18 @@ module _ (W : List ℕ) (i w : ℕ) (h : i < length W) (e : w ≡ get_or W i 0) 
   here-word : drop i W ≡ w ∷ drop (i + 1) W
   here-word = let e1 : suc i ≡ i + 1 = omega arith in drop-cons W i 0 h ∙ rw (e1, ← e)
 
-  pub counted : length (calls (drop i W)) ≡ cond (eqb (kind w) 6) 1 0 + length (calls (drop (i + 1) W))
-  counted = rw (here-word, calls-cons w (drop (i + 1) W)) (go (eqb (kind w) 6))
+  pub counted : (t : Bool) (n : ℕ) → t ≡ eqb (kind w) 6 → n ≡ bool_byte t → (n ≤ 1) × (length (calls (drop i W)) ≡ n + length (calls (drop (i + 1) W)))
+  counted t n et en = rw (here-word, calls-cons w (drop (i + 1) W), ← et, en) (go t)
     where
-      go : (t : Bool) → length (cond t (record { number = payload w; body = body_of (drop (i + 1) W) } ∷ calls (drop (i + 1) W)) (calls (drop (i + 1) W))) ≡ cond t 1 0 + length (calls (drop (i + 1) W))
-      go true = omega arith
-      go false = omega arith
+      go : (t : Bool) → (bool_byte t ≤ 1) × (length (cond t (record { number = payload w; body = body_of (drop (i + 1) W) } ∷ calls (drop (i + 1) W)) (calls (drop (i + 1) W))) ≡ bool_byte t + length (calls (drop (i + 1) W)))
+      go true = (omega arith, omega arith)
+      go false = (omega arith, omega arith)
 
-  pub body-stops : kind w ≡ 6 → length (body_of (drop i W)) ≡ 0
-  body-stops k = rw (here-word, body-cons w (drop (i + 1) W), eq-eqb (kind w) 6 k)
+  pub body-stops : true ≡ eqb (kind w) 6 → length (body_of (drop i W)) ≡ 0
+  body-stops k = rw (here-word, body-cons w (drop (i + 1) W), ← k)
 
-  pub body-goes : (kind w ≡ 6 → ⊥) → length (body_of (drop i W)) ≡ 1 + length (body_of (drop (i + 1) W))
-  body-goes k = rw (here-word, body-cons w (drop (i + 1) W), ne_eqb (kind w) 6 k) (omega arith)
+  pub body-goes : false ≡ eqb (kind w) 6 → length (body_of (drop i W)) ≡ 1 + length (body_of (drop (i + 1) W))
+  body-goes k = rw (here-word, body-cons w (drop (i + 1) W), ← k) (omega arith)
 
 pub past_end : (W : List ℕ) (i : ℕ) → length W ≤ i → drop i W ≡ []
 past_end W i h = nothing (drop i W) (simp length-drop (omega arith))
-
-pub one-call : (w : ℕ) → cond (eqb (kind w) 6) 1 0 ≤ 1
-one-call w = go (eqb (kind w) 6)
-  where
-    go : (t : Bool) → cond t 1 0 ≤ 1
-    go true = omega arith
-    go false = omega arith
-
-pub is_one : (k w : ℕ) → k ≡ kind w → k ≡ 6 → ◌≡◌ {A = ℕ} 1 (cond (eqb (kind w) 6) 1 0)
-is_one k w e h = rw (eq-eqb (kind w) 6 (sym e ∙ h))
-
-pub is_none : (k w : ℕ) → k ≡ kind w → (k ≡ 6 → ⊥) → ◌≡◌ {A = ℕ} 0 (cond (eqb (kind w) 6) 1 0)
-is_none k w e h = rw (ne_eqb (kind w) 6 (λ z. h (e ∙ z)))

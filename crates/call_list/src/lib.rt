@@ -1,144 +1,113 @@
-// The calls of a list: where each ends, and the parts of its body.
+// The calls of a list, and the parts of their bodies. A body is what stands behind the word that begins a call, up to the next such word.
 #![tactic(auto)]
 
-ghost use Rattle.std.specs.Prelude.{◌≡◌, true, cond, List, ◌↔◌, ℕ, ◌+◌, ◌/◌, ◌≤◌, ◌<◌, eqb, length, drop};
+ghost use Rattle.std.specs.Prelude.{◌≡◌, true, List, ◌↔◌, ℕ, ◌≤◌, ◌<◌, eqb, length};
 ghost use Rattle.words.specs.Kinds.{kind};
 ghost use Rattle.words.specs.Words.{words};
-ghost use Rattle.monomial.specs.Monomial.{found};
-ghost use Rattle.index_theory.specs.Calls.{body_of, calls, Request};
-ghost use Rattle.call_list.specs.Bodies.{none, IsList, Leads, Single, Paired, Tripled};
+ghost use Rattle.index_theory.specs.Calls.{body_of, calls};
+ghost use Rattle.call_list.specs.Bodies.{IsList, Body, Leads, Begins, Single, Paired, Tripled};
 
-// Whether a body is an index word and the parts found behind it, and nothing else; and that index.
-#[derive(Clone, Copy)]
-pub struct Body {
-    pub good: bool,
-    pub index: u32,
-}
+use refusals::Refusal;
 
-fn no_body() -> Body
-    ensures { result ≡ none }
+// Whether w begins a call.
+fn is_call(w: u32) -> bool
+    ensures { result ≡ eqb (kind w) 6 }
 {
-    Body {
-        good: false,
-        index: 0,
-    }
+    words::kind(w) == 6
 }
 
 // Question 4: a whole number of words, empty or starting with kind 6.
 pub fn is_list(list: &[u8]) -> bool
     ensures { (result ≡ true) ↔ IsList list.now }
 {
-    if list.len() % 4 != 0 {
-        return false;
-    }
-    if list.len() == 0 {
-        return true;
-    }
-    words::kind(words::get(list, 0)) == 6
-}
-
-// 1 for a word that begins a call, else 0.
-fn is_call(w: u32) -> usize
-    ensures { result ≡ cond (eqb (kind w) 6) 1 0 }
-{
-    if words::kind(w) == 6 { 1 } else { 0 }
+    list.len() % 4 == 0 && (list.len() == 0 || is_call(words::get(list, 0)))
 }
 
 // How many calls the list has.
 pub fn count(list: &[u8]) -> usize
     ensures { result ≡ length (calls (words list.now)) }
 {
-    let end = list.len() / 4;
     let mut n: usize = 0;
-    let mut i: usize = 0;
-    while i < end {
-        n += is_call(words::get(list, i));
-        i += 1;
+    for i in 0..list.len() / 4 {
+        n += usize::from(is_call(words::get(list, i)));
     }
     n
 }
 
-// The word behind the body that starts at word `at`: the next call, or the end of the list.
-pub fn body_end(list: &[u8], at: usize) -> usize
-    requires { at ≤ length (words list.now) }
-    ensures { result ≡ at + length (body_of (drop at (words list.now))) }
+// How many words stand in front of the next call, or of the end of the list.
+fn body_words(list: &[u8]) -> usize
+    ensures { result ≡ length (body_of (words list.now)) }
 {
-    let end = list.len() / 4;
-    let mut i = at;
-    while i < end {
-        if words::kind(words::get(list, i)) == 6 {
+    let n = list.len() / 4;
+    for i in 0..n {
+        if is_call(words::get(list, i)) {
             return i;
         }
-        i += 1;
     }
-    i
+    n
 }
 
-// Whether the body from word `at` up to `end` is exactly the monomial x, as the finder hands it back there.
-pub fn single(list: &[u8], at: usize, end: usize, x: &[u8]) -> bool
-    requires at_in_bounds { at ≤ length (words list.now) }
-    requires end_value { end ≡ at + length (body_of (drop at (words list.now))) }
-    ensures { (m : ℕ) → x.now ≡ found 1 m list.now at → Single m (body_of (drop at (words list.now))) (words x.now) result }
+// The words in front of the next call, or of the end of the list.
+pub fn body(list: &[u8]) -> &[u8]
+    ensures { Body list.now result.now }
 {
-    if x.len() == 0 {
-        return false;
-    }
-    at + x.len() / 4 == end
+    let n = body_words(list);
+    &list[..4 * n]
 }
 
-// The index word that a body begins with.
-fn index_of(list: &[u8], at: usize, end: usize) -> Body
-    requires at_in_bounds { at ≤ length (words list.now) }
-    requires end_value { end ≡ at + length (body_of (drop at (words list.now))) }
-    ensures { Leads (body_of (drop at (words list.now))) (body_of (drop (at + 1) (words list.now))) result }
+// The index that a body begins with, and what stands behind it.
+fn index(body: &[u8]) -> Result<(u32, &[u8]), Refusal>
+    ensures { Leads (words body.now) result }
 {
-    if end <= at {
-        return no_body();
+    if body.len() < 4 {
+        return Err(Refusal::BadWords);
     }
-    let w = words::get(list, at);
+    let w = words::get(body, 0);
     if words::kind(w) != 3 {
-        return no_body();
+        return Err(Refusal::BadWords);
     }
-    Body {
-        good: true,
-        index: words::payload(w),
-    }
+    Ok((words::payload(w), &body[4..]))
 }
 
-// Whether it is an index word and the monomial x found behind it.
-pub fn pair(list: &[u8], at: usize, end: usize, x: &[u8]) -> Body
-    requires at_in_bounds { at ≤ length (words list.now) }
-    requires end_value { end ≡ at + length (body_of (drop at (words list.now))) }
-    ensures { (m : ℕ) → x.now ≡ found 1 m list.now (at + 1) → Paired m (body_of (drop at (words list.now))) (words x.now) result }
+// The monomial (kind 1) or ratio (kind 2) that a body begins with, and what stands behind it.
+fn part(kind: u32, body: &[u8], variables: u32) -> Result<(&[u8], &[u8]), Refusal>
+    requires { (1 ≤ kind) × (kind ≤ 2) }
+    ensures { Begins kind variables (words body.now) result }
 {
-    let b = index_of(list, at, end);
-    if !b.good {
-        return b;
-    }
-    Body {
-        good: single(list, at + 1, end, x),
-        index: b.index,
-    }
-}
-
-// Whether it is an index word, the monomial or ratio x found behind it and the monomial y found behind that.
-pub fn triple(list: &[u8], at: usize, end: usize, x: &[u8], y: &[u8]) -> Body
-    requires at_in_bounds { at ≤ length (words list.now) }
-    requires end_value { end ≡ at + length (body_of (drop at (words list.now))) }
-    ensures { (k m : ℕ) → 0 < k → k < 6 → x.now ≡ found k m list.now (at + 1) → y.now ≡ found 1 m list.now (at + 1 + length x.now / 4) → Tripled k m (body_of (drop at (words list.now))) (words x.now) (words y.now) result }
-{
-    let b = index_of(list, at, end);
-    if !b.good {
-        return b;
-    }
+    let x = monomial::canonical_at(body, 0, kind, variables);
     if x.len() == 0 {
-        return no_body();
+        return Err(Refusal::BadWords);
     }
-    if y.len() == 0 {
-        return no_body();
+    Ok((x, &body[x.len()..]))
+}
+
+// The monomial that a body is.
+pub fn single(body: &[u8], variables: u32) -> Result<&[u8], Refusal>
+    ensures { Single variables (words body.now) result }
+{
+    let (m, rest) = part(1, body, variables)?;
+    if 4 <= rest.len() {
+        return Err(Refusal::BadWords);
     }
-    Body {
-        good: at + 1 + x.len() / 4 + y.len() / 4 == end,
-        index: b.index,
-    }
+    Ok(m)
+}
+
+// The index and the monomial behind it that a body is.
+pub fn pair(body: &[u8], variables: u32) -> Result<(u32, &[u8]), Refusal>
+    ensures { Paired variables (words body.now) result }
+{
+    let (index, rest) = index(body)?;
+    let monomial = single(rest, variables)?;
+    Ok((index, monomial))
+}
+
+// The index, the monomial (kind 1) or ratio (kind 2) behind it and the monomial behind that which a body is.
+pub fn triple(kind: u32, body: &[u8], variables: u32) -> Result<(u32, &[u8], &[u8]), Refusal>
+    requires { (1 ≤ kind) × (kind ≤ 2) }
+    ensures { Tripled kind variables (words body.now) result }
+{
+    let (index, rest) = index(body)?;
+    let (x, rest) = part(kind, rest, variables)?;
+    let m = single(rest, variables)?;
+    Ok((index, x, m))
 }

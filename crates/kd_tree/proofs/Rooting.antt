@@ -2,11 +2,13 @@
 use mathlib.Core.Path.{◌≡◌, refl, sym, ap, ◌∙◌}
 use mathlib.Core.Bool.{Bool}
 use mathlib.Core.List.{List, ◌++◌}
-use Prim.Native.Nat.{ℕ, ◌+◌, ◌-◌, ◌*◌, ◌≤◌, ◌<◌}
+use mathlib.Core.Option.{some}
+use Prim.Native.Nat.{ℕ, zero, suc, ◌+◌, ◌-◌, ◌*◌, ◌≤◌, ◌<◌}
 use native.Mathlib.Nat.{mul-le-mul_right}
 use native.Mathlib.Omega.{arith}
 use lib.ListN.{length, get_or, set, drop, length-set}
 use lib.Seq.{get_or-set_same, get_or-set_other, take_all}
+use Rattle.std.specs.Prelude.{Option, Some, None, SomeIff, IfSome}
 use Rattle.words.specs.Words.{words, bytes, put_w, paste_w}
 use Rattle.words.specs.Tables.{part, zeros}
 use Rattle.words.proofs.Joined.{moved}
@@ -30,7 +32,7 @@ use Rattle.kd_image.proofs.Standing.{part_same, part-kept}
 use Rattle.kd_image.proofs.Becoming.{put_rest, tree-became}
 use Rattle.query_words.specs.Asked.{shape_in, option_of, Asks}
 use Rattle.kd_tree.specs.Searched.{search_from, Ready, Found, Searched}
-use Rattle.query_words.specs.Rooted.{Rooted, RootReady, Answered}
+use Rattle.query_words.specs.Rooted.{theory_option, Rooted, RootReady, Answered}
 use Rattle.kd_tree.proofs.Visiting.{search-kept}
 
 all_of : (l : List ℕ) (n : ℕ) → length l ≡ n → part l 0 n ≡ l
@@ -213,6 +215,14 @@ module _ (bs : List ℕ) (st : State) (I : Is st bs) where
         own ∙ paste_w-front bs₂ E ∙ ap (λ (r : List ℕ). bytes E ++ r) tail ∙ sym (paste_w-front bs E)
 
 -- ---- the search of a whole image
+-- one less than the number of what was found, or nothing
+place-of : (n m : ℕ) (place : Option ℕ) → SomeIff place (1 ≤ n) (n - 1) → n ≤ m → (theory_option place ≡ option_of n) × IfSome place (λ e. e < m)
+unfolding option_of
+place-of zero m None h l = (refl, tt)
+place-of zero m (Some e) h l = absurd (omega (arith, h.0))
+place-of (suc n) m None h l = absurd (h (omega arith))
+place-of (suc n) m (Some e) h l = let q : e ≡ n = omega (arith, h.1) in (ap some q, omega arith)
+
 pub root-ready : (bs ms Q : List ℕ) → RootReady bs ms Q → Ready bs ms (shape_in Q) Q 0 0 (shape_in Q).nodes 0
 root-ready bs ms Q w = record {
   state = w.state;
@@ -259,14 +269,16 @@ module _ (bs bs₁ ms Q : List ℕ) (best : ℕ) (on : Bool) (rows : ℕ) (S : S
         room = omega (arith, h.holds.room, length-words bs₁);
       }
 
-  pub root-answered : (bs₂ : List ℕ) → bs₂ ≡ put_w bs₁ at.nodes_count_at rows → Bytes bs₂ → (best' : ℕ) → best' ≡ best → Answered bs bs₂ ms Q best'
+  pub root-answered : (bs₂ : List ℕ) → bs₂ ≡ put_w bs₁ at.nodes_count_at rows → Bytes bs₂ → (best' : ℕ) → best' ≡ best
+      → (place : Option ℕ) → SomeIff place (1 ≤ best') (best' - 1) → Answered bs bs₂ ms Q place
   unfolding Answered
-  root-answered bs₂ w₂ by best' eb st r R =
+  root-answered bs₂ w₂ by best' eb place ep st r R =
       let f = found-root st r R in
       let k = rw (← first-search st r) at (search-kept st R.is.valid r 0 st.tree (option_of 0) R.is.valid.ordered) in
+      let z = place-of best' (length st.entries) place ep (omega (arith, eb, f.small)) in
       record {
-        found = rw eb f.best-is;
-        small = rw eb f.small;
+        found = z.0 ∙ rw eb f.best-is;
+        small = z.1;
         bytes = root-after bs st R.is bs₁ bs₂ rows (find st r).tree k f.became w₂ by;
         after = root_is bs st R.is bs₁ bs₂ rows (find st r).tree k f.became w₂ by;
       }

@@ -85,12 +85,12 @@ fn search_root(image: &mut [u8], q: &[u8], m: &[u8], acc: u64) -> u64
     search(image, q, m, 0, 0, 0, step::with_rows(acc, n))
 }
 
-// Searches the whole image: 0, or the place of the entry found + 1.
-pub fn find(image: &mut [u8], q: &[u8], m: &[u8]) -> usize
+// Searches the whole image: the place of the entry that is found.
+pub fn find(image: &mut [u8], q: &[u8], m: &[u8]) -> Option<usize>
     requires { RootReady image.old m.now (words q.now) }
     ensures { Answered image.old image.new m.now (words q.now) result }
 {
     let r = search_root(image, q, m, step::first(query::num(q, query::NODES)));
     words::put(image, fields::NODES, step::rows(r) as u32);
-    step::best(r)
+    step::best(r).checked_sub(1)
 }

@@ -6,45 +6,19 @@ use lib.ListN.{length}
 use Rattle.words.specs.Words.{words}
 use Rattle.words.proofs.Laws.{length-words}
 use Rattle.index_theory.specs.Calls.{calls}
-use Rattle.call_list.proofs.Parting.{past_end, counted, one-call, calls-nil}
+use Rattle.call_list.proofs.Parting.{past_end, counted, calls-nil}
 use Rattle.call_list.proofs.count.Goals as goal
 
-pub loop-i-init : goal.loop-i-init
-loop-i-init c = (omega arith, (omega arith, omega arith))
-
-pub get-requires : goal.get-requires
-get-requires c = omega (arith, length-words c.args.list.now, c.loop-i-test.true)
-
-pub overflow_add-n : goal.overflow_add-n
-overflow_add-n c = omega (arith, c.loop-i.invariant.0, c.loop-i-test.true, c.is_call-n.ensures, one-call c.get.result)
-
-pub overflow_add-i : goal.overflow_add-i
-overflow_add-i c = omega (arith, c.loop-i-test.true)
-
-pub loop-i-smaller : goal.loop-i-smaller
-loop-i-smaller c = omega (arith, c.loop-i-test.true)
-
 pub loop-i-preserved : goal.loop-i-preserved
-loop-i-preserved c = (
-  omega (arith, c.loop-i.invariant.0, c.is_call-n.ensures, one-call c.get.result),
-  (
-    omega (arith, c.loop-i-test.true),
-    omega (
-      arith,
-      c.loop-i.invariant.1.1,
-      c.is_call-n.ensures,
-      counted (words c.args.list.now) c.loop-i.i c.get.result (omega (arith, length-words c.args.list.now, c.loop-i-test.true))
-          c.get.ensures,
-    ),
-  ),
-)
+loop-i-preserved c =
+    let q = counted (words c.args.list.now) c.loop-i.i _ (omega (arith, length-words c.args.list.now, c.loop-i-test.true)) c.get.ensures _ _ c.is_call.ensures c.from-n.ensures in
+    (omega (arith, c.loop-i.invariant.0, q.0), omega (arith, c.loop-i.invariant.1, q.1))
 
 pub returns : goal.returns
 returns c =
     omega (
       arith,
-      c.loop-i.invariant.1.1,
-      ap (λ (l : List ℕ). length (calls l))
-          (past_end (words c.args.list.now) c.loop-i.i (omega (arith, length-words c.args.list.now, c.loop-i-test.false))),
+      c.loop-i.invariant.1,
+      ap (λ (l : List ℕ). length (calls l)) (past_end (words c.args.list.now) c.loop-i.i (omega (arith, length-words c.args.list.now, c.loop-i-test.false))),
       ap length calls-nil,
     )

@@ -1,14 +1,8 @@
-use native.Mathlib.Omega.{arith}
-use borrow.Author.Tests.{eqb-true, eqb-false}
-use Rattle.words.proofs.Laws.{length-words}
-use Rattle.call_list.proofs.Parting.{single-bad, single-good}
+use Rattle.call_list.proofs.Parting.{single-more, single-all}
 use Rattle.call_list.proofs.single.Goals as goal
 
-pub returns-then-x-eq0 : goal.returns-then-x-eq0
-returns-then-x-eq0 c = λ m e. single-bad _ _ _ c.requires.at_in_bounds c.requires.end_value m _ e c.if-x-eq0.true
-
-pub overflow_add-result : goal.overflow_add-result
-overflow_add-result c = omega (arith, c.well_formed, c.requires.at_in_bounds, length-words c.args.list.now)
+pub returns-then-rest-ge4 : goal.returns-then-rest-ge4
+returns-then-rest-ge4 c = single-more _ _ _ _ c.in_ok-m.ensures c.if-rest-ge4.true
 
 pub returns : goal.returns
-returns c = λ m e. single-good _ _ _ c.requires.at_in_bounds c.requires.end_value m _ e c.if-x-eq0.false _ (λ t. eqb-true _ _ t) (λ t. eqb-false _ _ t)
+returns c = single-all _ _ _ _ c.in_ok-m.ensures c.if-rest-ge4.false

@@ -41,4 +41,4 @@ returns c =
     let rows = c.rows in
     let put = c.put in
     root-answered _ _ _ _ _ _ _ (rw (first.ensures.0 ∙ (num.ensures.0 ∙ nodes-is (words c.args.q.now)), first.ensures.1.0) at search-root.ensures) _
-    (rw rows.ensures at put.ensures) (λ j. (c.type_inv.image j).fits) _ c.best.ensures
+    (rw rows.ensures at put.ensures) (λ j. (c.type_inv.image j).fits) _ c.best.ensures _ c.checked_sub.ensures
