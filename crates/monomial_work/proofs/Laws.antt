@@ -64,10 +64,6 @@ whole a b n e = go (divides b a) refl e
     go true q r = (q, cc)
     go false q r = absurd (let z : ◌≡◌ {A = ℕ} 0 1 = cc in omega arith)
 
-pub yes-small : (t : Bool) → yes t < 268435456
-yes-small true = omega arith
-yes-small false = omega arith
-
 pub number_small : (c : Ordering) → number c < 268435456
 number_small Less = omega arith
 number_small Equal = omega arith

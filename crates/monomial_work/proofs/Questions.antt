@@ -83,23 +83,6 @@ no-zero Full = refl
 no-zero TooLarge = refl
 no-zero NoLabel = refl
 
-pub no-variables : (k m : ℕ) (a b : List ℕ) → variables_fit m ≡ false → Err Sizes ≡ refusal k m a b
-unfolding refusal
-no-variables k m a b h = rw h
-
-module _ (k m : ℕ) (a b : List ℕ) (fit : variables_fit m ≡ true) where
-  pub first-not : lent k m a ≡ false → Err BadWords ≡ refusal k m a b
-  unfolding refusal
-  first-not h = rw (fit, h)
-
-  pub second-not : lent k m a ≡ true → lent k m b ≡ false → Err BadWords ≡ refusal k m a b
-  unfolding refusal
-  second-not h l = rw (fit, h, l)
-
-  pub both-canonical : lent k m a ≡ true → lent k m b ≡ true → Ok (tt {0}) ≡ refusal k m a b
-  unfolding refusal
-  both-canonical h l = rw (fit, h, l)
-
 -- what they tell where no reply is no
 pub record Fine (k m : ℕ) (a b : List ℕ) : Type 0 where
   pub fit : variables_fit m ≡ true
