@@ -8,12 +8,13 @@ use lib.ListN.{length}
 use lib.Seq.{take_all}
 use Rattle.monomial.specs.Monomial.{Canonical, Starts, first}
 use Rattle.monomial.specs.Operations.{result_words, divides, divided}
-use Rattle.monomial.specs.declared.Division.TheVariants.{Whole, NotDivisible}
+use Rattle.std.specs.Prelude.{Some, None}
 use Rattle.std.specs.declared.cmp.Ordering.{Ordering}
 use Rattle.std.specs.declared.cmp.Ordering.TheVariants.{Less, Equal, Greater}
 use Rattle.monomial.specs.declared.ordered_ops.Op.{Op}
 use Rattle.monomial.proofs.Laws.{length-result}
 use Rattle.monomial.proofs.Firsts.{starts-wide, starts-whole, first-whole}
+use Rattle.std.specs.Int.{from_bool}
 use Rattle.monomial_work.specs.Served.{yes, number, one_answer, division, answer}
 use Rattle.monomial_work.specs.Steps.{work_of}
 
@@ -31,7 +32,7 @@ pub division-words : (a b : List ℕ) → division (divided a b) (result_words O
 unfolding divided division
 division-words a b = go (divides b a)
   where
-    go : (t : Bool) → division (cond t (Whole (length (result_words Op.Quotient a b))) NotDivisible) (result_words Op.Quotient a b) ≡ cond t (result_words Op.Quotient a b) (one_answer 0)
+    go : (t : Bool) → division (cond t (Some (length (result_words Op.Quotient a b))) None) (result_words Op.Quotient a b) ≡ cond t (result_words Op.Quotient a b) (one_answer 0)
     go true = take_all (length (result_words Op.Quotient a b)) (result_words Op.Quotient a b) (omega arith)
     go false = refl
 
@@ -47,27 +48,27 @@ answer-length Op.Quotient a b ca cb = rw (division-words a b) (go (divides b a))
 answer-length Op.Ratio a b ca cb = length-result 64 a b ca cb Op.Ratio (omega arith)
 
 -- what whole division answered
-pub not-whole : (a b : List ℕ) → divided a b ≡ NotDivisible → divides b a ≡ false
+pub not-whole : (a b : List ℕ) → divided a b ≡ None → divides b a ≡ false
 unfolding divided
 not-whole a b e = go (divides b a) refl e
   where
-    go : (t : Bool) → divides b a ≡ t → cond t (Whole (length (result_words Op.Quotient a b))) NotDivisible ≡ NotDivisible → divides b a ≡ false
+    go : (t : Bool) → divides b a ≡ t → cond t (Some (length (result_words Op.Quotient a b))) None ≡ None → divides b a ≡ false
     go true q r = absurd (let z : ◌≡◌ {A = ℕ} 0 1 = cc in omega arith)
     go false q r = q
 
-pub whole : (a b : List ℕ) (n : ℕ) → divided a b ≡ Whole n → (divides b a ≡ true) × (n ≡ length (result_words Op.Quotient a b))
+pub whole : (a b : List ℕ) (n : ℕ) → divided a b ≡ Some n → (divides b a ≡ true) × (n ≡ length (result_words Op.Quotient a b))
 unfolding divided
 whole a b n e = go (divides b a) refl e
   where
-    go : (t : Bool) → divides b a ≡ t → cond t (Whole (length (result_words Op.Quotient a b))) NotDivisible ≡ Whole n → (divides b a ≡ true) × (n ≡ length (result_words Op.Quotient a b))
+    go : (t : Bool) → divides b a ≡ t → cond t (Some (length (result_words Op.Quotient a b))) None ≡ Some n → (divides b a ≡ true) × (n ≡ length (result_words Op.Quotient a b))
     go true q r = (q, cc)
     go false q r = absurd (let z : ◌≡◌ {A = ℕ} 0 1 = cc in omega arith)
-
-pub yes-small : (t : Bool) → yes t < 268435456
-yes-small true = omega arith
-yes-small false = omega arith
 
 pub number_small : (c : Ordering) → number c < 268435456
 number_small Less = omega arith
 number_small Equal = omega arith
 number_small Greater = omega arith
+
+pub yes-byte : (t : Bool) → from_bool t ≡ yes t
+yes-byte true = refl
+yes-byte false = refl

@@ -8,7 +8,7 @@ use native.Mathlib.Decide.{dec_le}
 use lib.Dec.{eqb, leb}
 use lib.ListN.{length, take, drop}
 use lib.Seq.{take_at, length-take-le}
-use borrow.Author.Tests.{ne_eqb, le-leb, lt-leb, leb-true}
+use borrow.Author.Tests.{le-leb, lt-leb, leb-true}
 use Rattle.words.specs.Words.{words, bytes, paste_w}
 use Rattle.words.proofs.Laws.{paste_w-front, length-paste_w, length-bytes, words-bytes}
 use Rattle.monomial.specs.Monomial.{Canonical, lent, pow}
@@ -19,6 +19,10 @@ use Rattle.monomial.proofs.Laws.{canonical-more, lent-canonical, product-canonic
 use Rattle.monomial.proofs.Powers.{pow-ids}
 use Rattle.monomial.specs.Sizes.{variables_fit}
 use Rattle.monomial.proofs.Sizing.{variables-fit}
+use Rattle.std.specs.Prelude.{Result, Ok, Err}
+use Rattle.refusals.specs.Numbers.{number, told}
+use Rattle.refusals.specs.declared.Refusal.{Refusal}
+use Rattle.refusals.specs.declared.Refusal.TheVariants.{Sizes, ShortImage, Unsound, NoList, ShortBuffer, NotServed, BadWords, Full, TooLarge, NoLabel}
 use Rattle.monomial_work.specs.Served.{lent_kind, one_answer, answer, small, powers_fit, verdict, Served}
 use Rattle.monomial_work.specs.Steps.{refusal, work_of, too_large, Told}
 use Rattle.monomial_work.specs.declared.Work.{Work}
@@ -66,22 +70,18 @@ kinds Op.Quotient = refl
 kinds Op.Ratio = refl
 
 -- ---- questions 1 and 7
-pub no-variables : (k m : ℕ) (a b : List ℕ) → variables_fit m ≡ false → 1 ≡ refusal k m a b
-unfolding refusal
-no-variables k m a b h = rw h
-
-module _ (k m : ℕ) (a b : List ℕ) (fit : variables_fit m ≡ true) where
-  pub first-not : lent k m a ≡ false → 7 ≡ refusal k m a b
-  unfolding refusal
-  first-not h = rw (fit, h)
-
-  pub second-not : lent k m a ≡ true → lent k m b ≡ false → 7 ≡ refusal k m a b
-  unfolding refusal
-  second-not h l = rw (fit, h, l)
-
-  pub both-canonical : lent k m a ≡ true → lent k m b ≡ true → 0 ≡ refusal k m a b
-  unfolding refusal
-  both-canonical h l = rw (fit, h, l)
+no-zero : (r : Refusal) → eqb (number r) 0 ≡ false
+unfolding number
+no-zero Sizes = refl
+no-zero ShortImage = refl
+no-zero Unsound = refl
+no-zero NoList = refl
+no-zero ShortBuffer = refl
+no-zero NotServed = refl
+no-zero BadWords = refl
+no-zero Full = refl
+no-zero TooLarge = refl
+no-zero NoLabel = refl
 
 -- what they tell where no reply is no
 pub record Fine (k m : ℕ) (a b : List ℕ) : Type 0 where
@@ -90,15 +90,19 @@ pub record Fine (k m : ℕ) (a b : List ℕ) : Type 0 where
   pub la : lent k m a ≡ true
   pub lb : lent k m b ≡ true
 
-pub fine : (k m : ℕ) (a b : List ℕ) → 0 ≡ refusal k m a b → Fine k m a b
+pub fine : (k m : ℕ) (a b : List ℕ) → Ok (tt {0}) ≡ refusal k m a b → Fine k m a b
 unfolding refusal
 fine k m a b e = go (variables_fit m) (lent k m a) (lent k m b) refl refl refl e
   where
-    go : (x y z : Bool) → variables_fit m ≡ x → lent k m a ≡ y → lent k m b ≡ z → ◌≡◌ {A = ℕ} 0 (cond x (cond (y && z) 0 7) 1) → Fine k m a b
+    go : (x y z : Bool) → variables_fit m ≡ x → lent k m a ≡ y → lent k m b ≡ z → Ok (tt {0}) ≡ cond x (cond (y && z) (Ok (tt {0})) (Err BadWords)) (Err Sizes) → Fine k m a b
     go true true true p q r t = record { fit = p; few = ((variables-fit m).0 p).1; la = q; lb = r }
-    go true true false p q r t = absurd (omega arith)
-    go true false z p q r t = absurd (omega arith)
-    go false y z p q r t = absurd (omega arith)
+    go true true false p q r t = cc
+    go true false z p q r t = cc
+    go false y z p q r t = cc
+
+-- as a work asks them
+pub passed : (w : Work) (m : ℕ) (a b : List ℕ) {k : ℕ} {r : Result Unit Refusal} {u : Unit} → k ≡ lent_kind w → r ≡ refusal k m a b → r ≡ Ok u → Fine (lent_kind w) m a b
+passed w m a b {k} {r} {u} e q h = fine (lent_kind w) m a b (sym h ∙ q ∙ ap (λ (i : ℕ). refusal i m a b) e)
 
 -- what was lent is canonical in 64 variables too
 pub canonical-64 : (k m : ℕ) (s : List ℕ) → 0 < k → m ≤ 64 → lent k m s ≡ true → Canonical k 64 (words s)
@@ -109,26 +113,26 @@ module _ (w : Work) (m : ℕ) (a b out : List ℕ) where
   refused r e z = record { number_is = sym e; bytes-are = rw (e, z) }
 
   -- a no to question 1 or 7
-  pub asked-no : {r : ℕ} → r ≡ refusal (lent_kind w) m a b → (r ≡ 0 → ⊥) → Served w m a b out r out
-  unfolding verdict refusal
-  asked-no {r} e h = refused r (go (variables_fit m) (lent (lent_kind w) m a && lent (lent_kind w) m b) _ e) (ne_eqb r 0 h)
+  pub asked-no : {x : Refusal} → Err x ≡ refusal (lent_kind w) m a b → Served w m a b out (number x) out
+  unfolding verdict refusal number
+  asked-no {x} e = refused (number x) (go (variables_fit m) (lent (lent_kind w) m a && lent (lent_kind w) m b) _ e) (no-zero x)
     where
-      go : (x y : Bool) (z : ℕ) → r ≡ cond x (cond y 0 7) 1 → cond x (cond y z 7) 1 ≡ r
-      go true true z q = absurd (h q)
-      go true false z q = sym q
-      go false y z q = sym q
+      go : (y z : Bool) (v : ℕ) → Err x ≡ cond y (cond z (Ok (tt {0})) (Err BadWords)) (Err Sizes) → cond y (cond z v 7) 1 ≡ number x
+      go true true v q = cc
+      go true false v q = let h : x ≡ BadWords = cc in rw h
+      go false z v q = let h : x ≡ Sizes = cc in rw h
 
   module _ (f : Fine (lent_kind w) m a b) where
-    pub told : {p r : ℕ} {after : List ℕ} → small w (words a) (words b) ≡ true → answer w (words a) (words b) ≡ one_answer p → Told p out r after → Served w m a b out r after
-    unfolding verdict
-    told {p} {r} {after} s e t = go (leb 4 (length out)) refl
+    pub told-word : {p : ℕ} {r : Result Unit Refusal} {after : List ℕ} → small w (words a) (words b) ≡ true → answer w (words a) (words b) ≡ one_answer p → Told p out r after → Served w m a b out (told r) after
+    unfolding verdict told number
+    told-word {p} {r} {after} s e t = go (leb 4 (length out)) refl
       where
         is : (x : Bool) → leb 4 (length out) ≡ x → verdict w m a b out ≡ cond x 0 5
         is x q = rw (f.fit, f.la, f.lb, s, e, q)
 
-        go : (x : Bool) → leb 4 (length out) ≡ x → Served w m a b out r after
-        go true q = record { number_is = t.number_is ∙ rw q (sym (is true q)); bytes-are = t.bytes-are ∙ rw (q, is true q, e) }
-        go false q = record { number_is = t.number_is ∙ rw q (sym (is false q)); bytes-are = t.bytes-are ∙ rw (q, is false q) }
+        go : (x : Bool) → leb 4 (length out) ≡ x → Served w m a b out (told r) after
+        go true q = record { number_is = ap told t.number_is ∙ rw q (sym (is true q)); bytes-are = t.bytes-are ∙ rw (q, is true q, e) }
+        go false q = record { number_is = ap told t.number_is ∙ rw q (sym (is false q)); bytes-are = t.bytes-are ∙ rw (q, is false q) }
 
 module _ (o : Op) (m : ℕ) (a b out : List ℕ) (f : Fine 1 m a b) (space made : List ℕ) (n : ℕ)
     (en : n ≡ length (answer (work_of o) (words a) (words b))) (em : made ≡ paste_w space 0 (answer (work_of o) (words a) (words b))) where
@@ -182,3 +186,7 @@ pub made-fits : (space made ans : List ℕ) (n : ℕ) → made ≡ paste_w space
 made-fits space made ans n e h en l =
     let k : length made ≡ 260 = ap length e ∙ length-paste_w space 0 ans (omega arith) ∙ h in
     record { few = omega arith; room = omega arith; size = length-take-le (4 * n) made (omega arith) }
+
+-- what the operations ask of two lists that passed
+pub ready-words : {k m : ℕ} {a b : List ℕ} → 0 < k → Fine k m a b → Canonical k 64 (words a) × Canonical k 64 (words b)
+ready-words {k} {m} {a} {b} pos f = (canonical-64 k m a pos f.few f.la, canonical-64 k m b pos f.few f.lb)

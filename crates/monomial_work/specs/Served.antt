@@ -1,13 +1,11 @@
 -- The monomial work of document 01: what each door answers, which number it returns, and every byte after. Assumes nothing.
-use Rattle.std.specs.Prelude.{◌≡◌, Bool, true, false, cond, ◌&&◌, List, [], ◌∷◌, ℕ, ◌+◌, ◌*◌, eqb, leb, length, take}
+use Rattle.std.specs.Prelude.{◌≡◌, Bool, true, false, cond, ◌&&◌, List, [], ◌∷◌, ℕ, ◌+◌, ◌*◌, eqb, leb, length, take, Option, Some, None}
 use Rattle.words.specs.Kinds.{answer_word}
 use Rattle.words.specs.Words.{words, paste_w}
 use Rattle.monomial.specs.Monomial.{pow, lent}
 use Rattle.monomial.specs.Operations.{result_words, all_below, divides, divided, equal}
 use Rattle.monomial_ordering.specs.Order.{order}
 use Rattle.monomial.specs.Sizes.{variables_fit}
-use Rattle.monomial.specs.declared.Division.{Division}
-use Rattle.monomial.specs.declared.Division.TheVariants.{Whole, NotDivisible}
 use Rattle.std.specs.declared.cmp.Ordering.{Ordering}
 use Rattle.std.specs.declared.cmp.Ordering.TheVariants.{Less, Equal, Greater}
 use Rattle.monomial.specs.declared.ordered_ops.Op.{Op}
@@ -41,9 +39,9 @@ abbrev pub one_answer : ℕ → List ℕ
 one_answer p = answer_word p ∷ []
 
 -- a division's words: the n of its quotient q; no quotient is a kind 4 word, payload 0
-unfoldable pub division : Division → List ℕ → List ℕ
-division (Whole n) q = take n q
-division NotDivisible q = one_answer 0
+unfoldable pub division : Option ℕ → List ℕ → List ℕ
+division (Some n) q = take n q
+division None q = one_answer 0
 
 -- the words answered
 unfoldable pub answer : Work → List ℕ → List ℕ → List ℕ

@@ -1,19 +1,21 @@
 // The monomial work on lent bytes, exported to C. Each door asks its questions in document 01's order and demands nothing.
 #![tactic(auto)]
 
-ghost use Rattle.std.specs.Prelude.{◌≡◌, ◌*◌, ◌<◌, ◌≤◌, length};
+ghost use Rattle.std.specs.Prelude.{◌≡◌, ◌*◌, ◌<◌, ◌≤◌, length, Ok};
 ghost use Rattle.words.specs.Words.{words, paste_w};
-ghost use Rattle.monomial.specs.Monomial.{Canonical, Starts, first};
+ghost use Rattle.monomial.specs.Monomial.{number as kind_number, Canonical, Starts, first};
+ghost use Rattle.refusals.specs.Numbers.{told};
 ghost use Rattle.monomial.specs.Operations.{result_words};
 ghost use Rattle.monomial_work.specs.Served as spec;
 ghost use Rattle.monomial_work.specs.Steps as steps;
 
-use monomial::Division;
+use monomial::Kind;
 use monomial::ordered_ops::Op;
+use refusals::Refusal;
 use std::cmp::Ordering;
 
-// What is asked of two monomials, or of two ratios.
-#[derive(Clone, Copy)]
+/// What is asked of two monomials, or of two ratios.
+#[derive(Clone, Copy, Debug, PartialEq, Eq)]
 pub enum Work {
     Gcd,
     Mul,
@@ -26,10 +28,16 @@ pub enum Work {
     RatioCmp,
 }
 
-fn yes(b: bool) -> u32
-    ensures { result ≡ spec.yes b }
-{
-    if b { 1 } else { 0 }
+impl Work {
+    // What the two lists lent are.
+    fn kind(self) -> Kind
+        ensures { kind_number result ≡ spec.lent_kind self }
+    {
+        match self {
+            Work::RatioEq | Work::RatioCmp => Kind::Ratio,
+            _ => Kind::Monomial,
+        }
+    }
 }
 
 fn number(c: Ordering) -> u32
@@ -58,10 +66,10 @@ fn quotient(a: &[u8], b: &[u8], out: &mut [u8]) -> usize
     requires in_bounds { (4 ≤ length out.old) × (4 * length (result_words Op.Quotient (first 1 (words a.now)) (first 1 (words b.now))) ≤ length out.old) }
     ensures { (result ≡ length (spec.answer Work.WholeDivision (first 1 (words a.now)) (first 1 (words b.now)))) × (out.new ≡ paste_w out.old 0 (spec.answer Work.WholeDivision (first 1 (words a.now)) (first 1 (words b.now)))) }
 {
-    let Division::Whole(n) = monomial::whole_division(a, b, out) else {
-        return put_answer(out, 0);
-    };
-    n
+    match monomial::whole_division(a, b, out) {
+        Some(n) => n,
+        None => put_answer(out, 0),
+    }
 }
 
 // Writes the answer's words, and returns their number. The room asked for holds every answer in at most 64 variables.
@@ -84,60 +92,78 @@ fn too_large(op: Op, made: &[u8], variables: u32) -> bool
     ensures { result ≡ steps.too_large op variables made.now }
 {
     match op {
-        Op::Gcd => false,
-        Op::Product => !monomial::is_canonical(made, 1, variables),
-        Op::Quotient => false,
-        Op::Ratio => false,
+        Op::Product => !monomial::is_canonical(made, Kind::Monomial, variables),
+        Op::Gcd | Op::Quotient | Op::Ratio => false,
     }
 }
 
-// Questions 1 and 7 of two lists of a kind: 0, or the number of the first whose reply is no.
-fn refusal(variables: u32, a: &[u8], b: &[u8], kind: u32) -> u32
-    requires { (1 ≤ kind) × (kind ≤ 2) }
-    ensures { result ≡ steps.refusal kind variables a.now b.now }
+// Questions 1 and 7 of two lists of a kind.
+#[tactic(auto, unfolding(crate::specs::Steps::refusal))]
+fn ask(variables: u32, a: &[u8], b: &[u8], kind: Kind) -> Result<(), Refusal>
+    ensures { result ≡ steps.refusal (kind_number kind) variables a.now b.now }
 {
     if !monomial::sizes::variables_fit(variables as usize) {
-        return 1;
+        return Err(Refusal::Sizes);
     }
-    if !monomial::is_canonical(a, kind, variables) {
-        return 7;
+    if monomial::is_canonical(a, kind, variables) && monomial::is_canonical(b, kind, variables) {
+        Ok(())
+    } else {
+        Err(Refusal::BadWords)
     }
-    if !monomial::is_canonical(b, kind, variables) {
-        return 7;
-    }
-    0
 }
 
-// The doors whose answer is a monomial or ratio. It is made aside first, since a refusal changes no byte.
-fn make(op: Op, variables: u32, a: &[u8], b: &[u8], out: &mut [u8]) -> u32
-    ensures { spec.Served (steps.work_of op) variables a.now b.now out.old result out.new }
+// An answer that is a monomial or ratio, with questions 9 and 5. It is made aside first, since a refusal changes no byte.
+fn make(op: Op, variables: u32, a: &[u8], b: &[u8], out: &mut [u8]) -> Result<(), Refusal>
+    requires { Ok tt ≡ steps.refusal 1 variables a.now b.now }
+    ensures { spec.Served (steps.work_of op) variables a.now b.now out.old (told result) out.new }
 {
-    let r = refusal(variables, a, b, 1);
-    if r != 0 {
-        return r;
-    }
     let mut made = [0u8; 260];
     let e = 4 * answer(op, a, b, &mut made);
     if too_large(op, &made[..e], variables) {
-        return 9;
+        return Err(Refusal::TooLarge);
     }
     if out.len() < e {
-        return 5;
+        return Err(Refusal::ShortBuffer);
     }
     out[..e].copy_from_slice(&made[..e]);
-    0
+    Ok(())
 }
 
-// The doors whose answer is one word: question 5, and the word.
-fn tell(out: &mut [u8], p: u32) -> u32
+// An answer that is one word, with question 5.
+fn tell(out: &mut [u8], p: u32) -> Result<(), Refusal>
     requires { p < 268435456 }
     ensures { steps.Told p out.old result out.new }
 {
     if out.len() < 4 {
-        return 5;
+        return Err(Refusal::ShortBuffer);
     }
     words::put(out, 0, words::answer_word(p));
-    0
+    Ok(())
+}
+
+/// Writes what is asked to the front of out, or says why not and changes no byte.
+pub fn try_serve(w: Work, variables: u32, a: &[u8], b: &[u8], out: &mut [u8]) -> Result<(), Refusal>
+    ensures { spec.Served w variables a.now b.now out.old (told result) out.new }
+{
+    ask(variables, a, b, w.kind())?;
+    match w {
+        Work::Gcd => make(Op::Gcd, variables, a, b, out),
+        Work::Mul => make(Op::Product, variables, a, b, out),
+        Work::WholeDivision => make(Op::Quotient, variables, a, b, out),
+        Work::FractionDivision => make(Op::Ratio, variables, a, b, out),
+        Work::Divides => tell(out, u32::from(monomial::divides(a, b))),
+        Work::Eq => tell(out, u32::from(monomial::eq(a, b))),
+        Work::RatioEq => tell(out, u32::from(monomial::eq(a, b))),
+        Work::Cmp => tell(out, number(monomial_ordering::ord(a, b, Kind::Monomial))),
+        Work::RatioCmp => tell(out, number(monomial_ordering::ord(a, b, Kind::Ratio))),
+    }
+}
+
+/// `try_serve`, with the number that C is told.
+pub fn serve(w: Work, variables: u32, a: &[u8], b: &[u8], out: &mut [u8]) -> u32
+    ensures { spec.Served w variables a.now b.now out.old result out.new }
+{
+    refusals::told(try_serve(w, variables, a, b, out))
 }
 
 // The greatest common divisor.
@@ -150,7 +176,7 @@ pub extern "C" fn divisor_index_monomial_gcd(
 ) -> u32
     ensures { spec.Served Work.Gcd variables a.now b.now out.old result out.new }
 {
-    make(Op::Gcd, variables, a, b, out)
+    serve(Work::Gcd, variables, a, b, out)
 }
 
 // The product; 9 where a power is above 32,767.
@@ -163,7 +189,7 @@ pub extern "C" fn divisor_index_monomial_mul(
 ) -> u32
     ensures { spec.Served Work.Mul variables a.now b.now out.old result out.new }
 {
-    make(Op::Product, variables, a, b, out)
+    serve(Work::Mul, variables, a, b, out)
 }
 
 // The quotient a / b, or a kind 4 word with payload 0 where b does not divide a.
@@ -176,7 +202,7 @@ pub extern "C" fn divisor_index_monomial_whole_division(
 ) -> u32
     ensures { spec.Served Work.WholeDivision variables a.now b.now out.old result out.new }
 {
-    make(Op::Quotient, variables, a, b, out)
+    serve(Work::WholeDivision, variables, a, b, out)
 }
 
 // The ratio a / b.
@@ -189,7 +215,7 @@ pub extern "C" fn divisor_index_monomial_fraction_division(
 ) -> u32
     ensures { spec.Served Work.FractionDivision variables a.now b.now out.old result out.new }
 {
-    make(Op::Ratio, variables, a, b, out)
+    serve(Work::FractionDivision, variables, a, b, out)
 }
 
 // Whether a divides b.
@@ -202,11 +228,7 @@ pub extern "C" fn divisor_index_monomial_divides(
 ) -> u32
     ensures { spec.Served Work.Divides variables a.now b.now out.old result out.new }
 {
-    let r = refusal(variables, a, b, 1);
-    if r != 0 {
-        return r;
-    }
-    tell(out, yes(monomial::divides(a, b)))
+    serve(Work::Divides, variables, a, b, out)
 }
 
 // Whether two monomials are equal.
@@ -219,11 +241,7 @@ pub extern "C" fn divisor_index_monomial_eq(
 ) -> u32
     ensures { spec.Served Work.Eq variables a.now b.now out.old result out.new }
 {
-    let r = refusal(variables, a, b, 1);
-    if r != 0 {
-        return r;
-    }
-    tell(out, yes(monomial::eq(a, b)))
+    serve(Work::Eq, variables, a, b, out)
 }
 
 // How two monomials compare: less 0, equal 1, greater 2.
@@ -236,11 +254,7 @@ pub extern "C" fn divisor_index_monomial_cmp(
 ) -> u32
     ensures { spec.Served Work.Cmp variables a.now b.now out.old result out.new }
 {
-    let r = refusal(variables, a, b, 1);
-    if r != 0 {
-        return r;
-    }
-    tell(out, number(monomial_ordering::ord(a, b, 1)))
+    serve(Work::Cmp, variables, a, b, out)
 }
 
 // Whether two ratios are equal.
@@ -248,11 +262,7 @@ pub extern "C" fn divisor_index_monomial_cmp(
 pub extern "C" fn divisor_index_ratio_eq(variables: u32, a: &[u8], b: &[u8], out: &mut [u8]) -> u32
     ensures { spec.Served Work.RatioEq variables a.now b.now out.old result out.new }
 {
-    let r = refusal(variables, a, b, 2);
-    if r != 0 {
-        return r;
-    }
-    tell(out, yes(monomial::eq(a, b)))
+    serve(Work::RatioEq, variables, a, b, out)
 }
 
 // How two ratios compare.
@@ -260,26 +270,5 @@ pub extern "C" fn divisor_index_ratio_eq(variables: u32, a: &[u8], b: &[u8], out
 pub extern "C" fn divisor_index_ratio_cmp(variables: u32, a: &[u8], b: &[u8], out: &mut [u8]) -> u32
     ensures { spec.Served Work.RatioCmp variables a.now b.now out.old result out.new }
 {
-    let r = refusal(variables, a, b, 2);
-    if r != 0 {
-        return r;
-    }
-    tell(out, number(monomial_ordering::ord(a, b, 2)))
-}
-
-// The door of each work, for programs that run them all.
-pub fn serve(w: Work, variables: u32, a: &[u8], b: &[u8], out: &mut [u8]) -> u32
-    ensures { spec.Served w variables a.now b.now out.old result out.new }
-{
-    match w {
-        Work::Gcd => divisor_index_monomial_gcd(variables, a, b, out),
-        Work::Mul => divisor_index_monomial_mul(variables, a, b, out),
-        Work::WholeDivision => divisor_index_monomial_whole_division(variables, a, b, out),
-        Work::FractionDivision => divisor_index_monomial_fraction_division(variables, a, b, out),
-        Work::Divides => divisor_index_monomial_divides(variables, a, b, out),
-        Work::Eq => divisor_index_monomial_eq(variables, a, b, out),
-        Work::Cmp => divisor_index_monomial_cmp(variables, a, b, out),
-        Work::RatioEq => divisor_index_ratio_eq(variables, a, b, out),
-        Work::RatioCmp => divisor_index_ratio_cmp(variables, a, b, out),
-    }
+    serve(Work::RatioCmp, variables, a, b, out)
 }

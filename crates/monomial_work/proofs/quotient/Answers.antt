@@ -7,20 +7,19 @@ use Rattle.monomial_work.specs.Served.{answer}
 use Rattle.monomial_work.proofs.Laws.{not-whole, whole, division-words}
 use Rattle.monomial_work.proofs.quotient.Goals as goal
 
-pub returns-in_default : goal.returns-in_default
+pub returns-in-None : goal.returns-in-None
 unfolding answer
-returns-in_default c =
+returns-in-None c =
     let put-answer = c.put_answer in
-    let whole-division = c.whole_division in
     let a = first 1 (words c.args.a.now) in
     let b = first 1 (words c.args.b.now) in
-    let e = not-whole a b (sym whole-division.ensures.value ∙ c.in_default.is) in
-    rw (division-words a b, e) (put-answer.ensures.0, put-answer.ensures.1 ∙ ap (λ (l : List ℕ). paste_w l 0 (1073741824 ∷ [])) (whole-division.ensures.out_after ∙ rw e))
+    let e = not-whole a b (sym c.in-None.ensures.value) in
+    rw (division-words a b, e) (put-answer.ensures.0, put-answer.ensures.1 ∙ ap (λ (l : List ℕ). paste_w l 0 (1073741824 ∷ [])) (c.whole_division.ensures.out_after ∙ rw e))
 
-pub returns : goal.returns
+pub returns-in-Some : goal.returns-in-Some
 unfolding answer
-returns c =
+returns-in-Some c =
     let a = first 1 (words c.args.a.now) in
     let b = first 1 (words c.args.b.now) in
-    let e = whole a b c.in-Whole.n (sym c.whole_division.ensures.value ∙ c.in-Whole.is) in
+    let e = whole a b c.in-Some.n (sym c.in-Some.ensures.value) in
     rw (division-words a b, e.0) (e.1, c.whole_division.ensures.out_after ∙ rw e.0)
