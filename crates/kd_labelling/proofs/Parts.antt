@@ -49,8 +49,7 @@ settled-whole l v val good = go (map.answer l v)
     first = record { valid = after-valid l v val good; vars = (after-shape l v).0; cap = (after-shape l v).1 }
 
     go : (c : Result Comparer Unlabelled) → Whole l (relabel c l v)
-    go (Ok (Known x)) = first
-    go (Ok (New x)) = first
+    go (Ok c) = first
     go (Err Full) = first
     go (Err NoLabel) =
         let s = after-shape (map.rebuild l) v in

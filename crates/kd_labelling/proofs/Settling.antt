@@ -23,7 +23,7 @@ use Rattle.fast_compare.proofs.Giving.{at_place, before-place, known-row}
 use Rattle.index_theory.specs.Calls.{relabel}
 use Rattle.index_theory.specs.State.{row_or, row_of}
 use Rattle.index_image.proofs.Rows.{row-of}
-use Rattle.kd_labelling.specs.Labelling.{is_no_label, settled}
+use Rattle.kd_labelling.specs.Labelling.{settled}
 
 -- a call keeps the numbers of a map
 pub after-shape : (l : State) (v : Value) → ((after l v).variables ≡ l.variables) × ((after l v).capacity ≡ l.capacity)
@@ -33,42 +33,30 @@ after-shape l v = go (answer l v)
     go : (c : Result Comparer Unlabelled) → ((stored c l v).variables ≡ l.variables) × ((stored c l v).capacity ≡ l.capacity)
     go (Ok (Known x)) = (refl, refl)
     go (Ok (New x)) = (refl, refl)
-    go (Err Full) = (refl, refl)
-    go (Err NoLabel) = (refl, refl)
+    go (Err r) = (refl, refl)
 
 -- ---- a label at once
-relabel-first : (c : Result Comparer Unlabelled) (l : State) (v : Value) → is_no_label c ≡ false → relabel c l v ≡ after l v
-unfolding is_no_label relabel
-relabel-first (Ok (Known x)) l v h = refl
-relabel-first (Ok (New x)) l v h = refl
+relabel-first : (c : Result Comparer Unlabelled) (l : State) (v : Value) → (c ≡ Err NoLabel → ⊥) → relabel c l v ≡ after l v
+unfolding relabel
+relabel-first (Ok c) l v h = refl
 relabel-first (Err Full) l v h = refl
-relabel-first (Err NoLabel) l v h = never (sym h)
+relabel-first (Err NoLabel) l v h = absurd (h refl)
 
-relabel-second : (c : Result Comparer Unlabelled) (l : State) (v : Value) → is_no_label c ≡ true → relabel c l v ≡ after (rebuild l) v
-unfolding is_no_label relabel
-relabel-second (Ok (Known x)) l v h = never h
-relabel-second (Ok (New x)) l v h = never h
-relabel-second (Err Full) l v h = never h
-relabel-second (Err NoLabel) l v h = refl
+relabel-second : (c : Result Comparer Unlabelled) (l : State) (v : Value) → c ≡ Err NoLabel → relabel c l v ≡ after (rebuild l) v
+unfolding relabel
+relabel-second c l v e = rw e
 
-is_none : (c : Result Comparer Unlabelled) → is_no_label c ≡ true → c ≡ Err NoLabel
-unfolding is_no_label
-is_none (Ok (Known x)) h = never h
-is_none (Ok (New x)) h = never h
-is_none (Err Full) h = never h
-is_none (Err NoLabel) h = refl
-
-pub first_done : (bs a : List ℕ) (l : State) (v : Value) (r : Result Comparer Unlabelled) (x : Bool) → Gave l v r bs a → x ≡ is_no_label r → x ≡ false → a ≡ paste_w bs 0 (encode (settled l v))
-first_done bs a l v r x g ex e = g.bytes ∙ rw (relabel-first (answer l v) l v (ap is_no_label (sym g.answers) ∙ sym ex ∙ e))
+pub first_done : (bs a : List ℕ) (l : State) (v : Value) (r : Result Comparer Unlabelled) → Gave l v r bs a → (r ≡ Err NoLabel → ⊥) → a ≡ paste_w bs 0 (encode (settled l v))
+first_done bs a l v r g h = g.bytes ∙ rw (relabel-first (answer l v) l v (λ e. h (g.answers ∙ e)))
 
 -- ---- no label: the map is as it was
-module _ (bs a : List ℕ) (l : State) (v : Value) (r : Result Comparer Unlabelled) (I : Is l bs) (good : Good (get_or (words bs) 1 0) v) (g : Gave l v r bs a) (none_free : is_no_label r ≡ true) where
+module _ (bs a : List ℕ) (l : State) (v : Value) (r : Result Comparer Unlabelled) (I : Is l bs) (good : Good (get_or (words bs) 1 0) v) (g : Gave l v r bs a) (none_free : r ≡ Err NoLabel) where
   good-here : Good l.variables v
   good-here = rw (vars-of bs l I) at good
 
   same : after l v ≡ l
   same =
-      let e : answer l v ≡ Err NoLabel = sym g.answers ∙ is_none r none_free in
+      let e : answer l v ≡ Err NoLabel = sym g.answers ∙ none_free in
       after-as l v (Err NoLabel) e ∙ stored_same l v (Err NoLabel) (λ x z. let y : ◌≡◌ {A = ℕ} 0 1 = cc in omega arith)
 
   pub still : Is l a
@@ -93,7 +81,7 @@ module _ (bs a : List ℕ) (l : State) (v : Value) (r : Result Comparer Unlabell
         let l2 : length (encode (after (rebuild l) v)) ≡ size l.variables l.capacity = after-long in
         let ea : a ≡ paste_w bs 0 (encode l) = g.bytes ∙ rw same in
         let to : b ≡ paste_w bs 0 (encode (rebuild l)) = paste-again bs a b (encode l) (encode (rebuild l)) (l0 ∙ sym l1) (omega (arith, I.room)) ea eb in
-        rw (relabel-second (answer l v) l v (ap is_no_label (sym g.answers) ∙ none_free))
+        rw (relabel-second (answer l v) l v (sym g.answers ∙ none_free))
         (paste-again bs b d (encode (rebuild l)) (encode (after (rebuild l) v)) (l1 ∙ sym l2) (omega (arith, I.room)) to h.bytes)
       where
         after-long : length (encode (after (rebuild l) v)) ≡ size l.variables l.capacity

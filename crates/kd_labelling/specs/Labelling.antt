@@ -1,20 +1,12 @@
 -- A ratio gets a row and a label in the label map of an image. Assumes nothing.
-use Rattle.std.specs.Prelude.{◌≡◌, Bool, true, false, List, ℕ}
+use Rattle.std.specs.Prelude.{◌≡◌, List, ℕ}
 use Rattle.words.specs.Words.{paste_w}
 use Rattle.fast_compare.specs.Map as map
 use Rattle.fast_compare.specs.Layout as labels
-use Rattle.fast_compare.specs.declared.Comparer.{Comparer}
-use Rattle.fast_compare.specs.declared.Comparer.TheVariants.{Known, New, Full, NoLabel}
 use Rattle.index_theory.specs.Calls.{relabel}
 use Rattle.index_theory.specs.State.{row_of}
 use Rattle.index_image.specs.Shape as at
 use Rattle.index_image.specs.declared.Shape.{Shape}
-
-unfoldable pub is_no_label : Comparer → Bool
-is_no_label (Known x) = false
-is_no_label (New x) = false
-is_no_label Full = false
-is_no_label NoLabel = true
 
 -- the map with a label for v, if need be after one rebuild
 abbrev pub settled : map.State → map.Value → map.State

@@ -11,21 +11,10 @@ ghost use Rattle.index_theory.specs.State.{row_of};
 ghost use Rattle.index_image.specs.Shape as shape;
 ghost use Rattle.index_image.specs.Door.{label_bytes};
 ghost use Rattle.index_image.proofs.Labels.{MapIs};
-ghost use Rattle.kd_labelling.specs.Labelling.{is_no_label, settled, Labels};
+ghost use Rattle.kd_labelling.specs.Labelling.{settled, Labels};
 
-use fast_compare::{Comparer, Place};
+use fast_compare::Unlabelled;
 use index_image::{Shape, fields};
-
-fn no_label(c: Comparer) -> bool
-    ensures { result ≡ is_no_label c }
-{
-    match c {
-        Comparer::Known(_) => false,
-        Comparer::New(_) => false,
-        Comparer::Full => false,
-        Comparer::NoLabel => true,
-    }
-}
 
 // Gives a value a label; where none is free the labels are dealt afresh, once.
 pub fn settle(labels: &mut [u8], index: u32, ratio: &[u8])
@@ -33,12 +22,10 @@ pub fn settle(labels: &mut [u8], index: u32, ratio: &[u8])
     requires good { map.Good (get_or (words labels.old) 1 0) (map.value_of index (words ratio.now)) }
     ensures { (l : map.State) → layout.Is l labels.old → labels.new ≡ paste_w labels.old 0 (layout.encode (settled l (map.value_of index (words ratio.now)))) }
 {
-    let c = label_insert::get_comparer(labels, index, ratio);
-    if !no_label(c) {
-        return;
+    if let Err(Unlabelled::NoLabel) = label_insert::get_comparer(labels, index, ratio) {
+        label_insert::rebuild(labels);
+        let _ = label_insert::get_comparer(labels, index, ratio);
     }
-    label_insert::rebuild(labels);
-    label_insert::get_comparer(labels, index, ratio);
 }
 
 // The row of a value.
@@ -47,10 +34,9 @@ pub fn row_of(labels: &[u8], index: u32, ratio: &[u8]) -> usize
     requires canonical { Canonical 2 4096 (words ratio.now) }
     ensures { (l : map.State) → layout.Is l labels.now → result ≡ row_of l (map.value_of index (words ratio.now)) }
 {
-    let place = fast_compare::search(labels, index, ratio);
-    match place {
-        Place::At(p) => fast_compare::row_at(labels, p),
-        Place::Before(_) => 0,
+    match fast_compare::search(labels, index, ratio) {
+        Ok(p) => fast_compare::row_at(labels, p),
+        Err(_) => 0,
     }
 }
 
@@ -107,8 +93,8 @@ pub fn label_at(image: &[u8], s: Shape, row: usize) -> u64
     ensures { result ≡ get_or (words image.now) (shape.label_at s row) 0 }
 {
     let m = s.variables;
-    words::get(
+    u64::from(words::get(
         image,
         s.labels_at() + (fields::LABELS + row * (m + fields::LABEL_ROW) + (m + fields::LABEL)),
-    ) as u64
+    ))
 }

@@ -1,6 +1,6 @@
 -- A ratio as two bounds of labels, from its place in the label map. Assumes nothing.
 use mathlib.Core.Path.{◌≡◌, refl, sym, ap, ◌∙◌}
-use mathlib.Core.Bool.{Bool, true, false, cond}
+use mathlib.Core.Bool.{true, false}
 use mathlib.Core.List.{List}
 use Prim.Native.Nat.{ℕ, ◌+◌, ◌≤◌, ◌<◌}
 use native.Mathlib.Decide.{dec_le}
@@ -10,7 +10,9 @@ use lib.ListN.{length, get_or}
 use borrow.Author.Tests.{lt-ltb, le-ltb, le-leb, lt-leb}
 use Rattle.std.proofs.Common.{Ok, Err}
 use Rattle.std.specs.Ordering.{nat_cmp, is_gt, ordering_reverse}
-use Rattle.std.specs.declared.cmp.Ordering.TheVariants.{Less, Equal, Greater}
+use Rattle.std.specs.declared.cmp.Ordering.TheVariants.{Less}
+use Rattle.std.proofs.lemmas.Cmp.{nat_cmp_total}
+use Rattle.monomial_ordering.proofs.Orders.{Trichotomy, less, equal, greater, trichotomy}
 use Rattle.fast_compare.specs.Labels.{sorted}
 use Rattle.fast_compare.specs.Map as map
 use Rattle.fast_compare.specs.Layout as labels
@@ -23,24 +25,15 @@ use Rattle.index_theory.specs.Entries.{above}
 use Rattle.label_ranges.specs.Ended.{Ends}
 
 greater-is : (a b : ℕ) → is_gt (nat_cmp a b) ≡ ltb b a
-unfolding nat_cmp
-greater-is a b = elim (dec_le b a) [
-  | yes h ↦ rw (le-ltb a b h) (go (ltb b a))
-  | no h ↦ rw (lt-ltb a b (omega arith), le-ltb b a (omega arith)) refl
-]
+greater-is a b = go (trichotomy a b)
   where
-    go : (c : Bool) → is_gt (cond c Greater Equal) ≡ c
-    go true = refl
-    go false = refl
+    go : Trichotomy a b → is_gt (nat_cmp a b) ≡ ltb b a
+    go (less h e) = ap is_gt e ∙ sym (le-ltb b a (omega arith))
+    go (equal h e) = ap is_gt e ∙ sym (le-ltb b a (omega arith))
+    go (greater h e) = ap is_gt e ∙ sym (lt-ltb b a h)
 
 flipped-is : (a b : ℕ) → is_gt (ordering_reverse (nat_cmp a b)) ≡ ltb a b
-unfolding nat_cmp
-flipped-is a b = go (ltb a b) (ltb b a)
-  where
-    go : (c d : Bool) → is_gt (ordering_reverse (cond c Less (cond d Greater Equal))) ≡ c
-    go true d = refl
-    go false true = refl
-    go false false = refl
+flipped-is a b = ap is_gt (sym (nat_cmp_total.antisymm b a)) ∙ greater-is b a
 
 more-is : (a b : ℕ) → leb (a + 1) b ≡ ltb a b
 more-is a b = elim (dec_le (a + 1) b) [ yes h ↦ le-leb (a + 1) b h ∙ sym (lt-ltb a b (omega arith)) | no h ↦ lt-leb (a + 1) b (omega arith) ∙ sym (le-ltb a b (omega arith)) ]

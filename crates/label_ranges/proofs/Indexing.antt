@@ -1,13 +1,18 @@
 -- The labels from an index on, by halving the order of the label map. Assumes nothing.
 use mathlib.Core.Path.{◌≡◌, refl, sym, ap, ◌∙◌}
-use mathlib.Core.Bool.{not}
-use Prim.Native.Nat.{ℕ, ◌+◌, ◌≤◌, ◌<◌}
+use mathlib.Core.Bool.{Bool, true, false, not, cond}
+use mathlib.Core.Logic.{◌⊎◌, inl, inr}
+use Rattle.std.proofs.Common.{Result, Ok, Err}
+use Prim.Native.Nat.{ℕ, ◌-◌, ◌≤◌, ◌<◌}
 use native.Mathlib.Decide.{ℕ_discrete, dec_lt}
 use native.Mathlib.Omega.{arith}
 use lib.Dec.{leb, ltb}
 use lib.ListN.{length, get_or}
-use borrow.Author.Tests.{lt-ltb, le-ltb, le-leb, lt-leb}
-use Rattle.std.specs.declared.cmp.Ordering.TheVariants.{Less}
+use borrow.Author.Tests.{ltb-true, ltb-false, lt-ltb, le-ltb, le-leb, lt-leb}
+use Rattle.std.specs.declared.cmp.Ordering.{Ordering}
+use Rattle.std.specs.declared.cmp.Ordering.TheVariants.{Less, Equal, Greater}
+use Rattle.fast_compare.specs.Halving as halving
+use Rattle.fast_compare.specs.Halving.{found, between}
 use Rattle.fast_compare.specs.Labels.{below, sorted}
 use Rattle.fast_compare.specs.Map as map
 use Rattle.fast_compare.proofs.Images.{ranked}
@@ -16,6 +21,18 @@ use Rattle.fast_compare.proofs.Ranks.{below_top, less-place, place_of}
 use Rattle.index_theory.specs.Entries.{above}
 use Rattle.index_theory.proofs.Orders.{index-rises}
 use Rattle.label_ranges.specs.Ended.{From, row_of_rank, index_of_rank, Halved}
+
+-- ---- where the index of a row lies
+module _ (l : map.State) (p x row i : ℕ) (er : row ≡ get_or (sorted map.cmp (map.value l.rows) (length l.rows)) p 0) (ei : i ≡ (map.value l.rows row).index) where
+  here : i ≡ index_of_rank l p
+  unfolding row_of_rank
+  here = ei ∙ rw er refl
+
+  pub side-below : i < x → Less ≡ cond (ltb (index_of_rank l p) x) Less Greater
+  side-below h = rw (lt-ltb (index_of_rank l p) x (omega (arith, here)))
+
+  pub side-from : x ≤ i → Greater ≡ cond (ltb (index_of_rank l p) x) Less Greater
+  side-from h = rw (le-ltb (index_of_rank l p) x (omega (arith, here)))
 
 module _ (l : map.State) (val : map.Valid l) where
   abbrev n : ℕ
@@ -41,29 +58,42 @@ module _ (l : map.State) (val : map.Valid l) where
   label-up p q h k = val.labelled.rising (row_of_rank l p) (row_of_rank l q) (inside p (omega arith)) (inside q k) (rises p q h k)
 
   -- ---- halving
-  pub part-start : (x c : ℕ) → c ≡ length l.rows → Halved l x 0 c
-  part-start x c e = record { inside = omega arith; below = λ p h. absurd (omega arith); from = λ p h k. absurd (omega arith) }
+  side-less : (i x : ℕ) → Less ≡ cond (ltb i x) Less Greater → i < x
+  side-less i x e = go (ltb i x) refl e
+    where
+      go : (b : Bool) → ltb i x ≡ b → Less ≡ cond b Less Greater → i < x
+      go true h e = ltb-true i x h
+      go false h e = absurd (let z : ◌≡◌ {A = ℕ} 0 1 = cc in omega arith)
 
-  module _ (x lo hi mid row i : ℕ) (P : Halved l x lo hi) (m : mid < hi)
-      (er : row ≡ get_or (sorted map.cmp (map.value l.rows) (length l.rows)) mid 0) (ei : i ≡ (map.value l.rows row).index) where
-    here : i ≡ index_of_rank l mid
-    unfolding row_of_rank
-    here = ei ∙ rw er refl
+  side-greater : (i x : ℕ) → Greater ≡ cond (ltb i x) Less Greater → x ≤ i
+  side-greater i x e = go (ltb i x) refl e
+    where
+      go : (b : Bool) → ltb i x ≡ b → Greater ≡ cond b Less Greater → x ≤ i
+      go true h e = absurd (let z : ◌≡◌ {A = ℕ} 0 1 = cc in omega arith)
+      go false h e = ltb-false i x h
 
-    pub part_low : i < x → Halved l x (mid + 1) hi
-    part_low h = record { inside = P.inside; below = low; from = P.from }
+  side-equal : (b : Bool) {X : Type 0} → Equal ≡ cond b Less Greater → X
+  side-equal true e = absurd (let z : ◌≡◌ {A = ℕ} 0 1 = cc in omega arith)
+  side-equal false e = absurd (let z : ◌≡◌ {A = ℕ} 0 1 = cc in omega arith)
+
+  module _ (x c : ℕ) (few : c ≡ length l.rows) (answers : ℕ → Ordering → Type 0) where
+    pub halved-rank : (r : Result ℕ ℕ) → halving.Halved answers c r → ((p : ℕ) (o : Ordering) → answers p o → o ≡ cond (ltb (index_of_rank l p) x) Less Greater)
+        → (y : ℕ) → (r ≡ Ok y) ⊎ (r ≡ Err y) → Halved l x y y
+    halved-rank _ (found p h e) told y z = side-equal (ltb (index_of_rank l p) x) (told p Equal e)
+    halved-rank _ (between p h before here) told y (inl z) = absurd (let q : ◌≡◌ {A = ℕ} 0 1 = cc in omega arith)
+    halved-rank _ (between p h before here) told y (inr z) =
+        let q : p ≡ y = cc in
+        rw (← q) (record { inside = omega arith; below = low; from = high })
       where
-        low : (p : ℕ) → p < mid + 1 → index_of_rank l p < x
-        low p k = elim (ℕ_discrete p mid) [ yes e ↦ omega (arith, here, ap (index_of_rank l) e) | no e ↦ omega (arith, here, index-up p mid (omega arith) (omega (arith, P.inside))) ]
+        low : (k : ℕ) → k < p → index_of_rank l k < x
+        low k j =
+            let s = side-less (index_of_rank l (p - 1)) x (told (p - 1) Less (before (omega arith))) in
+            elim (ℕ_discrete k (p - 1)) [ yes e ↦ omega (arith, ap (index_of_rank l) e) | no e ↦ omega (arith, index-up k (p - 1) (omega arith) (omega arith)) ]
 
-    pub part-high : x ≤ i → Halved l x lo mid
-    part-high h = record { inside = omega (arith, P.inside); below = P.below; from = high }
-      where
-        high : (p : ℕ) → mid ≤ p → p < length l.rows → x ≤ index_of_rank l p
-        high p k j = elim (ℕ_discrete p mid) [ yes e ↦ omega (arith, here, ap (index_of_rank l) e) | no e ↦ omega (arith, here, index-up mid p (omega arith) j) ]
-
-  pub part_end : (x lo hi : ℕ) → Halved l x lo hi → lo ≤ hi → hi ≤ lo → Halved l x lo lo
-  part_end x lo hi P h k = record { inside = omega (arith, P.inside); below = P.below; from = λ p m j. P.from p (omega arith) j }
+        high : (k : ℕ) → p ≤ k → k < length l.rows → x ≤ index_of_rank l k
+        high k j m =
+            let s = side-greater (index_of_rank l p) x (told p Greater (here (omega arith))) in
+            elim (ℕ_discrete k p) [ yes e ↦ omega (arith, ap (index_of_rank l) e) | no e ↦ omega (arith, index-up p k (omega arith) m) ]
 
   -- ---- the label there
   place : ℕ → ℕ

@@ -1,7 +1,7 @@
 // The ratio or the index of a query, as a range of labels.
 #![tactic(auto)]
 
-ghost use Rattle.std.specs.Prelude.{◌≡◌, ◌≤◌, ◌<◌, length, get_or};
+ghost use Rattle.std.specs.Prelude.{◌≡◌, ltb, cond, ◌≤◌, ◌<◌, length, get_or};
 ghost use Rattle.words.specs.Words.{words};
 ghost use Rattle.fast_compare.specs.Labels.{sorted};
 ghost use Rattle.monomial.specs.Monomial.{Canonical};
@@ -10,12 +10,13 @@ ghost use Rattle.fast_compare.specs.Layout as lay;
 ghost use Rattle.index_theory.specs.State.{State};
 ghost use Rattle.index_image.specs.Head.{HeadOk};
 ghost use Rattle.index_image.specs.Layout.{Is, Sound};
-ghost use Rattle.label_ranges.specs.Ended.{Ends, From, Halved};
+ghost use Rattle.label_ranges.specs.Ended.{Ends, From, Halved, index_of_rank};
 
-use fast_compare::Place;
 use index_image::Shape;
+use std::cmp::Ordering;
 
-// Labels of larger ratios begin at `above`; labels of smaller ones end below `below`.
+// Labels of larger ratios begin at `above`; labels of smaller ones end below `below`. Where there is none it is 2^32 and no
+// Option: the ends are words of a query that labels are held against, and 2^32 lies above every label.
 #[derive(Clone, Copy)]
 pub struct LabelEnds {
     pub above: u64,
@@ -28,8 +29,7 @@ fn label_at(labels: &[u8], p: usize) -> u64
     requires p_bound { p < get_or (words labels.now) 3 0 }
     ensures { (result < 4294967296) × ((l : map.State) → lay.Is l labels.now → result ≡ map.label l.rows (get_or (sorted map.cmp (map.value l.rows) (length l.rows)) p 0)) }
 {
-    let row = fast_compare::row_at(labels, p);
-    fast_compare::label(labels, row) as u64
+    u64::from(fast_compare::label_at(labels, p))
 }
 
 // Where the labels of larger and of smaller ratios than this one lie.
@@ -38,16 +38,15 @@ pub fn ends_in(labels: &[u8], index: u32, ratio: &[u8]) -> LabelEnds
     requires canonical { Canonical 2 4096 (words ratio.now) }
     ensures { (l : map.State) → lay.Is l labels.now → Ends l (map.value_of index (words ratio.now)) result.above result.below }
 {
-    let place = fast_compare::search(labels, index, ratio);
-    match place {
-        Place::At(p) => {
+    match fast_compare::search(labels, index, ratio) {
+        Ok(p) => {
             let l = label_at(labels, p);
             LabelEnds {
                 above: l + 1,
                 below: l,
             }
         }
-        Place::Before(p) => {
+        Err(p) => {
             if p < fast_compare::count(labels) {
                 let l = label_at(labels, p);
                 return LabelEnds { above: l, below: l };
@@ -60,23 +59,29 @@ pub fn ends_in(labels: &[u8], index: u32, ratio: &[u8]) -> LabelEnds
     }
 }
 
-// How many rows have an index below this one.
+// Less where the row with p values below its own has an index below this one, else Greater.
+fn index_side(labels: &[u8], p: usize, index: u32) -> Ordering
+    requires sound { lay.Sound labels.now }
+    requires p_bound { p < get_or (words labels.now) 3 0 }
+    ensures { (l : map.State) → lay.Is l labels.now → result ≡ cond (ltb (index_of_rank l p) index) Ordering.Less Ordering.Greater }
+{
+    let row = fast_compare::row_at(labels, p);
+    if fast_compare::index_of(labels, row) < index {
+        Ordering::Less
+    } else {
+        Ordering::Greater
+    }
+}
+
+// How many rows have an index below this one. No row answers Equal.
 fn rows_below(labels: &[u8], index: u32) -> usize
     requires { lay.Sound labels.now }
     ensures { (l : map.State) → lay.Is l labels.now → Halved l index result result }
 {
-    let mut lo: usize = 0;
-    let mut hi = fast_compare::count(labels);
-    while lo < hi {
-        let mid = lo + (hi - lo) / 2;
-        let row = fast_compare::row_at(labels, mid);
-        if fast_compare::index_of(labels, row) < index {
-            lo = mid + 1;
-        } else {
-            hi = mid;
-        }
+    let n = fast_compare::count(labels);
+    match fast_compare::halve(n, |p| index_side(labels, p, index)) {
+        Ok(p) | Err(p) => p,
     }
-    lo
 }
 
 // Where the labels of ratios begin whose index is not below this one; 2^32 where there is none.

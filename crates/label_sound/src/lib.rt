@@ -6,6 +6,7 @@ ghost use Rattle.words.specs.Words.{words};
 ghost use Rattle.fast_compare.specs.Layout.{size, row_at, RowOk, Rises, TablesOk, HeadOk, Sound, SoundFor};
 
 use fast_compare::rows;
+use monomial::Kind;
 
 // Whether the words of a row at word `at` are those of an index, a ratio and zeros.
 fn row_ok(map: &[u8], variables: usize, at: usize) -> bool
@@ -13,15 +14,11 @@ fn row_ok(map: &[u8], variables: usize, at: usize) -> bool
     requires variables_in_bounds { 4 * (at + (variables + 3)) ≤ length map.now }
     ensures { (result ≡ true) ↔ RowOk (words map.now) variables at }
 {
-    let i = words::get(map, at);
-    if words::kind(i) != 3 {
-        return false;
-    }
-    let n = monomial::canonical_words(map, at + 1, 2, variables as u32);
-    if n == 0 {
-        return false;
-    }
-    words::runs::is_blank(map, at + 1 + n, variables + 1 - n)
+    words::kind(words::get(map, at)) == 3
+        && match monomial::canonical_words(map, at + 1, Kind::Ratio, variables as u32) {
+            Some(n) => words::runs::is_blank(map, at + 1 + n, variables + 1 - n),
+            None => false,
+        }
 }
 
 // Whether the first n rows are rows.
@@ -30,12 +27,10 @@ fn rows_ok(map: &[u8], variables: usize, n: usize) -> bool
     requires n_in_bounds { 4 * row_at variables n ≤ length map.now }
     ensures { (result ≡ true) ↔ ((i : ℕ) → i < n → RowOk (words map.now) variables (row_at variables i)) }
 {
-    let mut i: usize = 0;
-    while i < n {
+    for i in 0..n {
         if !row_ok(map, variables, 4 + i * (variables + 3)) {
             return false;
         }
-        i += 1;
     }
     true
 }
@@ -45,12 +40,10 @@ fn numbers_ok(map: &[u8], at: usize, n: usize) -> bool
     requires { 4 * (at + n) ≤ length map.now }
     ensures { (result ≡ true) ↔ ((k : ℕ) → k < n → get_or (words map.now) (at + k) 0 < n) }
 {
-    let mut i: usize = 0;
-    while i < n {
+    for i in 0..n {
         if n <= words::get(map, at + i) as usize {
             return false;
         }
-        i += 1;
     }
     true
 }
@@ -68,8 +61,7 @@ fn rising_ok(map: &[u8], variables: usize, at: usize, n: usize) -> bool
     }
     let mut a = 4 + words::get(map, at) as usize * (variables + 3);
     let mut s = rows::total_at(map, a);
-    let mut i: usize = 1;
-    while i < n {
+    for i in 1..n {
         let b = 4 + words::get(map, at + i) as usize * (variables + 3);
         let t = rows::total_at(map, b);
         if !rows::rises(map, variables, a, s, b, t) {
@@ -77,7 +69,6 @@ fn rising_ok(map: &[u8], variables: usize, at: usize, n: usize) -> bool
         }
         a = b;
         s = t;
-        i += 1;
     }
     true
 }
@@ -90,25 +81,18 @@ fn tables_ok(map: &[u8], variables: usize, capacity: usize, n: usize) -> bool
 {
     let row = variables + 3;
     let order = 4 + capacity * row;
-    if !rows_ok(map, variables, n) {
-        return false;
-    }
-    if !words::runs::is_blank(map, 4 + n * row, (capacity - n) * row) {
-        return false;
-    }
-    if !numbers_ok(map, order, n) {
-        return false;
-    }
-    if !rising_ok(map, variables, order, n) {
-        return false;
-    }
-    words::runs::is_blank(map, order + n, capacity - n)
+    rows_ok(map, variables, n)
+        && words::runs::is_blank(map, 4 + n * row, (capacity - n) * row)
+        && numbers_ok(map, order, n)
+        && rising_ok(map, variables, order, n)
+        && words::runs::is_blank(map, order + n, capacity - n)
 }
 
 // Whether a map of these numbers is one, and the header says so.
 fn head_ok(map: &[u8], variables: usize, capacity: usize) -> bool
     ensures { (result ≡ true) ↔ HeadOk (words map.now) variables capacity (length map.now) }
 {
+    // Not one `&&`: each join of the chain loses what the tests before it say, and the answers grow.
     if !monomial::sizes::sizes_fit(variables, capacity) {
         return false;
     }
@@ -131,21 +115,18 @@ fn head_ok(map: &[u8], variables: usize, capacity: usize) -> bool
 pub fn sound_for(map: &[u8], variables: usize, capacity: usize) -> bool
     ensures { (result ≡ true) ↔ SoundFor variables capacity map.now }
 {
-    if !head_ok(map, variables, capacity) {
-        return false;
-    }
-    let n = words::get(map, 3) as usize;
-    tables_ok(map, variables, capacity, n)
+    head_ok(map, variables, capacity)
+        && tables_ok(map, variables, capacity, words::get(map, 3) as usize)
 }
 
 // Whether the bytes begin with a sound map.
 pub fn sound(map: &[u8]) -> bool
     ensures { (result ≡ true) ↔ Sound map.now }
 {
-    if map.len() < 16 {
-        return false;
-    }
-    let variables = words::get(map, 1) as usize;
-    let capacity = words::get(map, 2) as usize;
-    sound_for(map, variables, capacity)
+    map.len() >= 16
+        && sound_for(
+            map,
+            words::get(map, 1) as usize,
+            words::get(map, 2) as usize,
+        )
 }

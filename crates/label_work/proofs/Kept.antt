@@ -9,11 +9,12 @@ use Rattle.fast_compare.specs.Layout.{encode, Is}
 use Rattle.fast_compare.proofs.Exact.{pasted}
 use Rattle.fast_compare.proofs.Kept.{after_is, rebuild-is}
 use Rattle.label_work.specs.Door.{value_lent, left, Asking, Rebuilt}
-use Rattle.label_work.specs.declared.Answer.{Answer}
+use Rattle.std.proofs.Common.{Result}
+use Rattle.refusals.specs.declared.Refusal.{Refusal}
 use Rattle.label_work.proofs.Replies.{lent-is-good}
 
 -- a door's call keeps the map sound, whatever bytes are lent beside it
-pub asking-keeps : (n : ℕ) (ratio : List ℕ) (r : Answer) (entry exit : List ℕ) → Asking n ratio r entry exit → (st : State) → Is st entry → Is (left st n ratio) exit
+pub asking-keeps : (n : ℕ) (ratio : List ℕ) (r : Result ℕ Refusal) (entry exit : List ℕ) → Asking n ratio r entry exit → (st : State) → Is st entry → Is (left st n ratio) exit
 unfolding left
 asking-keeps n ratio r entry exit a st i = go (value_lent st.variables n ratio) refl (a.sound st i).1
   where

@@ -20,8 +20,11 @@ use Rattle.fast_compare.specs.Layout.{encode, size, Is, Sound, Gave}
 use Rattle.label_work.specs.Door.{length_for, opening_for, opened_bytes, number, told, value_lent, answer_for, left, Asking, Replied, Rebuilt}
 use Rattle.fast_compare.specs.declared.Comparer.{Comparer}
 use Rattle.fast_compare.specs.declared.Comparer.TheVariants.{New}
-use Rattle.label_work.specs.declared.Answer.{Answer}
-use Rattle.label_work.specs.declared.Answer.TheVariants.{Label, Unsound, BadValue}
+use Rattle.fast_compare.specs.declared.Unlabelled.{Unlabelled}
+use Rattle.std.proofs.Common.{Result, Ok, Err}
+use Rattle.refusals.specs.Numbers as Numbers
+use Rattle.refusals.specs.declared.Refusal.{Refusal}
+use Rattle.refusals.specs.declared.Refusal.TheVariants.{Unsound, BadWords}
 use Rattle.fast_compare.proofs.Maps.{after-as, stored_same}
 use Rattle.label_insert.proofs.Storing.{holds}
 
@@ -84,15 +87,15 @@ bad-ratio m i ratio e = go (ltb i 268435456)
     go false = refl
 
 -- ---- the answers
-told-new : (x : ℕ) → told (New x) ≡ Label x
+told-new : (x : ℕ) → told (Ok (New x)) ≡ Ok x
 unfolding told
 told-new x = refl
 
 module _ (i : ℕ) (ratio bs : List ℕ) where
-  pub asking-unsound : (Sound bs → ⊥) → Asking i ratio Unsound bs bs
+  pub asking-unsound : (Sound bs → ⊥) → Asking i ratio (Err Unsound) bs bs
   asking-unsound h = record { unsound = λ _. refl; sound = λ st s. absurd (h (record { state = st; is = s })); refused = λ _. refl }
 
-  pub asking-bad : Bytes bs → Sound bs → ((st : State) → Is st bs → value_lent st.variables i ratio ≡ false) → Asking i ratio BadValue bs bs
+  pub asking-bad : Bytes bs → Sound bs → ((st : State) → Is st bs → value_lent st.variables i ratio ≡ false) → Asking i ratio (Err BadWords) bs bs
   unfolding answer_for left
   asking-bad b s h = record {
     unsound = λ z. absurd (z s);
@@ -100,8 +103,8 @@ module _ (i : ℕ) (ratio bs : List ℕ) where
     refused = λ _. refl;
   }
 
-  pub asking-given : Bytes bs → Sound bs → ((st : State) → Is st bs → value_lent st.variables i ratio ≡ true) → (c : Comparer) (exit : List ℕ)
-      → ((st : State) → Is st bs → Gave st (value_of i (words ratio)) c bs exit) → (r : Answer) → r ≡ told c → Asking i ratio r bs exit
+  pub asking-given : Bytes bs → Sound bs → ((st : State) → Is st bs → value_lent st.variables i ratio ≡ true) → (c : Result Comparer Unlabelled) (exit : List ℕ)
+      → ((st : State) → Is st bs → Gave st (value_of i (words ratio)) c bs exit) → (r : Result ℕ Refusal) → r ≡ told c → Asking i ratio r bs exit
   unfolding answer_for left
   asking-given b s h c exit g r e = record {
     unsound = λ z. absurd (z s);
@@ -113,12 +116,12 @@ module _ (i : ℕ) (ratio bs : List ℕ) where
       q : Value
       q = value_of i (words ratio)
 
-      label-of : (c : Comparer) (x : ℕ) → r ≡ told c → c ≡ New x → r ≡ Label x
+      label-of : (c : Result Comparer Unlabelled) (x : ℕ) → r ≡ told c → c ≡ Ok (New x) → r ≡ Ok x
       label-of c x e y = e ∙ ap told y ∙ told-new x
 
 -- the same as C gets it
-pub replied : (i : ℕ) (ratio : List ℕ) (a : Answer) (entry exit : List ℕ) (r : ℕ) → Asking i ratio a entry exit → r ≡ number a → ((x : ℕ) → a ≡ Label x → r < 4294967296) → Replied i ratio r entry exit
-unfolding number
+pub replied : (i : ℕ) (ratio : List ℕ) (a : Result ℕ Refusal) (entry exit : List ℕ) (r : ℕ) → Asking i ratio a entry exit → r ≡ number a → ((x : ℕ) → a ≡ Ok x → r < 4294967296) → Replied i ratio r entry exit
+unfolding number Numbers.number
 replied i ratio a entry exit r s e f = record {
   unsound = λ z. e ∙ ap number (s.unsound z);
   sound = λ st k. let w = s.sound st k in (e ∙ ap number w.0, w.1);

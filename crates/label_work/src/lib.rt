@@ -1,61 +1,51 @@
 // The doors of a label map lent alone. No answer here goes through a buffer: C gets one number.
 #![tactic(auto)]
 
-ghost use Rattle.std.specs.Prelude.{◌≡◌, ℕ, ◌<◌, length};
+ghost use Rattle.std.specs.Prelude.{◌≡◌, ℕ, Ok, ◌<◌, length};
 ghost use Rattle.label_work.specs.Door as Door;
 
-use fast_compare::Comparer;
+use fast_compare::{Comparer, Unlabelled};
+use monomial::Kind;
+use refusals::Refusal;
 
-// What a lent value gets: its label, or the question that said no.
-#[derive(Clone, Copy)]
-pub enum Answer {
-    Label(u32),
-    Unsound,
-    BadValue,
-    NoRoom,
-    NoFree,
-}
-
-fn told(c: Comparer) -> Answer
+// The label that a value got, or what refuses it.
+#[tactic(auto, unfolding(crate::specs::Door::told))]
+fn told(c: Result<Comparer, Unlabelled>) -> Result<u32, Refusal>
     ensures { result ≡ Door.told c }
 {
     match c {
-        Comparer::Known(x) => Answer::Label(x),
-        Comparer::New(x) => Answer::Label(x),
-        Comparer::Full => Answer::NoRoom,
-        Comparer::NoLabel => Answer::NoFree,
+        Ok(Comparer::Known(x)) => Ok(x),
+        Ok(Comparer::New(x)) => Ok(x),
+        Err(u) => Err(Refusal::from(u)),
     }
 }
 
 // Questions 3, 7, 8 and 10, in this order.
-pub fn ask(image: &mut [u8], index: u32, ratio: &[u8]) -> Answer
+pub fn ask(image: &mut [u8], index: u32, ratio: &[u8]) -> Result<u32, Refusal>
     ensures { Door.Asking index ratio.now result image.old image.new }
 {
     if !label_sound::sound(image) {
-        return Answer::Unsound;
+        return Err(Refusal::Unsound);
     }
     if 268435455 < index {
-        return Answer::BadValue;
+        return Err(Refusal::BadWords);
     }
     let variables = words::get(image, 1);
-    if !monomial::is_canonical(ratio, 2, variables) {
-        return Answer::BadValue;
+    if !monomial::is_canonical(ratio, Kind::Ratio, variables) {
+        return Err(Refusal::BadWords);
     }
-    let c = label_insert::get_comparer(image, index, ratio);
-    told(c)
+    told(label_insert::get_comparer(image, index, ratio))
 }
 
 // The number of an answer: a label, or a refusal's number in the upper half.
-fn number(a: Answer) -> u64
+#[tactic(auto, unfolding(crate::specs::Door::number))]
+fn number(a: Result<u32, Refusal>) -> u64
     ensures value { result ≡ Door.number a }
-    ensures by_index { (x : ℕ) → a ≡ Answer.Label x → result < 4294967296 }
+    ensures by_index { (x : ℕ) → a ≡ Ok x → result < 4294967296 }
 {
     match a {
-        Answer::Label(x) => x as u64,
-        Answer::Unsound => 3 * 4294967296,
-        Answer::BadValue => 7 * 4294967296,
-        Answer::NoRoom => 8 * 4294967296,
-        Answer::NoFree => 10 * 4294967296,
+        Ok(x) => u64::from(x),
+        Err(r) => u64::from(refusals::number(r)) * 4294967296,
     }
 }
 

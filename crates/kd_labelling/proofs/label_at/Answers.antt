@@ -33,5 +33,5 @@ get-requires c =
 
 pub returns : goal.returns
 returns c =
-    c.get.ensures ∙ ap (λ (j : ℕ). get_or (words c.args.image.now)
+    c.from.ensures ∙ c.get.ensures ∙ ap (λ (j : ℕ). get_or (words c.args.image.now)
     (j + (4 + c.args.row * (c.args.s.variables + 3) + (c.args.s.variables + 2))) 0) c.labels_at.ensures

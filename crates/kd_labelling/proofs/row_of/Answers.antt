@@ -6,26 +6,15 @@ use Rattle.fast_compare.proofs.Exact.{count_of}
 use Rattle.kd_labelling.proofs.Settling.{row-at-place, no_row}
 use Rattle.kd_labelling.proofs.row_of.Goals as goal
 
-pub row_at-requires : goal.row_at-requires
-row_at-requires c =
-    let search = c.search-place in
-    let p = value_of c.args.index (words c.args.ratio.now) in record {
-      sound = c.requires.sound;
-      position_bound = omega (
-        arith,
-        (known-row c.requires.sound.state p c.requires.sound.is.valid c.in-At.p
-            (at_place c.requires.sound.state p c.in-At.p
-            (c.in-At.ensures c.requires.sound.state c.requires.sound.is))).0,
-        count_of c.args.labels.now c.requires.sound.state c.requires.sound.is,
-      );
-    }
+pub row_at-requires-clause-position_bound : goal.row_at-requires-clause-position_bound
+row_at-requires-clause-position_bound c =
+    let s = c.requires.sound in
+    let q = value_of c.args.index (words c.args.ratio.now) in
+    omega (arith, (known-row s.state q s.is.valid c.in-Ok.p (at_place s.state q c.in-Ok.p (c.in-Ok.ensures s.state s.is))).0, count_of c.args.labels.now s.state s.is)
 
-pub returns-in-At : goal.returns-in-At
-returns-in-At c =
-    let search = c.search-place in
-    λ l i. row-at-place l (value_of c.args.index (words c.args.ratio.now)) c.in-At.p c.row_at.result i.valid
-    (c.in-At.ensures l i) (c.row_at.ensures l i).1
+pub returns-in-Ok : goal.returns-in-Ok
+returns-in-Ok c =
+    λ l i. row-at-place l (value_of c.args.index (words c.args.ratio.now)) c.in-Ok.p c.row_at.result i.valid (c.in-Ok.ensures l i) (c.row_at.ensures l i).1
 
-pub returns-in-Before : goal.returns-in-Before
-returns-in-Before c =
-    λ l i. no_row l (value_of c.args.index (words c.args.ratio.now)) c.in-Before.field-0 (c.in-Before.ensures l i)
+pub returns-in-Err : goal.returns-in-Err
+returns-in-Err c = λ l i. no_row l (value_of c.args.index (words c.args.ratio.now)) c.in-Err.field-0 (c.in-Err.ensures l i)

@@ -1,57 +1,58 @@
+use mathlib.Core.Path.{◌≡◌, ap, ◌∙◌}
+use Prim.Native.Nat.{ℕ}
+use native.Mathlib.Omega.{arith}
+use Rattle.std.proofs.Common.{Err}
 use Rattle.words.specs.Words.{words}
 use Rattle.fast_compare.specs.Map.{value_of, rebuild}
+use Rattle.fast_compare.specs.declared.Unlabelled.{Unlabelled}
+use Rattle.fast_compare.specs.declared.Unlabelled.TheVariants.{NoLabel}
 use Rattle.kd_labelling.proofs.Settling.{first_done, still, dealt, good-again, second-done}
-use mathlib.Core.Path.{sym, ◌∙◌}
 use Rattle.kd_labelling.proofs.settle.Goals as goal
-
-pub returns-then-not-no_label : goal.returns-then-not-no_label
-returns-then-not-no_label c =
-    let get-comparer = c.get_comparer-c in
-    λ l i. first_done c.args.labels.now get-comparer.new.map l (value_of c.args.index (words c.args.ratio.now)) get-comparer.result
-    c.no_label.result (get-comparer.ensures l i) c.no_label.ensures c.if-not-no_label.true
 
 pub rebuild-requires : goal.rebuild-requires
 rebuild-requires c =
-    let get-comparer = c.get_comparer-c in
-    let no_label = c.no_label in
-    record {
-      state = c.requires.sound.state;
-      is = still c.args.labels.now get-comparer.new.map c.requires.sound.state
-          (value_of c.args.index (words c.args.ratio.now)) get-comparer.result c.requires.sound.is c.requires.good
-          (get-comparer.ensures c.requires.sound.state c.requires.sound.is) (sym no_label.ensures ∙ c.if-not-no_label.false);
+    let s = c.requires.sound in
+    let r = c.get_comparer in
+    let none = c.in-Err-NoLabel.is ∙ ap (λ (u : Unlabelled). Err u) c.in-Err-NoLabel.field-0-is in record {
+      state = s.state;
+      is = still c.args.labels.now r.new.map s.state (value_of c.args.index (words c.args.ratio.now)) r.result s.is c.requires.good (r.ensures s.state s.is) none;
     }
 
-pub get_comparer-requires : goal.get_comparer-requires
-get_comparer-requires c =
-    let get-comparer = c.get_comparer-c in
-    let no_label = c.no_label in
-    let if1 = c.if-not-no_label in
-    let rebuild' = c.rebuild in
-    let p = rebuild'.ensures c.requires.sound.state (still c.args.labels.now get-comparer.new.map c.requires.sound.state
-    (value_of c.args.index (words c.args.ratio.now)) get-comparer.result c.requires.sound.is c.requires.good
-    (get-comparer.ensures c.requires.sound.state c.requires.sound.is) (sym no_label.ensures ∙ if1.false)) in
-    let q = sym no_label.ensures ∙ if1.false in
-    let x = get-comparer.ensures c.requires.sound.state c.requires.sound.is in
-    let y = value_of c.args.index (words c.args.ratio.now) in record {
-      sound = record {
-        state = rebuild c.requires.sound.state;
-        is = dealt c.args.labels.now get-comparer.new.map c.requires.sound.state y get-comparer.result
-            c.requires.sound.is c.requires.good x q rebuild'.new.map p;
-      };
-      good = good-again c.args.labels.now get-comparer.new.map c.requires.sound.state y get-comparer.result c.requires.sound.is c.requires.good x q rebuild'.new.map p;
+pub get_comparer-requires-in-Err-NoLabel-clause-sound : goal.get_comparer-requires-in-Err-NoLabel-clause-sound
+get_comparer-requires-in-Err-NoLabel-clause-sound c =
+    let s = c.requires.sound in
+    let r = c.get_comparer in
+    let q = value_of c.args.index (words c.args.ratio.now) in
+    let none = c.in-Err-NoLabel.is ∙ ap (λ (u : Unlabelled). Err u) c.in-Err-NoLabel.field-0-is in
+    let was = still c.args.labels.now r.new.map s.state q r.result s.is c.requires.good (r.ensures s.state s.is) none in record {
+      state = rebuild s.state;
+      is = dealt c.args.labels.now r.new.map s.state q r.result s.is c.requires.good (r.ensures s.state s.is) none c.rebuild.new.map (c.rebuild.ensures s.state was);
     }
+
+pub get_comparer-requires-in-Err-NoLabel-clause-good : goal.get_comparer-requires-in-Err-NoLabel-clause-good
+get_comparer-requires-in-Err-NoLabel-clause-good c =
+    let s = c.requires.sound in
+    let r = c.get_comparer in
+    let q = value_of c.args.index (words c.args.ratio.now) in
+    let none = c.in-Err-NoLabel.is ∙ ap (λ (u : Unlabelled). Err u) c.in-Err-NoLabel.field-0-is in
+    let was = still c.args.labels.now r.new.map s.state q r.result s.is c.requires.good (r.ensures s.state s.is) none in
+    good-again c.args.labels.now r.new.map s.state q r.result s.is c.requires.good (r.ensures s.state s.is) none c.rebuild.new.map (c.rebuild.ensures s.state was)
+
+pub returns-in-Err-NoLabel : goal.returns-in-Err-NoLabel
+returns-in-Err-NoLabel c = λ l i.
+    let r = c.get_comparer in
+    let again = c.get_comparer-in-Err-NoLabel in
+    let q = value_of c.args.index (words c.args.ratio.now) in
+    let none = c.in-Err-NoLabel.is ∙ ap (λ (u : Unlabelled). Err u) c.in-Err-NoLabel.field-0-is in
+    let was = still c.args.labels.now r.new.map l q r.result i c.requires.good (r.ensures l i) none in
+    let new = dealt c.args.labels.now r.new.map l q r.result i c.requires.good (r.ensures l i) none c.rebuild.new.map (c.rebuild.ensures l was) in
+    second-done c.args.labels.now r.new.map l q r.result i c.requires.good (r.ensures l i) none c.rebuild.new.map (c.rebuild.ensures l was) again.new.map again.result
+    (again.ensures (rebuild l) new)
 
 pub returns : goal.returns
-returns c =
-    let get-comparer = c.get_comparer-c in
-    let no_label = c.no_label in
-    let if1 = c.if-not-no_label in
-    let rebuild' = c.rebuild in
-    let get-comparer2 = c.get_comparer in
-    let p = sym no_label.ensures ∙ if1.false in
-    let q = value_of c.args.index (words c.args.ratio.now) in
-    λ l i. let s = still c.args.labels.now get-comparer.new.map l q get-comparer.result i c.requires.good (get-comparer.ensures l i) p in second-done
-    c.args.labels.now get-comparer.new.map l q get-comparer.result i c.requires.good (get-comparer.ensures l i) p rebuild'.new.map
-    (rebuild'.ensures l s) get-comparer2.new.map get-comparer2.result
-    (get-comparer2.ensures (rebuild l) (dealt c.args.labels.now get-comparer.new.map l q get-comparer.result i c.requires.good
-    (get-comparer.ensures l i) p rebuild'.new.map (rebuild'.ensures l s)))
+returns c = λ l i. first_done c.args.labels.now c.get_comparer.new.map l (value_of c.args.index (words c.args.ratio.now)) c.get_comparer.result (c.get_comparer.ensures l i)
+    (λ e. absurd (let y : ◌≡◌ {A = ℕ} 0 1 = cc in omega arith))
+
+pub returns-2 : goal.returns-2
+returns-2 c = λ l i. first_done c.args.labels.now c.get_comparer.new.map l (value_of c.args.index (words c.args.ratio.now)) c.get_comparer.result (c.get_comparer.ensures l i)
+    (λ e. absurd (let y : ◌≡◌ {A = ℕ} 0 1 = cc in omega arith))

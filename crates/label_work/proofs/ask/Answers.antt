@@ -28,8 +28,8 @@ returns-then-not-is_canonical c =
     (passed _ sound.ensures if1.false) (λ st i. bad-ratio st.variables c.args.index c.args.ratio.now
     (rw (← vars-of c.args.image.now st i, ← c.get-variables.ensures) (sym c.is_canonical.ensures ∙ c.if-not-is_canonical.true)))
 
-pub get_comparer-c-requires : goal.get_comparer-c-requires
-get_comparer-c-requires c =
+pub get_comparer-requires : goal.get_comparer-requires
+get_comparer-requires c =
     let if1 = c.if-not-sound in record {
       sound = passed _ c.sound.ensures if1.false;
       good = (lent-good (get_or (words c.args.image.now) 1 0) c.args.index c.args.ratio.now
@@ -38,7 +38,7 @@ get_comparer-c-requires c =
 
 pub returns : goal.returns
 returns c =
-    let get-comparer = c.get_comparer-c in
+    let get-comparer = c.get_comparer in
     let if3 = c.if-not-is_canonical in
     let is-canonical = c.is_canonical in
     let if1 = c.if-not-sound in
