@@ -6,8 +6,6 @@ ghost use Rattle.words.specs.Kinds.{var_word};
 ghost use Rattle.monomial.specs.Monomial.{Starts, first};
 ghost use Rattle.monomial.specs.Operations.{result_words};
 ghost use Rattle.monomial.specs.declared.ordered_ops.Op.{Op};
-ghost use Rattle.divmask_table.specs.Table.{Tabled};
-ghost use Rattle.divmask.specs.Tracker.{Maxima};
 ghost use Rattle.index_theory.specs.Entries.{quotient_of};
 ghost use Rattle.index_image.specs.Door as door;
 ghost use Rattle.index_image.specs.Shape as at;
