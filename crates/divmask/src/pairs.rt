@@ -23,6 +23,7 @@ pub fn short_field(bits: u32, power: u32) -> u64
 }
 
 // The mask of the monomial at the front of a slice, and in the upper half its short exponent vector.
+// Its walk is that of `divmask::map` with a second sum: one walk for both would make vectors where none is wanted, or take a closure and laws of its sums.
 pub fn map(maxima: &[u8], variables: u32, monomial: &[u8]) -> u64
     requires maxima { Maxima variables (words maxima.now) }
     requires starts { Starts 1 variables (words monomial.now) }

@@ -61,20 +61,6 @@ pub fn prepare(maxima: &[u8], variables: u32, monomials: usize, table: &mut [u8]
     16
 }
 
-// The same bits as `bits_at`, from the table where it has them.
-fn look_up(maxima: &[u8], variables: u32, table: &[u8], limit: u32, v: u32, power: u32) -> u64
-    requires maxima { Maxima variables (words maxima.now) }
-    requires table_len { length table.now ≡ 8192 }
-    requires tabled { Tabled variables (words maxima.now) (words table.now) limit }
-    requires v_lt_variables { (v < variables) × ((1 ≤ power) × (power ≤ 32767)) }
-    ensures { result ≡ both variables (words maxima.now) v power }
-{
-    if limit < power {
-        return bits_at(maxima, variables, v, power);
-    }
-    words::pairs::get(table, 2 * (16 * v + (power - 1)) as usize)
-}
-
 // A canonical monomial in a longer list: how many words it has, and its mask, with its short exponent vector in the upper half.
 #[derive(Clone, Copy)]
 pub struct Slot {
@@ -82,41 +68,56 @@ pub struct Slot {
     pub masks: u64,
 }
 
-// Judges the monomial at word `at` and makes its masks, in one pass; none where no canonical one stands there.
-// Where it turns out not to be canonical, the sum so far may have wrapped.
-pub fn judge(
-    maxima: &[u8],
-    variables: u32,
-    table: &[u8],
-    limit: u32,
-    s: &[u8],
-    at: usize,
-) -> Option<Slot>
-    requires maxima { Maxima variables (words maxima.now) }
-    requires table_len { length table.now ≡ 8192 }
-    requires tabled { Tabled variables (words maxima.now) (words table.now) limit }
-    ensures { Judged variables (words maxima.now) (words s.now) at result }
-{
-    let mut bound = variables;
-    let mut masks: u64 = 0;
-    for i in at..s.len() / 4 {
-        let w = words::get(s, i);
-        if words::is_end(w) {
-            let n = i - at;
-            if words::payload(w) as usize != n {
+// How the masks of many monomials are made: by the maxima of their variables, and a table of the bits that powers set, up to a limit.
+#[derive(Clone, Copy)]
+pub struct Masks<'a> {
+    pub maxima: &'a [u8],
+    pub variables: u32,
+    pub table: &'a [u8],
+    pub limit: u32,
+    pub ghost lent: { Maxima variables (words maxima.now) },
+    pub ghost room: { length table.now ≡ 8192 },
+    pub ghost tabled: { Tabled variables (words maxima.now) (words table.now) limit },
+}
+
+impl Masks<'_> {
+    // The same bits as `bits_at`, from the table where it has them.
+    fn look_up(&self, v: u32, power: u32) -> u64
+        requires { (v < self.now.variables) × ((1 ≤ power) × (power ≤ 32767)) }
+        ensures { result ≡ both self.now.variables (words self.now.maxima.now) v power }
+    {
+        if self.limit < power {
+            return bits_at(self.maxima, self.variables, v, power);
+        }
+        words::pairs::get(self.table, 2 * (16 * v + (power - 1)) as usize)
+    }
+
+    // Judges the monomial at word `at` and makes its masks, in one pass; none where no canonical one stands there.
+    // Where it turns out not to be canonical, the sum so far may have wrapped.
+    pub fn judge(&self, s: &[u8], at: usize) -> Option<Slot>
+        ensures { Judged self.now.variables (words self.now.maxima.now) (words s.now) at result }
+    {
+        let mut bound = self.variables;
+        let mut masks: u64 = 0;
+        for i in at..s.len() / 4 {
+            let w = words::get(s, i);
+            if words::is_end(w) {
+                let n = i - at;
+                if words::payload(w) as usize != n {
+                    return None;
+                }
+                return Some(Slot {
+                    words: n + 1,
+                    masks,
+                });
+            }
+            if !monomial::is_variable(w, Kind::Monomial, bound) {
                 return None;
             }
-            return Some(Slot {
-                words: n + 1,
-                masks,
-            });
+            bound = words::id(w);
+            let x = self.look_up(bound, words::power(w));
+            masks = masks.wrapping_add(x);
         }
-        if !monomial::is_variable(w, Kind::Monomial, bound) {
-            return None;
-        }
-        bound = words::id(w);
-        let x = look_up(maxima, variables, table, limit, bound, words::power(w));
-        masks = masks.wrapping_add(x);
+        None
     }
-    None
 }

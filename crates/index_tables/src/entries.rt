@@ -6,41 +6,26 @@ ghost use Rattle.words.specs.Kinds.{var_word};
 ghost use Rattle.monomial.specs.Monomial.{Starts, first};
 ghost use Rattle.monomial.specs.Operations.{result_words};
 ghost use Rattle.monomial.specs.declared.ordered_ops.Op.{Op};
-ghost use Rattle.divmask_table.specs.Table.{Tabled};
-ghost use Rattle.divmask.specs.Tracker.{Maxima};
 ghost use Rattle.index_theory.specs.Entries.{quotient_of};
 ghost use Rattle.index_image.specs.Door as door;
 ghost use Rattle.index_image.specs.Shape as at;
 ghost use Rattle.index_image.specs.Walk.{lm_in, row_in, map_maxima};
 
+use divmask_table::Masks;
 use index_image::{Shape, fields};
 
 // Whether a canonical monomial stands in the slot at word i, zeros behind it, and then its mask and short exponent vector.
-// The masks are made by a table, which has the powers up to a limit.
-pub fn masked_slot(
-    image: &[u8],
-    map: usize,
-    variables: usize,
-    table: &[u8],
-    limit: u32,
-    i: usize,
-) -> bool
-    requires maxima { Maxima variables (part (words image.now) map variables) }
-    requires variables_in_bounds { 4 * (map + variables) ≤ length image.now }
-    requires variables_in_bounds_2 { 4 * (i + at.masked_width variables) ≤ length image.now }
-    requires table_len { length table.now ≡ 8192 }
-    requires tabled { Tabled variables (part (words image.now) map variables) (words table.now) limit }
-    ensures { (result ≡ true) ↔ door.MaskedSlot (words image.now) variables (part (words image.now) map variables) i }
+pub fn masked_slot(image: &[u8], masks: &Masks<'_>, i: usize) -> bool
+    requires i_in_bounds { 4 * (i + at.masked_width masks.now.variables) ≤ length image.now }
+    ensures { (result ≡ true) ↔ door.MaskedSlot (words image.now) masks.now.variables (words masks.now.maxima.now) i }
 {
-    let a = 4 * map;
-    let b = a + 4 * variables;
-    let Some(found) = divmask_table::judge(&image[a..b], variables as u32, table, limit, image, i)
-    else {
+    let Some(found) = masks.judge(image, i) else {
         return false;
     };
     let n = found.words;
-    words::runs::is_blank(image, i + n, variables + fields::SLOT - n)
-        && words::pairs::get(image, i + (variables + fields::MASK)) == found.masks
+    let m = masks.variables as usize;
+    words::runs::is_blank(image, i + n, m + fields::SLOT - n)
+        && words::pairs::get(image, i + (m + fields::MASK)) == found.masks
 }
 
 // Whether w is the word that a ratio has for variable v, whose power is p − 32,768. It has none for power 0.
@@ -109,53 +94,50 @@ fn has_ratio(image: &[u8], s: Shape, i: usize) -> bool
 }
 
 // Whether the entry at place i of a ratio index has an index, a signature monomial and a ratio.
-fn ratio_ok(image: &[u8], s: Shape, table: &[u8], limit: u32, i: usize) -> bool
+fn ratio_ok(image: &[u8], s: Shape, masks: &Masks<'_>, i: usize) -> bool
     requires in_range { at.InRange s }
     requires s_in_bounds { 4 * at.size s ≤ length image.now }
     requires kind_value { (s.kind ≡ 1) × (i < s.entries) }
     requires tables { door.Tables (words image.now) s }
     requires masked_slot { door.MaskedSlot (words image.now) s.variables (map_maxima (words image.now) s) (at.lm_at s i) }
-    requires table_len { length table.now ≡ 8192 }
-    requires tabled { Tabled s.variables (map_maxima (words image.now) s) (words table.now) limit }
+    requires variables { masks.now.variables ≡ s.variables }
+    requires maxima { words masks.now.maxima.now ≡ map_maxima (words image.now) s }
     ensures { (result ≡ true) ↔ door.RatioOk (words image.now) s i }
 {
     let m = s.variables;
     let e = s.entry_at(i);
     let sign = e + (m + fields::SIGN);
     words::kind(words::get(image, e + (m + fields::INDEX))) == 3
-        && masked_slot(image, fields::HEADER + m, m, table, limit, sign)
+        && masked_slot(image, masks, sign)
         && words::get(image, e + (2 * m + fields::ROW))
             < words::get(image, s.labels_at() + fields::ROWS)
         && has_ratio(image, s, i)
 }
 
 // Whether the entry at place i is one.
-fn entry_ok(image: &[u8], s: Shape, table: &[u8], limit: u32, i: usize) -> bool
+fn entry_ok(image: &[u8], s: Shape, masks: &Masks<'_>, i: usize) -> bool
     requires in_range { at.InRange s }
     requires s_in_bounds { 4 * at.size s ≤ length image.now }
     requires i_lt_entries { i < s.entries }
     requires tables { door.Tables (words image.now) s }
-    requires table_len { length table.now ≡ 8192 }
-    requires tabled { Tabled s.variables (map_maxima (words image.now) s) (words table.now) limit }
+    requires variables { masks.now.variables ≡ s.variables }
+    requires maxima { words masks.now.maxima.now ≡ map_maxima (words image.now) s }
     ensures { (result ≡ true) ↔ door.EntryOk (words image.now) s i }
 {
-    let m = s.variables;
-    let e = s.entry_at(i);
-    masked_slot(image, fields::HEADER + m, m, table, limit, e)
-        && (s.kind == 0 || ratio_ok(image, s, table, limit, i))
+    masked_slot(image, masks, s.entry_at(i)) && (s.kind == 0 || ratio_ok(image, s, masks, i))
 }
 
 // Whether each place below the number of entries has an entry.
-fn all_entries(image: &[u8], s: Shape, table: &[u8], limit: u32) -> bool
+fn all_entries(image: &[u8], s: Shape, masks: &Masks<'_>) -> bool
     requires in_range { at.InRange s }
     requires s_in_bounds { 4 * at.size s ≤ length image.now }
     requires tables { door.Tables (words image.now) s }
-    requires table_len { length table.now ≡ 8192 }
-    requires tabled { Tabled s.variables (map_maxima (words image.now) s) (words table.now) limit }
+    requires variables { masks.now.variables ≡ s.variables }
+    requires maxima { words masks.now.maxima.now ≡ map_maxima (words image.now) s }
     ensures { (result ≡ true) ↔ ((i : ℕ) → i < s.entries → door.EntryOk (words image.now) s i) }
 {
     for i in 0..s.entries {
-        if !entry_ok(image, s, table, limit, i) {
+        if !entry_ok(image, s, masks, i) {
             return false;
         }
     }
@@ -177,7 +159,15 @@ pub fn entries_ok(image: &[u8], s: Shape) -> bool
     }
     let a = 4 * (fields::HEADER + s.variables);
     let b = a + 4 * s.variables;
+    let maxima = &image[a..b];
+    let variables = s.variables as u32;
     let mut table = [0u8; 8192];
-    let limit = divmask_table::prepare(&image[a..b], s.variables as u32, n, &mut table);
-    all_entries(image, s, &table, limit)
+    let limit = divmask_table::prepare(maxima, variables, n, &mut table);
+    let masks = Masks {
+        maxima,
+        variables,
+        table: &table,
+        limit,
+    };
+    all_entries(image, s, &masks)
 }

@@ -11,6 +11,7 @@ ghost use Rattle.kd_descent.specs.Growing.{Growth, place};
 ghost use Rattle.kd_insert.specs.Inserting.{Room, Inserted, signed, Hangs, hung};
 
 use index_image::{Shape, fields};
+use power_table::Dense;
 
 // Runs `update` on the present maxima.
 pub fn track(image: &mut [u8], s: Shape, monomial: &[u8])
@@ -39,9 +40,13 @@ pub fn hang(image: &mut [u8], s: Shape, lm: &[u8], label: u64)
 {
     let mut table = [0u8; 256];
     power_table::lay(&mut table, lm);
+    let dense = Dense {
+        monomial: lm,
+        table: &table,
+    };
     let n = s.entries;
     let at = s.permutation_at();
-    let p = kd_descent::descend(image, s, lm, &table, label);
+    let p = kd_descent::descend(image, s, &dense, label);
     words::runs::insert(image, at + p, at + n, n as u32);
     words::put(image, fields::LENGTH, n as u32 + 1);
 }

@@ -28,8 +28,11 @@ returns-then-not-is_blank c =
 pub prepare-limit-requires : goal.prepare-limit-requires
 prepare-limit-requires c = record { maxima = rw (range-words c.args.image.now (shape.map_at c.args.s.variables) c.args.s.variables) c.requires.tables.map; table_len = refl }
 
+pub invariant_of-masks : goal.invariant_of-masks
+invariant_of-masks c = record { lent = rw (range-words c.args.image.now (shape.map_at c.args.s.variables) c.args.s.variables) c.requires.tables.map; room = c.prepare-limit.ensures.table_len_2; tabled = c.prepare-limit.ensures.tabled }
+
 pub all_entries-requires : goal.all_entries-requires
-all_entries-requires c = record { in_range = c.requires.in_range; s_in_bounds = c.requires.s_in_bounds; tables = c.requires.tables; table_len = c.prepare-limit.ensures.table_len_2; tabled = rw (range-words c.args.image.now (shape.map_at c.args.s.variables) c.args.s.variables) at c.prepare-limit.ensures.tabled }
+all_entries-requires c = record { in_range = c.requires.in_range; s_in_bounds = c.requires.s_in_bounds; tables = c.requires.tables; variables = refl; maxima = range-words c.args.image.now (shape.map_at c.args.s.variables) c.args.s.variables }
 
 pub returns : goal.returns
 returns c =

@@ -5,17 +5,14 @@ use Rattle.index_image.proofs.Bounds.{size_small}
 use Rattle.kd_descent.specs.Growing as growing
 use Rattle.kd_theory.proofs.PlaceLaws.{place_inside}
 use Rattle.kd_insert.proofs.Inserts.{hung-is}
-use mathlib.Core.Path.{◌∙◌, sym}
+use mathlib.Core.Path.{◌∙◌}
 use Rattle.kd_insert.proofs.insertion.hang.Goals as goal
 
 pub lay-requires : goal.lay-requires
 lay-requires c = canonical-more (omega arith) c.requires.in_range.vars-to c.requires.canonical
 
-pub slice_bounds-descend-end : goal.slice_bounds-descend-end
-slice_bounds-descend-end c = sym c.lay.ensures.0
-
 pub descend-p-requires : goal.descend-p-requires
-descend-p-requires c = record { in_range = c.requires.in_range; s_in_bounds = c.requires.s_in_bounds; maxima = c.requires.maxima; canonical = c.requires.canonical; lm_len = c.requires.lm_len; growth = c.requires.hangs.growth; in_bounds = (omega (arith, c.lay.ensures.0), c.lay.ensures.1) }
+descend-p-requires c = record { in_range = c.requires.in_range; s_in_bounds = c.requires.s_in_bounds; maxima = c.requires.maxima; canonical = c.requires.canonical; lm_len = c.requires.lm_len; growth = c.requires.hangs.growth }
 
 pub overflow_add-at : goal.overflow_add-at
 overflow_add-at c = let h = c.requires.hangs in

@@ -1,6 +1,0 @@
-use Rattle.words.specs.Words.{words}
-use Rattle.divmask_table.proofs.Tabling.{Going}
-use Rattle.divmask_table.proofs.judge.Given as goal
-
-abbrev pub invariant-loop-i : goal.invariant-loop-i
-invariant-loop-i l = Going l.variables (words l.maxima) (words l.s) l.at l.i l.bound l.masks
