@@ -11,7 +11,9 @@ ghost use Rattle.monomial.specs.Monomial.{Starts, first, pow};
 ghost use Rattle.divmask.specs.Mask.{parts, mask, tested};
 ghost use Rattle.divmask.specs.Tracker.{Maxima};
 
-// What two masks say of divisibility.
+use monomial::variables::variables_of;
+
+// What two masks say of divisibility. Not a bool: the name is the original's, and says that the test can only rule out.
 #[derive(Clone, Copy)]
 pub enum DivMaskTestResult {
     NotDivisible,
@@ -31,7 +33,7 @@ pub fn first_bit(whole: u32, extra: u32, v: u32) -> u32
     requires { (whole ≤ 32) × (v ≤ 64) }
     ensures { result ≡ v * whole + min v extra }
 {
-    v * whole + if v < extra { v } else { extra }
+    v * whole + v.min(extra)
 }
 
 // The bits that a power sets. Cutoffs rise, so these are the lowest ones, as many as cutoffs lie below the power.
@@ -41,9 +43,7 @@ pub fn field(bits: u32, maximum: u32, power: u32) -> u64
     requires le_power { (1 ≤ power) × (power ≤ 32767) }
     ensures { result ≡ parts bits maximum power bits }
 {
-    let top = power * (bits + 1) - 1;
-    let most = bits * maximum;
-    let least = if top < most { top } else { most };
+    let least = (power * (bits + 1) - 1).min(bits * maximum);
     (1u64 << (least / maximum)) - 1
 }
 
@@ -56,18 +56,13 @@ pub fn map(maxima: &[u8], variables: u32, monomial: &[u8]) -> u32
     let whole = 32 / variables;
     let extra = 32 % variables;
     let mut mask: u64 = 0;
-    let mut i: usize = 0;
-    loop {
-        let w = words::get(monomial, i);
-        if words::is_end(w) {
-            return mask as u32;
-        }
+    for w in variables_of(monomial) {
         let v = words::id(w);
         let x = words::get(maxima, v as usize);
         let f = field(bits_of(whole, extra, v), x, words::power(w));
         mask += f << first_bit(whole, extra, v);
-        i += 1;
     }
+    mask as u32
 }
 
 // The mask test.

@@ -5,6 +5,8 @@ ghost use Rattle.monomial.specs.Monomial.{Starts, first, pow};
 ghost use Rattle.divmask.specs.Mask.{parts, mask, vector, within};
 ghost use Rattle.divmask.specs.Tracker.{Maxima};
 
+use monomial::variables::variables_of;
+
 // Whether both halves of a are within those of b.
 pub fn within(a: u64, b: u64) -> bool
     ensures { result ≡ (within (a % 4294967296) (b % 4294967296) && within (a / 4294967296) (b / 4294967296)) }
@@ -17,8 +19,7 @@ pub fn short_field(bits: u32, power: u32) -> u64
     requires { bits ≤ 32 }
     ensures { result ≡ parts bits (max 1 bits) power bits }
 {
-    let count = if power < bits { power } else { bits };
-    (1u64 << count) - 1
+    (1u64 << power.min(bits)) - 1
 }
 
 // The mask of the monomial at the front of a slice, and in the upper half its short exponent vector.
@@ -31,12 +32,7 @@ pub fn map(maxima: &[u8], variables: u32, monomial: &[u8]) -> u64
     let extra = 32 % variables;
     let mut mask: u64 = 0;
     let mut vector: u64 = 0;
-    let mut i: usize = 0;
-    loop {
-        let w = words::get(monomial, i);
-        if words::is_end(w) {
-            return mask + 4294967296 * vector;
-        }
+    for w in variables_of(monomial) {
         let v = words::id(w);
         let p = words::power(w);
         let x = words::get(maxima, v as usize);
@@ -44,6 +40,6 @@ pub fn map(maxima: &[u8], variables: u32, monomial: &[u8]) -> u64
         let t = crate::first_bit(whole, extra, v);
         mask += crate::field(b, x, p) << t;
         vector += short_field(b, p) << t;
-        i += 1;
     }
+    mask + 4294967296 * vector
 }

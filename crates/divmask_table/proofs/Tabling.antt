@@ -1,5 +1,5 @@
 -- The table of the bits that small powers set: one pair of it, how it is filled, and the walk of a map that goes by it. Assumes nothing.
-use Rattle.std.proofs.Common.{◌≡◌, ℕ, suc, ◌+◌, ◌-◌, ◌*◌, ◌/◌, ◌%◌, ◌^◌, ◌<◌, ◌≤◌, min, max, true, false, cond, ltb, List, ◌∷◌, length, get_or, take, drop, set, sym, refl, ap, ◌∙◌, lt_of_lt_of_le, mod-eq_of_lt, arith, length-set, drop_of_length-le, length-take, get_or-drop, get_or-set_other, get_or-take, get_or-set_same, pow_mono}
+use Rattle.std.proofs.Common.{◌≡◌, ℕ, suc, ◌+◌, ◌-◌, ◌*◌, ◌/◌, ◌%◌, ◌^◌, ◌<◌, ◌≤◌, min, max, true, false, cond, ltb, List, ◌∷◌, length, get_or, take, drop, set, sym, ap, ◌∙◌, lt_of_lt_of_le, mod-eq_of_lt, arith, length-set, drop_of_length-le, length-take, get_or-drop, get_or-set_other, get_or-take, get_or-set_same, pow_mono}
 use native.Mathlib.Decide.{ℕ_discrete}
 use Rattle.words.specs.Kinds.{kind, payload, ident, power}
 use Rattle.words.specs.Words.{words, put_w}
@@ -10,7 +10,7 @@ use Rattle.monomial.proofs.Canon.{is-var, front-none, front-end, front-bad-end, 
 use Rattle.monomial.proofs.Laws.{front-canonical}
 use Rattle.monomial.proofs.Walks.{within}
 use Rattle.divmask.specs.Mask.{bits, first_bit, parts, field, fields, mask, bit_counts, vector}
-use Rattle.divmask_table.specs.Table.{both, pair_at, Tabled, Judged}
+use Rattle.divmask_table.specs.Table.{both, pair_at, Tabled, Stands}
 use Rattle.divmask.proofs.Places.{first-suc, first-closed, in_all}
 use Rattle.divmask.proofs.Masks.{fields-suc, fields-lt, Mapping, begin, mapped, step, bits_are}
 use Rattle.divmask.proofs.Vectors.{count_at, vector-mapped}
@@ -162,12 +162,9 @@ going m xs W at h =
       sums = λ n. rw z (adding xs h (front-canonical 1 m (drop at W) (omega arith) n));
     }
 
-none-judged : (m : ℕ) (xs W : List ℕ) (at x : ℕ) → front 1 m 0 (drop at W) ≡ 0 → Judged m xs W at (record { words = 0; masks = x })
-none-judged m xs W at x e = record { words = sym e; masks = λ n. absurd (n refl) }
-
 module _ (m : ℕ) (xs W : List ℕ) (most : m ≤ 64) (at i bound sum : ℕ) (g : Going m xs W at i bound sum) where
-  pub ran_out : length W ≤ i → (x : ℕ) → Judged m xs W at (record { words = 0; masks = x })
-  ran_out h x = none-judged m xs W at x (g.tail ∙ rw (drop_of_length-le W h) (front-none 1 bound (i - at)))
+  pub ran_out : length W ≤ i → front 1 m 0 (drop at W) ≡ 0
+  ran_out h = g.tail ∙ rw (drop_of_length-le W h) (front-none 1 bound (i - at))
 
   module _ (w : ℕ) (hi : i < length W) (ew : w ≡ get_or W i 0) where
     this : drop i W ≡ w ∷ drop (i + 1) W
@@ -182,19 +179,21 @@ module _ (m : ℕ) (xs W : List ℕ) (most : m ≤ 64) (at i bound sum : ℕ) (g
         let q : i - at < F = omega (arith, length-take F (drop at W)) in
         ew ∙ sym (get_or-take F (drop at W) (i - at) 0 q ∙ get_or-drop at W (i - at) 0 ∙ ap (λ (k : ℕ). get_or W k 0) z)
 
-    pub judged : (n : ℕ) → n ≡ i - at → kind w ≡ 0 → payload w ≡ n → Judged m xs W at (record { words = n + 1; masks = sum })
+    pub judged : (n : ℕ) → n ≡ i - at → kind w ≡ 0 → payload w ≡ n → Stands m xs W at (record { words = n + 1; masks = sum })
     judged n en k p =
         let e : n + 1 ≡ front 1 m 0 (drop at W) = sym (g.tail ∙ rw (this, ← en) (front-end 1 bound n w (drop (i + 1) W) k p)) in
+        let z : n + 1 ≡ 0 → ⊥ = λ q. omega arith in
         record {
+          some = z;
           words = e;
-          masks = λ z. rw e (added (g.sums (λ q. z (e ∙ q))) (inside (λ q. z (e ∙ q))) k);
+          masks = rw e (added (g.sums (λ q. z (e ∙ q))) (inside (λ q. z (e ∙ q))) k);
         }
 
-    pub wrong-end : (n x : ℕ) → n ≡ i - at → kind w ≡ 0 → (payload w ≡ n → ⊥) → Judged m xs W at (record { words = 0; masks = x })
-    wrong-end n x en k p = none-judged m xs W at x (g.tail ∙ rw (this, ← en) (front-bad-end 1 bound n w (drop (i + 1) W) k p))
+    pub wrong-end : (n : ℕ) → n ≡ i - at → kind w ≡ 0 → (payload w ≡ n → ⊥) → front 1 m 0 (drop at W) ≡ 0
+    wrong-end n en k p = g.tail ∙ rw (this, ← en) (front-bad-end 1 bound n w (drop (i + 1) W) k p)
 
-    pub no_power : (x : ℕ) → (kind w ≡ 0 → ⊥) → is_var 1 bound w ≡ false → Judged m xs W at (record { words = 0; masks = x })
-    no_power x k v = none-judged m xs W at x (g.tail ∙ rw this (front-bad-var 1 bound (i - at) w (drop (i + 1) W) k v))
+    pub no_power : (kind w ≡ 0 → ⊥) → is_var 1 bound w ≡ false → front 1 m 0 (drop at W) ≡ 0
+    no_power k v = g.tail ∙ rw this (front-bad-var 1 bound (i - at) w (drop (i + 1) W) k v)
 
     module _ (k : kind w ≡ 0 → ⊥) (v : is_var 1 bound w ≡ true) where
       pub known : (ident w < m) × ((1 ≤ power w) × (power w ≤ 32767))

@@ -7,6 +7,7 @@ ghost use Rattle.divmask_table.specs.Table.{both, Tabled, Judged};
 ghost use Rattle.divmask.specs.Tracker.{Maxima};
 
 use divmask::pairs;
+use monomial::Kind;
 
 // The bits that variable v sets in a mask by its power, and in the upper half those in the short exponent vector.
 fn bits_at(maxima: &[u8], variables: u32, v: u32, power: u32) -> u64
@@ -40,12 +41,9 @@ fn fill(maxima: &[u8], variables: u32, table: &mut [u8])
     ensures table_len_2 { length table.new ≡ 8192 }
     ensures tabled { Tabled variables (words maxima.now) (words table.new) 16 }
 {
-    let n = 16 * variables;
-    let mut k: u32 = 0;
-    while k < n {
+    for k in 0..16 * variables {
         let x = bits_at(maxima, variables, k / 16, k % 16 + 1);
         put_pair(table, 2 * k as usize, x);
-        k += 1;
     }
 }
 
@@ -77,43 +75,48 @@ fn look_up(maxima: &[u8], variables: u32, table: &[u8], limit: u32, v: u32, powe
     words::pairs::get(table, 2 * (16 * v + (power - 1)) as usize)
 }
 
-// A monomial in a longer list: how many words it has, 0 where none is canonical, and its mask, with its short exponent vector in the upper half.
+// A canonical monomial in a longer list: how many words it has, and its mask, with its short exponent vector in the upper half.
 #[derive(Clone, Copy)]
 pub struct Slot {
     pub words: usize,
     pub masks: u64,
 }
 
-// Judges the monomial at word `at` and makes its masks, in one pass. Where it turns out not to be canonical, the sum so far may have wrapped.
-pub fn judge(maxima: &[u8], variables: u32, table: &[u8], limit: u32, s: &[u8], at: usize) -> Slot
+// Judges the monomial at word `at` and makes its masks, in one pass; none where no canonical one stands there.
+// Where it turns out not to be canonical, the sum so far may have wrapped.
+pub fn judge(
+    maxima: &[u8],
+    variables: u32,
+    table: &[u8],
+    limit: u32,
+    s: &[u8],
+    at: usize,
+) -> Option<Slot>
     requires maxima { Maxima variables (words maxima.now) }
     requires table_len { length table.now ≡ 8192 }
     requires tabled { Tabled variables (words maxima.now) (words table.now) limit }
     ensures { Judged variables (words maxima.now) (words s.now) at result }
 {
-    let end = s.len() / 4;
-    let mut i = at;
     let mut bound = variables;
     let mut masks: u64 = 0;
-    while i < end {
+    for i in at..s.len() / 4 {
         let w = words::get(s, i);
-        if words::kind(w) == 0 {
+        if words::is_end(w) {
             let n = i - at;
-            if words::payload(w) as usize == n {
-                return Slot {
-                    words: n + 1,
-                    masks: masks,
-                };
+            if words::payload(w) as usize != n {
+                return None;
             }
-            return Slot { words: 0, masks: 0 };
+            return Some(Slot {
+                words: n + 1,
+                masks,
+            });
         }
-        if !monomial::is_variable(w, 1, bound) {
-            return Slot { words: 0, masks: 0 };
+        if !monomial::is_variable(w, Kind::Monomial, bound) {
+            return None;
         }
         bound = words::id(w);
         let x = look_up(maxima, variables, table, limit, bound, words::power(w));
-        masks = std::num::wrapping_add_u64(masks, x);
-        i += 1;
+        masks = masks.wrapping_add(x);
     }
-    Slot { words: 0, masks: 0 }
+    None
 }

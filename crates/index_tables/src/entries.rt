@@ -34,15 +34,13 @@ pub fn masked_slot(
 {
     let a = 4 * map;
     let b = a + 4 * variables;
-    let found = divmask_table::judge(&image[a..b], variables as u32, table, limit, image, i);
+    let Some(found) = divmask_table::judge(&image[a..b], variables as u32, table, limit, image, i)
+    else {
+        return false;
+    };
     let n = found.words;
-    if n == 0 {
-        return false;
-    }
-    if !words::runs::is_blank(image, i + n, variables + fields::SLOT - n) {
-        return false;
-    }
-    words::pairs::get(image, i + (variables + fields::MASK)) == found.masks
+    words::runs::is_blank(image, i + n, variables + fields::SLOT - n)
+        && words::pairs::get(image, i + (variables + fields::MASK)) == found.masks
 }
 
 // Whether w is the word that a ratio has for variable v, whose power is p − 32,768. It has none for power 0.
@@ -50,10 +48,7 @@ fn agrees(w: u32, v: u32, p: u32) -> bool
     requires { (v < 4096) × (p < 65536) }
     ensures { result ≡ cond (eqb p 32768) true (eqb w (var_word 2 v p)) }
 {
-    if p == 32768 {
-        return true;
-    }
-    w == words::ratio_word(v, p)
+    p == 32768 || w == words::ratio_word(v, p)
 }
 
 // The place behind word n, where there is a word for the power.
@@ -74,6 +69,7 @@ fn is_ratio(a: &[u8], b: &[u8], c: &[u8]) -> bool
     let mut i: usize = 0;
     let mut j: usize = 0;
     let mut n: usize = 0;
+    // A loop by hand: it merges two lists into a third, and which of the three goes on depends on their words.
     loop {
         let x = words::get(a, i);
         let y = words::get(b, j);
@@ -105,13 +101,11 @@ fn has_ratio(image: &[u8], s: Shape, i: usize) -> bool
     let e = s.entry_at(i);
     let row = words::get(image, e + (2 * m + fields::ROW)) as usize;
     let r = s.labels_at() + (fields::LABELS + row * (m + fields::LABEL_ROW));
-    if words::get(image, e + (m + fields::INDEX)) != words::get(image, r) {
-        return false;
-    }
     let x = 4 * (e + (m + fields::SIGN));
     let y = 4 * e;
     let z = 4 * (r + fields::RATIO);
-    is_ratio(&image[x..], &image[y..], &image[z..])
+    words::get(image, e + (m + fields::INDEX)) == words::get(image, r)
+        && is_ratio(&image[x..], &image[y..], &image[z..])
 }
 
 // Whether the entry at place i of a ratio index has an index, a signature monomial and a ratio.
@@ -127,25 +121,12 @@ fn ratio_ok(image: &[u8], s: Shape, table: &[u8], limit: u32, i: usize) -> bool
 {
     let m = s.variables;
     let e = s.entry_at(i);
-    if words::kind(words::get(image, e + (m + fields::INDEX))) != 3 {
-        return false;
-    }
-    if !masked_slot(
-        image,
-        fields::HEADER + m,
-        m,
-        table,
-        limit,
-        e + (m + fields::SIGN),
-    ) {
-        return false;
-    }
-    if words::get(image, s.labels_at() + fields::ROWS)
-        <= words::get(image, e + (2 * m + fields::ROW))
-    {
-        return false;
-    }
-    has_ratio(image, s, i)
+    let sign = e + (m + fields::SIGN);
+    words::kind(words::get(image, e + (m + fields::INDEX))) == 3
+        && masked_slot(image, fields::HEADER + m, m, table, limit, sign)
+        && words::get(image, e + (2 * m + fields::ROW))
+            < words::get(image, s.labels_at() + fields::ROWS)
+        && has_ratio(image, s, i)
 }
 
 // Whether the entry at place i is one.
@@ -159,15 +140,9 @@ fn entry_ok(image: &[u8], s: Shape, table: &[u8], limit: u32, i: usize) -> bool
     ensures { (result ≡ true) ↔ door.EntryOk (words image.now) s i }
 {
     let m = s.variables;
-    let k = s.kind;
     let e = s.entry_at(i);
-    if !masked_slot(image, fields::HEADER + m, m, table, limit, e) {
-        return false;
-    }
-    if k == 0 {
-        return true;
-    }
-    ratio_ok(image, s, table, limit, i)
+    masked_slot(image, fields::HEADER + m, m, table, limit, e)
+        && (s.kind == 0 || ratio_ok(image, s, table, limit, i))
 }
 
 // Whether each place below the number of entries has an entry.
@@ -179,13 +154,10 @@ fn all_entries(image: &[u8], s: Shape, table: &[u8], limit: u32) -> bool
     requires tabled { Tabled s.variables (map_maxima (words image.now) s) (words table.now) limit }
     ensures { (result ≡ true) ↔ ((i : ℕ) → i < s.entries → door.EntryOk (words image.now) s i) }
 {
-    let n = s.entries;
-    let mut i: usize = 0;
-    while i < n {
+    for i in 0..s.entries {
         if !entry_ok(image, s, table, limit, i) {
             return false;
         }
-        i += 1;
     }
     true
 }

@@ -8,12 +8,10 @@ pub fn in_range(image: &[u8], at: usize, n: usize) -> bool
     requires { 4 * (at + n) ≤ length image.now }
     ensures { (result ≡ true) ↔ ((i : ℕ) → i < n → get_or (words image.now) (at + i) 0 < n) }
 {
-    let mut i: usize = 0;
-    while i < n {
+    for i in 0..n {
         if n <= words::get(image, at + i) as usize {
             return false;
         }
-        i += 1;
     }
     true
 }
@@ -26,11 +24,9 @@ fn mark(image: &[u8], at: usize, w: usize, n: usize, seen: &mut [u8])
     requires by_index_3 { (j : ℕ) → get_or seen.old j 0 ≡ 0 }
     ensures { Marked (words image.now) at w n seen.new }
 {
-    let mut i: usize = 0;
-    while i < n {
+    for i in 0..n {
         let j = words::get(image, at + i * w) as usize;
         seen[j] = 1;
-        i += 1;
     }
 }
 
@@ -39,14 +35,7 @@ fn all_marked(seen: &[u8], n: usize) -> bool
     requires { n ≤ length seen.now }
     ensures { (result ≡ true) ↔ ((j : ℕ) → j < n → get_or seen.now j 0 ≡ 1) }
 {
-    let mut j: usize = 0;
-    while j < n {
-        if seen[j] != 1 {
-            return false;
-        }
-        j += 1;
-    }
-    true
+    seen[..n].iter().all(|x| *x == 1)
 }
 
 // Whether n words, w words apart, name every place below `places`.

@@ -24,7 +24,7 @@ use Rattle.index_image.proofs.Trees.{nodes-branch}
 use Rattle.index_image.specs.Rows.{monomial_in}
 use Rattle.kd_slots.specs.Slots.{gcd_words}
 use Rattle.kd_descent.specs.Growing.{Keyed, way_of, grown, Growth, keys, grown_rows, place}
-use Rattle.kd_descent.specs.declared.Way.{Way}
+use Rattle.kd_descent.specs.declared.Way.TheVariants.{Leaf, On}
 use Rattle.words.proofs.Pasting.{part-before, paste-same}
 use Rattle.kd_theory.proofs.PlaceLaws.{insert-less, insert-other, insert-inorder, place_inside}
 use Rattle.kd_descent.proofs.Ways.{insert-nodes}
@@ -55,34 +55,39 @@ module _ (m : ℕ) (xs : List ℕ) (pw : ℕ → ℕ → ℕ) (K : Keys) (e : �
       let i : inorder l ++ inorder (insert K e r) ≡ put_at (place_of K e (branch d k l r)) e (inorder l ++ inorder r) = sym (ap inorder b) ∙ insert-inorder K e (branch d k l r) in
       ap (tree_words m xs pw) b ∙ rw i
 
+-- what two equal steps say
+leaf-is : {p q : ℕ} → Leaf p ≡ Leaf q → p ≡ q
+leaf-is e = cc
+
+on-is : {y z a b : ℕ} → On y z ≡ On a b → (y ≡ a) × (z ≡ b)
+on-is e = (cc, cc)
+
+apart : {p y z : ℕ} → Leaf p ≡ On y z → ⊥
+apart e = let q : ◌≡◌ {A = ℕ} 0 1 = cc in omega arith
+
 -- how far one step goes
-pub way-rows : (K : Keys) (e : ℕ) (t : Tree) → (way_of K e t).rows ≤ nodes t
-unfolding way_of nodes
-way-rows K e (leaf es) = omega arith
-way-rows K e (branch d k l r) = go (K.below d k e)
-  where
-    go : (b : Bool) → (cond {A = Way} b (record { stop = false; rows = 1; places = 0 }) (record { stop = false; rows = suc (nodes l); places = count l })).rows ≤ suc (nodes l + nodes r)
-    go true = omega arith
-    go false = omega arith
+pub record Goes (K : Keys) (e : ℕ) (t : Tree) (y z : ℕ) : Type 0 where
+  pub some : 1 ≤ y
+  pub rows-to : y ≤ nodes t
+  pub places-to : z ≤ place_of K e t
 
-pub way_on : (K : Keys) (e : ℕ) (t : Tree) → (way_of K e t).stop ≡ false → 1 ≤ (way_of K e t).rows
-unfolding way_of
-way_on K e (leaf es) h = absurd (let q : ◌≡◌ {A = ℕ} 0 1 = cc in omega arith)
-way_on K e (branch d k l r) h = go (K.below d k e)
+pub way_on : (K : Keys) (e : ℕ) (t : Tree) (y z : ℕ) → On y z ≡ way_of K e t → Goes K e t y z
+unfolding way_of nodes place_of
+way_on K e (leaf es) y z h = absurd (apart (sym h))
+way_on K e (branch d k l r) y z h = let i = go (K.below d k e) h in record { some = i.0; rows-to = i.1.0; places-to = i.1.1 }
   where
-    go : (b : Bool) → 1 ≤ (cond {A = Way} b (record { stop = false; rows = 1; places = 0 }) (record { stop = false; rows = suc (nodes l); places = count l })).rows
-    go true = omega arith
-    go false = omega arith
+    go : (b : Bool) → On y z ≡ cond b (On 1 0) (On (suc (nodes l)) (count l)) → (1 ≤ y) × ((y ≤ suc (nodes l + nodes r)) × (z ≤ cond b (place_of K e l) (count l + place_of K e r)))
+    go true q = let i = on-is q in (omega (arith, i), (omega (arith, i), omega (arith, i)))
+    go false q = let i = on-is q in (omega (arith, i), (omega (arith, i), omega (arith, i)))
 
-pub way-places : (K : Keys) (e : ℕ) (t : Tree) → (way_of K e t).places ≤ place_of K e t
+pub way-leaf : (K : Keys) (e : ℕ) (t : Tree) (p : ℕ) → Leaf p ≡ way_of K e t → p ≡ place_of K e t
 unfolding way_of place_of
-way-places K e (leaf es) = omega arith
-way-places K e (branch d k l r) = go (K.below d k e)
+way-leaf K e (leaf es) p h = leaf-is h
+way-leaf K e (branch d k l r) p h = absurd (go (K.below d k e) h)
   where
-    go : (b : Bool) → (cond {A = Way} b (record { stop = false; rows = 1; places = 0 }) (record { stop = false; rows = suc (nodes l); places = count l })).places ≤ cond b
-        (place_of K e l) (count l + place_of K e r)
-    go true = omega arith
-    go false = omega arith
+    go : (b : Bool) → Leaf p ≡ cond b (On 1 0) (On (suc (nodes l)) (count l)) → ⊥
+    go true q = apart q
+    go false q = apart q
 
 module _ (bs : List ℕ) (s : Shape) (R : at.InRange s) (room : 4 * at.size s ≤ length bs) (lm : List ℕ) (lab : ℕ) (g : Growth (words bs) s lm lab 0) where
   abbrev W : List ℕ
@@ -300,30 +305,29 @@ module _ (bs : List ℕ) (s : Shape) (R : at.InRange s) (room : 4 * at.size s �
           ap length grown-to ∙ length-paste_w bs root _ (omega (arith, body-fits))
 
       -- ---- at a leaf all is done
-      pub going_end : (x : Way) → x ≡ way_of (keys g) g.entry G.tree → x.stop ≡ true → (lo + x.places ≡ place g) × (im' ≡ paste_w bs (at.node_at s 0) (grown_rows g))
-      unfolding way_of place_of rest_of
-      going_end x ex st = go G.tree ex grown-to G.goal G.place_is
+      pub going_end : (p : ℕ) → Leaf p ≡ way_of (keys g) g.entry G.tree → (lo + p ≡ place g) × (im' ≡ paste_w bs (at.node_at s 0) (grown_rows g))
+      unfolding way_of rest_of
+      going_end p ex = go G.tree ex grown-to G.goal (let pl = way-leaf K e G.tree p ex in omega (arith, G.place_is))
         where
-          never-stop : (b : Bool) (l : Tree) → x ≡ cond b (record { stop = false; rows = 1; places = 0 }) (record { stop = false; rows = suc (nodes l); places = count l }) → ⊥
-          never-stop true l z = let y : ◌≡◌ {A = Bool} true false = sym st ∙ ap (λ (v : Way). v.stop) z in let q : ◌≡◌ {A = ℕ} 0 1 = cc in omega arith
-          never-stop false l z = let y : ◌≡◌ {A = Bool} true false = sym st ∙ ap (λ (v : Way). v.stop) z in let q : ◌≡◌ {A = ℕ} 0 1 = cc in omega arith
+          never-leaf : (b : Bool) (l : Tree) → Leaf p ≡ cond b (On 1 0) (On (suc (nodes l)) (count l)) → ⊥
+          never-leaf true l z = apart z
+          never-leaf false l z = apart z
 
-          go : (t : Tree) → x ≡ way_of K e t → im' ≡ paste_w bs root (G.above ++ (new t ++ (rest t ++ G.under)))
+          go : (t : Tree) → Leaf p ≡ way_of K e t → im' ≡ paste_w bs root (G.above ++ (new t ++ (rest t ++ G.under)))
               → rows (insert K e g.tree) ≡ G.above ++ (rows (insert K e t) ++ G.under)
-              → place_of K e g.tree ≡ lo + place_of K e t
-              → (lo + x.places ≡ place g) × (im' ≡ paste_w bs (at.node_at s 0) (grown_rows g))
+              → lo + p ≡ place_of K e g.tree
+              → (lo + p ≡ place g) × (im' ≡ paste_w bs (at.node_at s 0) (grown_rows g))
           go (leaf es) xw to goal-is pl =
-              let xp : x.places ≡ length es = ap (λ (y : Way). y.places) xw in
-              (omega (arith, pl), to ∙ ap (paste_w bs root) (ap (λ (y : List ℕ). G.above ++ (y ++ G.under)) (sym (leaf-rows m xs g.power K e es ∙ append-nil (new (leaf es)))) ∙ sym goal-is))
-          go (branch d key l r) xw to goal-is pl = absurd (never-stop (K.below d key e) l xw)
+              (pl, to ∙ ap (paste_w bs root) (ap (λ (y : List ℕ). G.above ++ (y ++ G.under)) (sym (leaf-rows m xs g.power K e es ∙ append-nil (new (leaf es)))) ∙ sym goal-is))
+          go (branch d key l r) xw to goal-is pl = absurd (never-leaf (K.below d key e) l xw)
 
       -- ---- at a branch the way goes on
       below_rows : (l r : Tree) → suc (nodes l + nodes r) * w ≡ w + (nodes l * w + nodes r * w)
       below_rows l r = omega (arith, suc-mul (nodes l + nodes r) w, add-mul (nodes l) (nodes r) w)
 
-      pub going_on : (x : Way) → x ≡ way_of (keys g) g.entry G.tree → x.stop ≡ false → Going im' (k + x.rows) (lo + x.places)
+      pub going_on : (y z : ℕ) → On y z ≡ way_of (keys g) g.entry G.tree → Going im' (k + y) (lo + z)
       unfolding way_of place_of Keyed rest_of
-      going_on x ex st = go G.tree ex grown-to behind G.goal G.place_is G.keyed G.inside G.few G.all
+      going_on y z ex = go G.tree ex grown-to behind G.goal G.place_is G.keyed G.inside G.few G.all
         where
           goal-of : Tree → Type 0
           goal-of t = rows (insert K e g.tree) ≡ G.above ++ (rows (insert K e t) ++ G.under)
@@ -389,28 +393,32 @@ module _ (bs : List ℕ) (s : Shape) (R : at.InRange s) (room : 4 * at.size s �
                 place_is = omega (arith, pl);
               })
 
-          go : (t : Tree) → x ≡ way_of K e t → im' ≡ paste_w bs root (G.above ++ (new t ++ (rest t ++ G.under)))
+          go : (t : Tree) → On y z ≡ way_of K e t → im' ≡ paste_w bs root (G.above ++ (new t ++ (rest t ++ G.under)))
               → part (words im') (at.node_at s k + at.node_width m) (length (rest t)) ≡ rest t
               → goal-of t → place_of K e g.tree ≡ lo + place_of K e t → Keyed s t
               → k + nodes t ≤ nodes g.tree → count t ≤ count g.tree → length G.above + (nodes t * w + length G.under) ≡ nodes g.tree * w
-              → Going im' (k + x.rows) (lo + x.places)
-          go (leaf es) xw to bh goal-is pl kd ins few all-is = absurd (let y : ◌≡◌ {A = Bool} false true = sym st ∙ ap (λ (v : Way). v.stop) xw in let q : ◌≡◌ {A = ℕ} 0 1 = cc in omega arith)
+              → Going im' (k + y) (lo + z)
+          go (leaf es) xw to bh goal-is pl kd ins few all-is = absurd (apart (sym xw))
           go (branch d key l r) xw to bh goal-is pl kd ins few all-is = side (K.below d key e) refl xw pl
             where
-              side : (b : Bool) → K.below d key e ≡ b → x ≡ cond b (record { stop = false; rows = 1; places = 0 }) (record { stop = false; rows = suc (nodes l); places = count l })
-                  → place_of K e g.tree ≡ lo + cond b (place_of K e l) (count l + place_of K e r) → Going im' (k + x.rows) (lo + x.places)
-              side true b xw pl = less d key l r b x.rows x.places (ap (λ (v : Way). v.rows) xw) (ap (λ (v : Way). v.places) xw) to bh goal-is pl kd.1.0 ins few all-is
-              side false b xw pl = other d key l r b x.rows x.places (ap (λ (v : Way). v.rows) xw) (ap (λ (v : Way). v.places) xw) to bh goal-is pl kd.1.1 ins few all-is
+              side : (b : Bool) → K.below d key e ≡ b → On y z ≡ cond b (On 1 0) (On (suc (nodes l)) (count l))
+                  → place_of K e g.tree ≡ lo + cond b (place_of K e l) (count l + place_of K e r) → Going im' (k + y) (lo + z)
+              side true b xw pl = less d key l r b y z (on-is xw).0 (on-is xw).1 to bh goal-is pl kd.1.0 ins few all-is
+              side false b xw pl = other d key l r b y z (on-is xw).0 (on-is xw).1 to bh goal-is pl kd.1.1 ins few all-is
 
     -- ---- how far the numbers go
-    pub record Bounds (x : Way) : Type 0 where
-      pub rows-to : k + x.rows ≤ s.nodes
-      pub places-to : lo + x.places ≤ s.capacity
-      pub on : x.stop ≡ false → 1 ≤ x.rows
+    pub ends : (p : ℕ) → Leaf p ≡ way_of (keys g) g.entry G.tree → lo + p ≤ s.capacity
+    ends p ex = omega (arith, way-leaf K e G.tree p ex, G.place_is, place_inside K e g.tree, g.few)
 
-    pub bounds : (x : Way) → x ≡ way_of (keys g) g.entry G.tree → Bounds x
-    bounds x ex = rw ex (record {
-      rows-to = omega (arith, way-rows K e G.tree, G.inside, g.inside);
-      places-to = omega (arith, way-places K e G.tree, G.place_is, place_inside K e g.tree, g.few);
-      on = way_on K e G.tree;
-    })
+    pub record Bounds (y z : ℕ) : Type 0 where
+      pub some : 1 ≤ y
+      pub rows-to : k + y ≤ s.nodes
+      pub places-to : lo + z ≤ s.capacity
+
+    pub bounds : (y z : ℕ) → On y z ≡ way_of (keys g) g.entry G.tree → Bounds y z
+    bounds y z ex =
+        let o = way_on K e G.tree y z ex in record {
+          some = o.some;
+          rows-to = omega (arith, o.rows-to, G.inside, g.inside);
+          places-to = omega (arith, o.places-to, G.place_is, place_inside K e g.tree, g.few);
+        }

@@ -25,6 +25,7 @@ use Rattle.index_image.proofs.Encoding.{node-length, tree-length}
 use Rattle.index_image.proofs.Trees.{some-node, nodes-branch}
 use Rattle.kd_descent.specs.Growing.{below_in, Keyed, way_of, below_key, Growth, keys}
 use Rattle.kd_descent.specs.declared.Way.{Way}
+use Rattle.kd_descent.specs.declared.Way.TheVariants.{Leaf, On}
 use Rattle.kd_descent.proofs.Grown.{RowIs, row_is}
 
 -- ---- an insert adds no node
@@ -134,11 +135,11 @@ module _ (bs : List ℕ) (s : Shape) (R : at.InRange s) (room : 4 * at.size s �
   here = here-at g.tree g.rows
 
   -- ---- a leaf
-  pub leaf-way : (tag x : ℕ) → tag ≡ get_or W i 0 → tag ≡ 0 → x ≡ get_or W (i + 2) 0 → ◌≡◌ {A = Way} (record { stop = true; rows = 0; places = x }) (way_of (keys g) g.entry g.tree)
+  pub leaf-way : (tag x : ℕ) → tag ≡ get_or W i 0 → tag ≡ 0 → x ≡ get_or W (i + 2) 0 → ◌≡◌ {A = Way} (Leaf x) (way_of (keys g) g.entry g.tree)
   unfolding way_of tag_of
   leaf-way tag x et ez ex = go g.tree here
     where
-      go : (t : Tree) → Here t → ◌≡◌ {A = Way} (record { stop = true; rows = 0; places = x }) (way_of (keys g) g.entry t)
+      go : (t : Tree) → Here t → ◌≡◌ {A = Way} (Leaf x) (way_of (keys g) g.entry t)
       go (leaf es) h = let q : x ≡ length es = ex ∙ h.row.count-is in rw q
       go (branch d key l r) h = absurd (let z : suc d ≡ 0 = sym h.row.tag_is ∙ sym et ∙ ez in omega arith)
 
@@ -207,12 +208,12 @@ module _ (bs : List ℕ) (s : Shape) (R : at.InRange s) (room : 4 * at.size s �
     unfolding below_key
     tested tag key et ek = rw (et ∙ B.tag_is, ek ∙ B.key-is) (test s.kind refl B.dim B.key B.key-ok)
 
-    pub less-way : below_in s.kind pw g.label B.dim B.key g.entry ≡ true → ◌≡◌ {A = Way} (record { stop = false; rows = 1; places = 0 }) (way_of (keys g) g.entry g.tree)
+    pub less-way : below_in s.kind pw g.label B.dim B.key g.entry ≡ true → ◌≡◌ {A = Way} (On 1 0) (way_of (keys g) g.entry g.tree)
     unfolding way_of
     less-way h = rw (B.is, h)
 
     pub other_way : (x y : ℕ) → below_in s.kind pw g.label B.dim B.key g.entry ≡ false → x ≡ get_or W (i + 3) 0 → y ≡ get_or W (at.count_at (i + at.node_width m)) 0
-        → ◌≡◌ {A = Way} (record { stop = false; rows = 1 + x; places = y }) (way_of (keys g) g.entry g.tree)
+        → ◌≡◌ {A = Way} (On (1 + x) y) (way_of (keys g) g.entry g.tree)
     unfolding way_of
     other_way x y h ex ey =
         let e : 1 + x ≡ suc (nodes B.less) = omega (arith, B.skip_is) in

@@ -1,5 +1,5 @@
 -- One entry more in the node rows of an image: the way from the root to a leaf, and the rows on it. Assumes nothing.
-use Rattle.std.specs.Prelude.{◌≡◌, Bool, true, false, cond, List, [], ◌∷◌, ℕ, zero, suc, ◌+◌, ◌-◌, ◌*◌, ◌≤◌, ◌<◌, ltb, eqb, length, get_or}
+use Rattle.std.specs.Prelude.{◌≡◌, Bool, cond, List, [], ◌∷◌, ℕ, zero, suc, ◌+◌, ◌-◌, ◌*◌, ◌≤◌, ◌<◌, ltb, eqb, length, get_or}
 use Rattle.words.specs.Words.{paste_w}
 use Rattle.words.specs.Tables.{part}
 use Rattle.monomial.specs.Monomial.{pow}
@@ -14,6 +14,7 @@ use Rattle.index_image.specs.Rows.{monomial_in}
 use Rattle.index_image.specs.declared.Shape.{Shape}
 use Rattle.kd_slots.specs.Slots.{gcd_words}
 use Rattle.kd_descent.specs.declared.Way.{Way}
+use Rattle.kd_descent.specs.declared.Way.TheVariants.{Leaf, On}
 
 -- ---- keys by numbers: pw v e is a power, lb e a label
 unfoldable pub below_in : ℕ → (ℕ → ℕ → ℕ) → (ℕ → ℕ) → ℕ → ℕ → ℕ → Bool
@@ -30,11 +31,10 @@ Keyed s (leaf es) = Unit {0}
 Keyed s (branch d k l r) = ((d < dims s) × KeyOk s.kind s.entries d k) × (Keyed s l × Keyed s r)
 
 -- ---- where an entry goes
--- one step of the way: it stops at a leaf; else how many rows on, and how many entries are passed over
+-- one step of the way: it stops at a leaf, behind all its entries; else how many rows on, and how many entries are passed over
 unfoldable pub way_of : Keys → ℕ → Tree → Way
-way_of K e (leaf es) = record { stop = true; rows = 0; places = length es }
-way_of K e (branch d k l r) =
-    cond (K.below d k e) (record { stop = false; rows = 1; places = 0 }) (record { stop = false; rows = suc (nodes l); places = count l })
+way_of K e (leaf es) = Leaf (length es)
+way_of K e (branch d k l r) = cond (K.below d k e) (On 1 0) (On (suc (nodes l)) (count l))
 
 -- ---- a row with one entry more, whose lm is `lm`
 -- the gcd of a row's c entries and lm; of no entries it is lm

@@ -12,20 +12,20 @@ ghost use Rattle.index_image.specs.Shape as shape;
 ghost use Rattle.index_image.specs.Walk as rows;
 ghost use Rattle.index_image.specs.Walk.{map_maxima};
 ghost use Rattle.index_image.specs.Rows.{monomial_in};
-ghost use Rattle.power_table.specs.Tabled.{Powers};
 ghost use Rattle.kd_slots.specs.Slots.{gcd_width, gcd_words};
 ghost use Rattle.kd_descent.specs.Growing.{below_key, grown_gcd, grown, Growth, keys, way_of, grown_rows, place};
 
 use index_image::{Shape, fields, stored};
+use power_table::Dense;
 
-// One step of the way: it stops at a leaf; else so many rows on, passing over so many entries.
-#[derive(Clone, Copy)]
-pub struct Way {
-    pub stop: bool,
-    pub rows: usize,
-    pub places: usize,
+// One step of the way: it stops at a leaf, behind so many entries; else so many rows on, passing over so many entries.
+#[derive(Clone, Copy, Debug, PartialEq, Eq)]
+pub enum Way {
+    Leaf { places: usize },
+    On { rows: usize, places: usize },
 }
 
+// Not shared with `index_image::stored`: there the gcd replaces the monomial that it is made of, here it goes to a row with its mask.
 // Writes the gcd of the row at word `at` and another entry's lm, and its mask.
 fn make_gcd(image: &mut [u8], s: Shape, at: usize, lm: &[u8])
     requires in_range { shape.InRange s }
@@ -46,103 +46,88 @@ fn make_gcd(image: &mut [u8], s: Shape, at: usize, lm: &[u8])
     kd_slots::write_gcd(image, s, at, &made[..e]);
 }
 
-// The same, without a write where the row's gcd divides lm, whose powers stand in the table: there it stays as it is.
-fn meet(image: &mut [u8], s: Shape, at: usize, lm: &[u8], table: &[u8])
+// The same, without a write where the row's gcd divides lm: there it stays as it is.
+fn meet(image: &mut [u8], s: Shape, at: usize, lm: &Dense<'_>)
     requires in_range { shape.InRange s }
     requires s_in_bounds { 4 * shape.size s ≤ length image.old }
     requires maxima { Maxima s.variables (map_maxima (words image.old) s) }
-    requires canonical { Canonical 1 s.variables (words lm.now) }
+    requires canonical { Canonical 1 s.variables (words lm.now.monomial.now) }
     requires variables_bound { at + shape.node_width s.variables ≤ shape.size s }
     requires fact { front 1 s.variables 0 (drop (shape.gcd_at at) (words image.old)) ≡ 0 → ⊥ }
     requires variables_value { part (words image.old) (shape.node_mask_at at) (gcd_width s.variables) ≡ gcd_words s.variables (map_maxima (words image.old) s) (monomial_in (words image.old) s.variables (shape.gcd_at at)) }
-    requires in_bounds { (256 ≤ length table.now) × Powers (words table.now) (words lm.now) }
-    ensures { image.new ≡ paste_w image.old (shape.node_mask_at at) (gcd_words s.variables (map_maxima (words image.old) s) (result_words Op.Gcd (monomial_in (words image.old) s.variables (shape.gcd_at at)) (words lm.now))) }
+    ensures { image.new ≡ paste_w image.old (shape.node_mask_at at) (gcd_words s.variables (map_maxima (words image.old) s) (result_words Op.Gcd (monomial_in (words image.old) s.variables (shape.gcd_at at)) (words lm.now.monomial.now))) }
 {
-    if power_table::divides(stored::monomial_from(image, s, at + fields::GCD), table) {
+    if power_table::divides(stored::monomial_from(image, s, at + fields::GCD), lm.table) {
         return;
     }
-    make_gcd(image, s, at, lm);
+    make_gcd(image, s, at, lm.monomial);
 }
 
 // The same for a row of c entries: of none the gcd is lm.
-fn grow_gcd(image: &mut [u8], s: Shape, at: usize, c: u32, lm: &[u8], table: &[u8])
+fn grow_gcd(image: &mut [u8], s: Shape, at: usize, c: u32, lm: &Dense<'_>)
     requires in_range { shape.InRange s }
     requires s_in_bounds { 4 * shape.size s ≤ length image.old }
     requires maxima { Maxima s.variables (map_maxima (words image.old) s) }
-    requires canonical { Canonical 1 s.variables (words lm.now) }
-    requires lm_len { length lm.now % 4 ≡ 0 }
+    requires canonical { Canonical 1 s.variables (words lm.now.monomial.now) }
+    requires lm_len { length lm.now.monomial.now % 4 ≡ 0 }
     requires variables_bound { at + shape.node_width s.variables ≤ shape.size s }
     requires fact { front 1 s.variables 0 (drop (shape.gcd_at at) (words image.old)) ≡ 0 → ⊥ }
     requires variables_value { part (words image.old) (shape.node_mask_at at) (gcd_width s.variables) ≡ gcd_words s.variables (map_maxima (words image.old) s) (monomial_in (words image.old) s.variables (shape.gcd_at at)) }
-    requires in_bounds { (256 ≤ length table.now) × Powers (words table.now) (words lm.now) }
-    ensures { image.new ≡ paste_w image.old (shape.node_mask_at at) (gcd_words s.variables (map_maxima (words image.old) s) (grown_gcd (words image.old) s.variables at c (words lm.now))) }
+    ensures { image.new ≡ paste_w image.old (shape.node_mask_at at) (gcd_words s.variables (map_maxima (words image.old) s) (grown_gcd (words image.old) s.variables at c (words lm.now.monomial.now))) }
 {
     if c == 0 {
-        kd_slots::write_gcd(image, s, at, lm);
+        kd_slots::write_gcd(image, s, at, lm.monomial);
         return;
     }
-    meet(image, s, at, lm, table);
+    meet(image, s, at, lm);
 }
 
 // Gives the row at word `at` one entry more: its count, gcd and mask.
-pub fn grow(image: &mut [u8], s: Shape, at: usize, lm: &[u8], table: &[u8])
+pub fn grow(image: &mut [u8], s: Shape, at: usize, lm: &Dense<'_>)
     requires in_range { shape.InRange s }
     requires s_in_bounds { 4 * shape.size s ≤ length image.old }
     requires maxima { Maxima s.variables (map_maxima (words image.old) s) }
-    requires canonical { Canonical 1 s.variables (words lm.now) }
-    requires lm_len { length lm.now % 4 ≡ 0 }
+    requires canonical { Canonical 1 s.variables (words lm.now.monomial.now) }
+    requires lm_len { length lm.now.monomial.now % 4 ≡ 0 }
     requires variables_bound { at + shape.node_width s.variables ≤ shape.size s }
     requires fact { front 1 s.variables 0 (drop (shape.gcd_at at) (words image.old)) ≡ 0 → ⊥ }
     requires at_bound { get_or (words image.old) (shape.count_at at) 0 < s.capacity }
     requires variables_value { part (words image.old) (shape.node_mask_at at) (gcd_width s.variables) ≡ gcd_words s.variables (map_maxima (words image.old) s) (monomial_in (words image.old) s.variables (shape.gcd_at at)) }
-    requires in_bounds { (256 ≤ length table.now) × Powers (words table.now) (words lm.now) }
-    ensures { image.new ≡ grown image.old (words image.old) s at (words lm.now) }
+    ensures { image.new ≡ grown image.old (words image.old) s at (words lm.now.monomial.now) }
 {
     let c = words::get(image, at + fields::COUNT);
-    grow_gcd(image, s, at, c, lm, table);
+    grow_gcd(image, s, at, c, lm);
     words::put(image, at + fields::COUNT, c + 1);
 }
 
-// Whether an entry with this lm, whose powers stand in the table, and this label lies below the key of a branch.
-fn is_below(
-    image: &[u8],
-    s: Shape,
-    tag: usize,
-    key: u32,
-    lm: &[u8],
-    table: &[u8],
-    label: u64,
-) -> bool
+// Whether an entry with this lm and this label lies below the key of a branch.
+fn is_below(image: &[u8], s: Shape, tag: usize, key: u32, lm: &Dense<'_>, label: u64) -> bool
     requires in_range { shape.InRange s }
     requires s_in_bounds { 4 * shape.size s ≤ length image.now }
-    requires canonical { Canonical 1 s.variables (words lm.now) }
+    requires canonical { Canonical 1 s.variables (words lm.now.monomial.now) }
     requires le_tag { (1 ≤ tag) × (tag ≤ rows.dims s) }
     requires key_lt_capacity { tag ≡ s.kind → (key < s.capacity) × (rows.row_in (words image.now) s key < s.capacity) }
-    requires in_bounds { (256 ≤ length table.now) × Powers (words table.now) (words lm.now) }
-    ensures { result ≡ below_key (words image.now) s (words lm.now) label tag key }
+    ensures { result ≡ below_key (words image.now) s (words lm.now.monomial.now) label tag key }
 {
     if tag == s.kind {
         return label < stored::label_in(image, s, key as usize);
     }
     let v = tag - 1 - s.kind;
-    words::get(table, v) < key
+    words::get(lm.table, v) < key
 }
 
-// One step of the way, at row k. Powers of lm are read from the table; the contract speaks of lm.
-pub fn next_step(image: &[u8], s: Shape, k: usize, lm: &[u8], table: &[u8], label: u64) -> Way
+// One step of the way, at row k.
+pub fn next_step(image: &[u8], s: Shape, k: usize, lm: &Dense<'_>, label: u64) -> Way
     requires in_range { shape.InRange s }
     requires s_in_bounds { 4 * shape.size s ≤ length image.now }
-    requires canonical { Canonical 1 s.variables (words lm.now) }
-    requires growth { Growth (words image.now) s (words lm.now) label k }
-    requires in_bounds { (256 ≤ length table.now) × Powers (words table.now) (words lm.now) }
-    ensures { ((g : Growth (words image.now) s (words lm.now) label k) → result ≡ way_of (keys g) g.entry g.tree) }
+    requires canonical { Canonical 1 s.variables (words lm.now.monomial.now) }
+    requires growth { Growth (words image.now) s (words lm.now.monomial.now) label k }
+    ensures { ((g : Growth (words image.now) s (words lm.now.monomial.now) label k) → result ≡ way_of (keys g) g.entry g.tree) }
 {
     let at = s.node_at(k);
     let tag = words::get(image, at) as usize;
     if tag == 0 {
-        return Way {
-            stop: true,
-            rows: 0,
+        return Way::Leaf {
             places: words::get(image, at + fields::COUNT) as usize,
         };
     }
@@ -152,20 +137,14 @@ pub fn next_step(image: &[u8], s: Shape, k: usize, lm: &[u8], table: &[u8], labe
         tag,
         words::get(image, at + fields::KEY),
         lm,
-        table,
         label,
     ) {
-        return Way {
-            stop: false,
-            rows: 1,
-            places: 0,
-        };
+        return Way::On { rows: 1, places: 0 };
     }
     let skip = words::get(image, at + fields::SKIP) as usize;
     let less = at + (s.variables + fields::NODE);
     let passed = words::get(image, less + fields::COUNT) as usize;
-    Way {
-        stop: false,
+    Way::On {
         rows: 1 + skip,
         places: passed,
     }
@@ -173,25 +152,27 @@ pub fn next_step(image: &[u8], s: Shape, k: usize, lm: &[u8], table: &[u8], labe
 
 // Goes down from the root to the leaf of a new entry, gives every row on the way one entry more, and returns the entry's place
 // in the permutation.
-pub fn descend(image: &mut [u8], s: Shape, lm: &[u8], table: &[u8], label: u64) -> usize
+pub fn descend(image: &mut [u8], s: Shape, lm: &Dense<'_>, label: u64) -> usize
     requires in_range { shape.InRange s }
     requires s_in_bounds { 4 * shape.size s ≤ length image.old }
     requires maxima { Maxima s.variables (map_maxima (words image.old) s) }
-    requires canonical { Canonical 1 s.variables (words lm.now) }
-    requires lm_len { length lm.now % 4 ≡ 0 }
-    requires growth { Growth (words image.old) s (words lm.now) label 0 }
-    requires in_bounds { (256 ≤ length table.now) × Powers (words table.now) (words lm.now) }
-    ensures { ((g : Growth (words image.old) s (words lm.now) label 0) → (result ≡ place g) × (image.new ≡ paste_w image.old (shape.node_at s 0) (grown_rows g))) }
+    requires canonical { Canonical 1 s.variables (words lm.now.monomial.now) }
+    requires lm_len { length lm.now.monomial.now % 4 ≡ 0 }
+    requires growth { Growth (words image.old) s (words lm.now.monomial.now) label 0 }
+    ensures { ((g : Growth (words image.old) s (words lm.now.monomial.now) label 0) → (result ≡ place g) × (image.new ≡ paste_w image.old (shape.node_at s 0) (grown_rows g))) }
 {
     let mut k: usize = 0;
     let mut lo: usize = 0;
+    // A loop by hand: it goes down a tree, and each step says how many rows the next one is on.
     loop {
-        let w = next_step(image, s, k, lm, table, label);
-        grow(image, s, s.node_at(k), lm, table);
-        lo += w.places;
-        if w.stop {
-            return lo;
+        let way = next_step(image, s, k, lm, label);
+        grow(image, s, s.node_at(k), lm);
+        match way {
+            Way::Leaf { places } => return lo + places,
+            Way::On { rows, places } => {
+                k += rows;
+                lo += places;
+            }
         }
-        k += w.rows;
     }
 }

@@ -7,8 +7,19 @@ ghost use Rattle.monomial.specs.Monomial.{Canonical, Starts, first};
 ghost use Rattle.monomial.specs.Operations as ops;
 ghost use Rattle.power_table.specs.Tabled.{Powers};
 
+use monomial::variables::variables_of;
+
 // One word a variable.
 pub type Table = [u8; 256];
+
+// A monomial beside its powers laid out by variable.
+#[derive(Clone, Copy)]
+pub struct Dense<'a> {
+    pub monomial: &'a [u8],
+    pub table: &'a [u8],
+    pub ghost room: { 256 ≤ length table.now },
+    pub ghost laid: { Powers (words table.now) (words monomial.now) },
+}
 
 // Lays the powers of m out in a table.
 pub fn lay(table: &mut Table, m: &[u8])
@@ -16,14 +27,8 @@ pub fn lay(table: &mut Table, m: &[u8])
     ensures { (length table.new ≡ 256) × Powers (words table.new) (words m.now) }
 {
     words::runs::clear(table, 0, 64);
-    let mut i: usize = 0;
-    loop {
-        let w = words::get(m, i);
-        if words::is_end(w) {
-            return;
-        }
+    for w in variables_of(m) {
         words::put(table, words::id(w) as usize, words::power(w));
-        i += 1;
     }
 }
 
@@ -34,15 +39,10 @@ pub fn divides(a: &[u8], table: &[u8]) -> bool
     requires in_bounds { 256 ≤ length table.now }
     ensures { (M : List ℕ) → Powers (words table.now) M → result ≡ ops.divides (first 1 (words a.now)) M }
 {
-    let mut i: usize = 0;
-    loop {
-        let w = words::get(a, i);
-        if words::is_end(w) {
-            return true;
-        }
+    for w in variables_of(a) {
         if words::get(table, words::id(w) as usize) < words::power(w) {
             return false;
         }
-        i += 1;
     }
+    true
 }

@@ -1,7 +1,6 @@
 use native.Mathlib.Omega.{arith}
 use native.Mathlib.Nat.{mul-le-mul}
 use Prim.Native.Nat.{◌≤◌, ◌*◌}
-use Rattle.divmask.proofs.first_bit.Goals.{else-v-extra, then-v-extra}
 use Rattle.divmask.proofs.first_bit.Goals as goal
 
 pub overflow_mul-result : goal.overflow_mul-result
@@ -10,7 +9,4 @@ overflow_mul-result c = let h : c.args.v * c.args.whole ≤ 64 * 32 = mul-le-mul
 pub overflow_add-result : goal.overflow_add-result
 overflow_add-result c =
     let h : c.args.v * c.args.whole ≤ 64 * 32 = mul-le-mul c.requires.1 c.requires.0 in
-    elim c.if-v-extra.branch [ then-v-extra w ↦ omega arith | else-v-extra w ↦ omega arith ]
-
-pub returns : goal.returns
-returns c = elim c.if-v-extra.branch [ then-v-extra w ↦ omega arith | else-v-extra w ↦ omega arith ]
+    omega arith

@@ -2,11 +2,7 @@ use lib.ListN.{length}
 use Rattle.words.specs.Words.{words}
 use Rattle.divmask.proofs.Masks.{Mapping}
 use Rattle.monomial.specs.Monomial.{first}
-use Prim.Native.Nat.{◌-◌}
 use Rattle.divmask.proofs.map.Given as goal
 
-abbrev pub invariant-loop-variables : goal.invariant-loop-variables
-invariant-loop-variables l = Mapping l.variables (words l.maxima) (first 1 (words l.monomial)) l.i l.mask
-
-abbrev pub decreases-loop-variables : goal.decreases-loop-variables
-decreases-loop-variables l = length (first 1 (words l.monomial)) - l.i
+abbrev pub invariant-loop-w : goal.invariant-loop-w
+invariant-loop-w l = Mapping l.variables (words l.maxima) (first 1 (words l.monomial)) (length l.yielded) l.mask

@@ -1,10 +1,6 @@
-use Rattle.std.proofs.Common.{◌-◌}
 use Rattle.words.specs.Words.{words}
 use Rattle.divmask_table.proofs.Tabling.{Going}
 use Rattle.divmask_table.proofs.judge.Given as goal
 
 abbrev pub invariant-loop-i : goal.invariant-loop-i
 invariant-loop-i l = Going l.variables (words l.maxima) (words l.s) l.at l.i l.bound l.masks
-
-abbrev pub decreases-loop-i : goal.decreases-loop-i
-decreases-loop-i l = l.end - l.i

@@ -6,9 +6,9 @@ use Rattle.kd_descent.specs.Growing.{Growth}
 use Rattle.kd_descent.proofs.Going.{Going}
 use Rattle.kd_descent.proofs.descend.Given as goal
 
-abbrev pub invariant-loop-s : goal.invariant-loop-s
-invariant-loop-s l = (R : at.InRange l.s) (room : 4 * at.size l.s ≤ length l.initial.image) (g : Growth (words l.initial.image) l.s (words l.lm) l.label 0)
-    → Going l.initial.image l.s R room (words l.lm) l.label g l.image l.k l.lo
+abbrev pub invariant-loop-places : goal.invariant-loop-places
+invariant-loop-places l = (R : at.InRange l.s) (room : 4 * at.size l.s ≤ length l.initial.image) (g : Growth (words l.initial.image) l.s (words l.lm.monomial.now) l.label 0)
+    → Going l.initial.image l.s R room (words l.lm.monomial.now) l.label g l.image l.k l.lo
 
-abbrev pub decreases-loop-s : goal.decreases-loop-s
-decreases-loop-s l = l.s.nodes - l.k
+abbrev pub decreases-loop-places : goal.decreases-loop-places
+decreases-loop-places l = l.s.nodes - l.k

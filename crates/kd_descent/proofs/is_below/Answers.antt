@@ -10,15 +10,15 @@ label_in-requires c = record { in_range = c.requires.in_range; s_in_bounds = c.r
 
 pub returns-then-tag-s : goal.returns-then-tag-s
 returns-then-tag-s c =
-    below-ratio (words c.args.image.now) c.args.s (words c.args.lm.now) c.args.label c.args.tag c.args.key
+    below-ratio (words c.args.image.now) c.args.s (words c.args.lm.now.monomial.now) c.args.label c.args.tag c.args.key
     c.label_in.result c.if-tag-s.true c.label_in.ensures
 
 pub get-requires : goal.get-requires
 get-requires c =
-    omega (arith, c.requires.le_tag.1, c.requires.in_range.vars-to, c.requires.in_bounds.0)
+    omega (arith, c.requires.le_tag.1, c.requires.in_range.vars-to, c.args.lm.now.room)
 
 pub returns : goal.returns
 returns c =
-    below_power (words c.args.image.now) c.args.s (words c.args.lm.now) c.args.label c.args.tag c.args.key
+    below_power (words c.args.image.now) c.args.s (words c.args.lm.now.monomial.now) c.args.label c.args.tag c.args.key
     c.get.result c.if-tag-s.false
-    (c.get.ensures ∙ c.requires.in_bounds.1.each (c.args.tag - 1 - c.args.s.kind) (omega (arith, c.requires.le_tag.1, c.requires.in_range.vars-to)))
+    (c.get.ensures ∙ c.args.lm.now.laid.each (c.args.tag - 1 - c.args.s.kind) (omega (arith, c.requires.le_tag.1, c.requires.in_range.vars-to)))

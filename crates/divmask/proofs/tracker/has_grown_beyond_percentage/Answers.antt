@@ -22,4 +22,4 @@ nonzero_div-result c =
 
 pub returns : goal.returns
 unfolding grown
-returns c = rw c.total-t.ensures
+returns c = rw (c.from.ensures, c.total-t.ensures)

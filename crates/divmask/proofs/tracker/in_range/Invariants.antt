@@ -1,5 +1,4 @@
 use lib.ListN.{drop}
-use Prim.Native.Nat.{◌-◌}
 use mathlib.Core.Path.{◌≡◌}
 use Rattle.words.specs.Words.{words}
 use Rattle.divmask.specs.Tracker.{all_in_range}
@@ -7,6 +6,3 @@ use Rattle.divmask.proofs.tracker.in_range.Given as goal
 
 abbrev pub invariant-loop-i : goal.invariant-loop-i
 invariant-loop-i l = all_in_range (words l.s) ≡ all_in_range (drop l.i (words l.s))
-
-abbrev pub decreases-loop-i : goal.decreases-loop-i
-decreases-loop-i l = l.n - l.i

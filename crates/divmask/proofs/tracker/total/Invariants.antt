@@ -1,5 +1,5 @@
 use lib.ListN.{drop}
-use Prim.Native.Nat.{◌-◌, ◌+◌}
+use Prim.Native.Nat.{◌+◌}
 use mathlib.Core.Path.{◌≡◌}
 use Rattle.words.specs.Words.{words}
 use Rattle.divmask.specs.Tracker.{total}
@@ -7,6 +7,3 @@ use Rattle.divmask.proofs.tracker.total.Given as goal
 
 abbrev pub invariant-loop-i : goal.invariant-loop-i
 invariant-loop-i l = l.sum + total (drop l.i (words l.maxima)) ≡ total (words l.maxima)
-
-abbrev pub decreases-loop-i : goal.decreases-loop-i
-decreases-loop-i l = l.n - l.i

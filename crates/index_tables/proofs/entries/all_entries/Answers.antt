@@ -6,7 +6,7 @@ use Rattle.words.proofs.Tables.{never}
 use Rattle.index_tables.proofs.entries.all_entries.Goals as goal
 
 pub loop-i-init : goal.loop-i-init
-loop-i-init c = (omega arith, λ j h. absurd (omega arith))
+loop-i-init c = λ j h. absurd (omega arith)
 
 pub entry_ok-requires : goal.entry_ok-requires
 entry_ok-requires c = record { in_range = c.requires.in_range; s_in_bounds = c.requires.s_in_bounds; i_lt_entries = c.loop-i-test.true; tables = c.requires.tables; table_len = c.requires.table_len; tabled = c.requires.tabled }
@@ -17,7 +17,7 @@ returns-then-not-entry_ok c =
     (q c.loop-i.i c.loop-i-test.true)))
 
 pub loop-i-preserved : goal.loop-i-preserved
-loop-i-preserved c = (omega arith, below_more _ _ c.loop-i.invariant.1 (c.entry_ok.ensures.0 (c.if-not-entry_ok.false)))
+loop-i-preserved c = below_more _ _ c.loop-i.invariant (c.entry_ok.ensures.0 (c.if-not-entry_ok.false))
 
 pub returns : goal.returns
-returns c = (λ z i h. c.loop-i.invariant.1 i (omega arith), λ q. refl)
+returns c = (λ z i h. c.loop-i.invariant i (omega arith), λ q. refl)

@@ -1,3 +1,4 @@
+use borrow.Author.Tests.{ne_eqb}
 use Rattle.index_tables.proofs.Ratios.{Read, other-index, asks, answered}
 use Rattle.fast_compare.specs.Layout as labels
 use native.Mathlib.Omega.{arith}
@@ -62,9 +63,6 @@ pub get-requires-2 : goal.get-requires-2
 get-requires-2 c =
     omega (arith, row_here (goal.at.get-requires-2 c).After-get-row, c.labels_at.ensures, c.requires.s_in_bounds)
 
-pub returns-then-get : goal.returns-then-get
-returns-then-get c = refuse (other-index (all_read (goal.at.returns-then-get c).After-get-2) c.if-get.true)
-
 pub overflow_add-x : goal.overflow_add-x
 overflow_add-x c = omega (arith, c.requires.in_range.vars-to)
 
@@ -96,38 +94,29 @@ pub slice_bounds-is_ratio-start : goal.slice_bounds-is_ratio-start
 slice_bounds-is_ratio-start c =
     omega (arith, entry_here (goal.at.slice_bounds-is_ratio-start c).Start, c.entry_at-e.ensures, c.requires.s_in_bounds)
 
-pub slice_bounds-is_ratio-end : goal.slice_bounds-is_ratio-end
-slice_bounds-is_ratio-end c =
-    omega (arith, entry_here (goal.at.slice_bounds-is_ratio-end c).Start, c.entry_at-e.ensures, c.requires.s_in_bounds)
+pub slice_bounds-is_ratio-count-then-get : goal.slice_bounds-is_ratio-count-then-get
+slice_bounds-is_ratio-count-then-get c =
+    omega (arith, entry_here (goal.at.slice_bounds-is_ratio-count-then-get c).Start, c.entry_at-e.ensures, c.requires.s_in_bounds)
 
-pub slice_bounds-is_ratio-count-2 : goal.slice_bounds-is_ratio-count-2
-slice_bounds-is_ratio-count-2 c =
-    omega (arith, entry_here (goal.at.slice_bounds-is_ratio-count-2 c).Start, c.entry_at-e.ensures, c.requires.s_in_bounds)
+pub slice_bounds-is_ratio-start-then-get : goal.slice_bounds-is_ratio-start-then-get
+slice_bounds-is_ratio-start-then-get c =
+    omega (arith, entry_here (goal.at.slice_bounds-is_ratio-start-then-get c).Start, c.entry_at-e.ensures, c.requires.s_in_bounds)
 
-pub slice_bounds-is_ratio-start-2 : goal.slice_bounds-is_ratio-start-2
-slice_bounds-is_ratio-start-2 c =
-    omega (arith, entry_here (goal.at.slice_bounds-is_ratio-start-2 c).Start, c.entry_at-e.ensures, c.requires.s_in_bounds)
+pub slice_bounds-is_ratio-count-then-get-2 : goal.slice_bounds-is_ratio-count-then-get-2
+slice_bounds-is_ratio-count-then-get-2 c =
+    omega (arith, row_here (goal.at.slice_bounds-is_ratio-count-then-get-2 c).After-get-row, c.labels_at.ensures, c.requires.s_in_bounds)
 
-pub slice_bounds-is_ratio-end-2 : goal.slice_bounds-is_ratio-end-2
-slice_bounds-is_ratio-end-2 c =
-    omega (arith, entry_here (goal.at.slice_bounds-is_ratio-end-2 c).Start, c.entry_at-e.ensures, c.requires.s_in_bounds)
-
-pub slice_bounds-is_ratio-count-3 : goal.slice_bounds-is_ratio-count-3
-slice_bounds-is_ratio-count-3 c =
-    omega (arith, row_here (goal.at.slice_bounds-is_ratio-count-3 c).After-get-row, c.labels_at.ensures, c.requires.s_in_bounds)
-
-pub slice_bounds-is_ratio-start-3 : goal.slice_bounds-is_ratio-start-3
-slice_bounds-is_ratio-start-3 c =
-    omega (arith, row_here (goal.at.slice_bounds-is_ratio-start-3 c).After-get-row, c.labels_at.ensures, c.requires.s_in_bounds)
-
-pub slice_bounds-is_ratio-end-3 : goal.slice_bounds-is_ratio-end-3
-slice_bounds-is_ratio-end-3 c =
-    omega (arith, row_here (goal.at.slice_bounds-is_ratio-end-3 c).After-get-row, c.labels_at.ensures, c.requires.s_in_bounds)
+pub slice_bounds-is_ratio-start-then-get-2 : goal.slice_bounds-is_ratio-start-then-get-2
+slice_bounds-is_ratio-start-then-get-2 c =
+    omega (arith, row_here (goal.at.slice_bounds-is_ratio-start-then-get-2 c).After-get-row, c.labels_at.ensures, c.requires.s_in_bounds)
 
 pub is_ratio-requires : goal.is_ratio-requires
 is_ratio-requires c =
     let named = rw (c.get-row.ensures, c.entry_at-e.ensures) at (row_here (goal.at.is_ratio-requires c).After-get-row) in
     let k = asks (all_read (goal.at.is_ratio-requires c).After-get-2) (omega (arith, c.requires.s_in_bounds, named.row)) in record { starts = k.sign-starts; starts_2 = k.lm-starts; b_in_bounds = k.fits }
 
-pub returns : goal.returns
-returns c = answered (all_read (goal.at.returns c).After-get-2) c.if-get.false _ c.is_ratio.ensures
+pub returns-else-get : goal.returns-else-get
+returns-else-get c = rw (ne_eqb c.get.result c.get-2.result c.if-get.false) (refuse (other-index (all_read (goal.at.returns-else-get c).After-get-2) c.if-get.false))
+
+pub returns-then-get : goal.returns-then-get
+returns-then-get c = answered (all_read (goal.at.returns-then-get c).After-get-2) c.if-get.true _ c.is_ratio.ensures

@@ -1,71 +1,36 @@
 use native.Mathlib.Omega.{arith}
-use mathlib.Core.Path.{sym, ◌∙◌}
 use Rattle.words.specs.Words.{words}
 use Rattle.words.specs.Tables.{part}
-use Rattle.words.proofs.Answers.{refuse}
 use Rattle.words.proofs.Laws.{words_small}
-use Rattle.words.proofs.Tables.{never}
-use Rattle.index_image.proofs.Slots.{found-slot, masked-iff, range-words}
+use Rattle.index_image.proofs.Slots.{FoundSlot, found-slot, masked-iff, range-words}
+use Rattle.divmask_table.specs.Table.{Stands}
+use Rattle.index_tables.proofs.entries.masked_slot.Goals.{In-Some}
 use Rattle.index_tables.proofs.entries.masked_slot.Goals as goal
 
-pub judge-found-requires : goal.judge-found-requires
-judge-found-requires c = record { maxima = rw (range-words c.args.image.now c.args.map c.args.variables) c.requires.maxima; table_len = c.requires.table_len; tabled = rw (range-words c.args.image.now c.args.map c.args.variables) c.requires.tabled }
+-- what is found by the maxima lent, by those of the image
+stands : (c : In-Some) → Stands c.args.variables (part (words c.args.image.now) c.args.map c.args.variables) (words c.args.image.now) c.args.i c.in-Some.found
+stands c = rw (range-words c.args.image.now c.args.map c.args.variables) at c.in-Some.ensures
 
-pub returns-then-n-eq0 : goal.returns-then-n-eq0
-returns-then-n-eq0 c =
-    refuse
-    (λ s. s.some
-    (sym
-    (rw (range-words c.args.image.now c.args.map c.args.variables) at c.judge-found.ensures).words
-    ∙ c.if-n-eq0.true))
+found : (c : In-Some) → FoundSlot c.args.image.now c.args.variables c.args.i c.in-Some.found.words
+found c = found-slot c.args.image.now c.args.variables c.args.i c.in-Some.found.words c.requires.maxima.few (stands c).words (stands c).some
+
+pub judge-requires : goal.judge-requires
+judge-requires c = record { maxima = rw (range-words c.args.image.now c.args.map c.args.variables) c.requires.maxima; table_len = c.requires.table_len; tabled = rw (range-words c.args.image.now c.args.map c.args.variables) c.requires.tabled }
 
 pub overflow_add-i : goal.overflow_add-i
-overflow_add-i c =
-    let judge = c.judge-found in
-    omega (
-      arith,
-      (found-slot c.args.image.now c.args.variables c.args.i judge.result.words c.requires.maxima.few
-          (rw (range-words c.args.image.now c.args.map c.args.variables) at judge.ensures).words
-          c.if-n-eq0.false).inside,
-    )
+overflow_add-i c = omega (arith, (found (goal.at.overflow_add-i c).In-Some).inside)
 
 pub overflow_sub-variables : goal.overflow_sub-variables
-overflow_sub-variables c =
-    let judge = c.judge-found in
-    (found-slot c.args.image.now c.args.variables c.args.i judge.result.words c.requires.maxima.few
-    (rw (range-words c.args.image.now c.args.map c.args.variables) at judge.ensures).words
-    c.if-n-eq0.false).short
+overflow_sub-variables c = (found (goal.at.overflow_sub-variables c).In-Some).short
 
 pub is_blank-requires : goal.is_blank-requires
-is_blank-requires c =
-    let judge = c.judge-found in
-    omega (
-      arith,
-      (found-slot c.args.image.now c.args.variables c.args.i judge.result.words c.requires.maxima.few
-          (rw (range-words c.args.image.now c.args.map c.args.variables) at judge.ensures).words
-          c.if-n-eq0.false).short,
-    )
+is_blank-requires c = omega (arith, (found (goal.at.is_blank-requires c).In-Some).short)
 
-pub returns-then-not-is_blank : goal.returns-then-not-is_blank
-returns-then-not-is_blank c =
-    let judge = c.judge-found in
-    refuse
-    (λ s. never
-    (sym (c.if-not-is_blank.true)
-    ∙ c.is_blank.ensures.1
-    (rw (rw (range-words c.args.image.now c.args.map c.args.variables) at judge.ensures).words
-    s.rest)))
-
-pub returns : goal.returns
-returns c =
-    let judge = c.judge-found in
-    let if1 = c.if-n-eq0 in
-    let is-blank = c.is_blank in
-    let get = c.get in
-    let k = range-words c.args.image.now c.args.map c.args.variables in
+pub returns-then-is_blank : goal.returns-then-is_blank
+returns-then-is_blank c =
+    let k = stands (goal.at.returns-then-is_blank c).In-Some in
     let W = words c.args.image.now in
     let m = c.args.variables in
-    masked-iff W m (part W c.args.map m) c.args.i judge.result.words get.result judge.result.masks
-    (rw k at judge.ensures).words if1.false (is-blank.ensures.0 (c.if-not-is_blank.false))
-    (words_small c.args.image.now (λ j. (c.type_inv.image j).fits) _) get.ensures
-    ((rw k at judge.ensures).masks if1.false)
+    masked-iff W m (part W c.args.map m) c.args.i c.in-Some.found.words c.get.result c.in-Some.found.masks
+    k.words k.some (c.is_blank.ensures.0 c.if-is_blank.true)
+    (words_small c.args.image.now (λ j. (c.type_inv.image j).fits) _) c.get.ensures k.masks
