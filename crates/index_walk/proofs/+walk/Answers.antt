@@ -1,7 +1,7 @@
 use native.Mathlib.Omega.{arith}
 use Rattle.words.proofs.Answers.{failed, passed}
 use Rattle.index_walk.proofs.Walks.{Row, Tagged, Less, One, Two, no_row, too_many, no-leaf, a-leaf, no_key, no-first, one-is, no_less, no_second, no-branch, two_is, a-branch}
-use mathlib.Core.Path.{◌≡◌, refl, sym, ap, ◌∙◌}
+use mathlib.Core.Path.{◌≡◌, refl, sym, ◌∙◌}
 use lib.ListN.{length}
 use Rattle.words.specs.Words.{words}
 use Rattle.words.proofs.Tables.{never}
@@ -96,9 +96,6 @@ two c l o = two_is c.requires.ready l c.in_ok-t.was c.count_behind-ca.ensures o 
 pub returns-then-s-k : goal.returns-then-s-k
 returns-then-s-k t c = record { walked = no_row c.requires.ready c.if-s-k.true; hi_unchanged = refl }
 
-pub node_at-at-requires : goal.node_at-at-requires
-node_at-at-requires t c = record { in_range = c.requires.ready.range; k_bound = omega (arith, c.if-s-k.false, numbers (goal.at.node_at-at-requires t c).Start) }
-
 pub get-c-requires : goal.get-c-requires
 get-c-requires t c = omega (arith, room (goal.at.get-c-requires t c).After-node_at-at)
 
@@ -139,19 +136,6 @@ returns-then-not-key_ok t c =
 pub sides-b-requires : goal.sides-b-requires
 sides-b-requires t c = record { ready = c.requires.ready; uppers = c.requires.uppers; at_in_bounds = omega (arith, room (goal.at.sides-b-requires t c).After-node_at-at); key_in = keyed (goal.at.sides-b-requires t c).Else-not-key_ok }
 
-pub exchange-old-requires : goal.exchange-old-requires
-exchange-old-requires t c =
-    omega (arith, c.sides-b.ensures.known, c.requires.uppers.one_each)
-
-pub overflow_add-k : goal.overflow_add-k
-overflow_add-k t c =
-    omega (arith, c.if-s-k.false, numbers (goal.at.overflow_add-k t c).Start)
-
-pub overflow_sub-c : goal.overflow_sub-c
-overflow_sub-c t c =
-    let get = c.get-c in
-    omega (arith, (keyed (goal.at.overflow_sub-c t c).Else-not-key_ok).two, get.ensures)
-
 pub walk-less-requires : goal.walk-less-requires
 walk-less-requires t c =
     let get = c.get-c in
@@ -170,12 +154,6 @@ walk-less-requires t c =
       ),
     )
 
-pub put-requires : goal.put-requires
-put-requires t c =
-    let walk = c.walk-less in
-    let sides = c.sides-b in
-    omega (arith, sides.ensures.known, (bounds (goal.at.put-requires t c).After-exchange-old).one_each, ap length walk.ensures.hi_unchanged)
-
 pub returns-in_err-t : goal.returns-in_err-t
 returns-in_err-t t c = record {
   walked = rw c.from_residual.ensures (no-first c.requires.ready
@@ -193,22 +171,6 @@ pub returns-then-ca-eq0 : goal.returns-then-ca-eq0
 returns-then-ca-eq0 t c =
     let less-entries = no_less c.requires.ready
     (less (goal.at.returns-then-ca-eq0 t c).After-walk-less (tagged (goal.at.returns-then-ca-eq0 t c).After-get (row (goal.at.returns-then-ca-eq0 t c).After-get-c)) (keyed (goal.at.returns-then-ca-eq0 t c).Else-not-key_ok)) c.in_ok-t.was c.count_behind-ca.ensures c.if-ca-eq0.true in record { walked = less-entries; hi_unchanged = kept (goal.at.returns-then-ca-eq0 t c).After-slice_known-4-1 }
-
-pub count_at-all-requires : goal.count_at-all-requires
-count_at-all-requires t c = record { ready = c.requires.ready; k_lt_nodes = omega (arith, c.if-s-k.false) }
-
-pub overflow_add-k-2 : goal.overflow_add-k-2
-overflow_add-k-2 t c =
-    omega (arith, c.if-s-k.false, numbers (goal.at.overflow_add-k-2 t c).Start)
-
-pub overflow_add-k-3 : goal.overflow_add-k-3
-overflow_add-k-3 t c =
-    omega (
-      arith,
-      (one (goal.at.overflow_add-k-3 t c).In_ok-t
-          (less (goal.at.overflow_add-k-3 t c).After-walk-less (tagged (goal.at.overflow_add-k-3 t c).After-get (row (goal.at.overflow_add-k-3 t c).After-get-c)) (keyed (goal.at.overflow_add-k-3 t c).Else-not-key_ok))).inside,
-      numbers (goal.at.overflow_add-k-3 t c).Start,
-    )
 
 pub overflow_add-lo : goal.overflow_add-lo
 overflow_add-lo t c =
@@ -266,16 +228,6 @@ over_ok-requires t c =
     let both = two (goal.at.over_ok-requires t c).In_ok-w
     (less (goal.at.over_ok-requires t c).After-walk-less (tagged (goal.at.over_ok-requires t c).After-get (row (goal.at.over_ok-requires t c).After-get-c)) (keyed (goal.at.over_ok-requires t c).Else-not-key_ok))
     (other (goal.at.over_ok-requires t c).After-walk (kept (goal.at.over_ok-requires t c).After-slice_known-4-1) (count_same (goal.at.over_ok-requires t c).After-count_at-all (row (goal.at.over_ok-requires t c).After-get-c))) in record { ready = c.requires.ready; t_bound = omega (arith, both.inside, both.some); key_in = rw Node-at.ensures at (keyed (goal.at.over_ok-requires t c).Else-not-key_ok); slots = both.slots }
-
-pub overflow_add-result : goal.overflow_add-result
-overflow_add-result t c =
-    omega (
-      arith,
-      (two (goal.at.overflow_add-result t c).In_ok-w
-          (less (goal.at.overflow_add-result t c).After-walk-less (tagged (goal.at.overflow_add-result t c).After-get (row (goal.at.overflow_add-result t c).After-get-c)) (keyed (goal.at.overflow_add-result t c).Else-not-key_ok))
-          (other (goal.at.overflow_add-result t c).After-walk (kept (goal.at.overflow_add-result t c).After-slice_known-4-1) (count_same (goal.at.overflow_add-result t c).After-count_at-all (row (goal.at.overflow_add-result t c).After-get-c)))).inside,
-      numbers (goal.at.overflow_add-result t c).Start,
-    )
 
 pub overflow_add-result-then-over_ok : goal.overflow_add-result-then-over_ok
 overflow_add-result-then-over_ok t c =

@@ -36,9 +36,6 @@ returns-then-get-ne0 c =
     (rw c.node_at-at.ensures at c.get.ensures)
     c.if-get-ne0.true
 
-pub overflow_add-at : goal.overflow_add-at
-overflow_add-at c = omega (arith, room (goal.at.overflow_add-at c).After-node_at-at)
-
 pub get-c-requires : goal.get-c-requires
 get-c-requires c = omega (arith, room (goal.at.get-c-requires c).After-node_at-at)
 
