@@ -2,8 +2,9 @@
 use mathlib.Core.Path.{◌≡◌, refl, sym, ◌∙◌}
 use mathlib.Core.Bool.{Bool, true, false, not}
 use mathlib.Core.Option.{Option}
+use Rattle.std.specs.Prelude.{Some, None}
 use mathlib.Core.List.{List, ◌++◌}
-use Prim.Native.Nat.{ℕ, zero, suc, ◌+◌, ◌-◌, ◌*◌, ◌≤◌}
+use Prim.Native.Nat.{ℕ, suc, ◌+◌, ◌-◌, ◌*◌, ◌≤◌}
 use native.Mathlib.Omega.{arith}
 use lib.ListN.{length, get_or, length-append}
 use Rattle.words.specs.Words.{words}
@@ -25,15 +26,6 @@ use Rattle.kd_tree.specs.Searched.{search_from, visit_of, Ready, ReadyLeaf, Foun
 use Rattle.kd_split.specs.Split.{Standing, Stays, RootBranch, RootSplitAs, RootSplit}
 use Rattle.kd_image.proofs.Standing.{based, node-add, node-next, row_inside, count_at}
 use Rattle.kd_image.proofs.Becoming.{became-refl, became-trans, tree-became, parts, some_one, some-two, tree-less, tree-other, other-became, less-became}
-
--- what a test `!b` decides
-pub taken : (b : Bool) → not b ≡ true → b ≡ false
-taken true e = sym e
-taken false e = refl
-
-pub passed : (b : Bool) → not b ≡ false → b ≡ true
-passed true e = refl
-passed false e = sym e
 
 module _ (st : State) (val : Valid st) (r : Query) where
   splits : Splits (keys st) (split st)
@@ -57,16 +49,6 @@ visit-leaf : (st : State) (r : Query) (es : List ℕ) (a : Option ℕ) (s : Step
 unfolding visit
 visit-leaf st r es a s e = rw e
 
-stays : (st : State) (bs bs' : List ℕ) (s : Shape) (dim k lo rows : ℕ) (t : Tree) (n : ℕ) → n ≡ 0 → RootSplitAs st bs bs' s dim k lo rows t n → Stays st bs bs' dim t
-unfolding RootSplitAs
-stays st bs bs' s dim k lo rows t zero e o = o
-stays st bs bs' s dim k lo rows t (suc n) e o = absurd (omega arith)
-
-opens : (st : State) (bs bs' : List ℕ) (s : Shape) (dim k lo rows : ℕ) (t : Tree) (n : ℕ) → (n ≡ 0 → ⊥) → RootSplitAs st bs bs' s dim k lo rows t n → RootBranch st bs bs' s dim k lo rows t n
-unfolding RootSplitAs
-opens st bs bs' s dim k lo rows t zero e o = absurd (e refl)
-opens st bs bs' s dim k lo rows t (suc n) e o = o
-
 as-leaf : (st : State) (bs bs₁ : List ℕ) (s : Shape) (k lo rows : ℕ) (t : Tree) (es : List ℕ) → bs₁ ≡ bs → t ≡ leaf es → HasTree st (words bs) s k lo rows t
     → HasTree st (words bs₁) s k lo rows (leaf es)
 as-leaf st bs bs₁ s k lo rows t es e i h = rw (e, ← i) h
@@ -75,27 +57,28 @@ same-leaf : (st : State) (bs bs₁ : List ℕ) (s : Shape) (k lo rows : ℕ) (t 
     → Became st bs bs₁ s k lo rows rows t (leaf es)
 same-leaf st bs bs₁ s k lo rows t es e i h = rw (e, ← i) h
 
-module _ (bs bs₁ ms : List ℕ) (s : Shape) (Q : List ℕ) (dim k lo rows best n : ℕ) (o : RootSplit bs bs₁ s dim k lo rows n) where
-  pub scan-ready : n ≡ 0 → Ready bs ms s Q k lo rows best → ReadyLeaf bs₁ ms s Q k lo rows best
-  unfolding RootSplit
-  scan-ready e w =
-      let z = stays w.state bs bs₁ s dim k lo rows w.tree n e (o w.state w.tree w.has) in
+module _ (bs bs₁ ms : List ℕ) (s : Shape) (Q : List ℕ) (dim k lo rows best : ℕ) (o : RootSplit bs bs₁ s dim k lo rows None) where
+  pub scan-ready : Ready bs ms s Q k lo rows best → ReadyLeaf bs₁ ms s Q k lo rows best
+  unfolding RootSplit RootSplitAs
+  scan-ready w =
+      let z : Stays w.state bs bs₁ dim w.tree = o w.state w.tree w.has in
       record { state = w.state; request = w.request; es = z.es; asks = w.asks; has = as-leaf w.state bs bs₁ s k lo rows w.tree z.es z.bytes z.is w.has; small = w.small }
 
-  pub scan-done : n ≡ 0 → (best' : ℕ) (on : Bool) → Scanned bs₁ ms s Q k lo rows best best' on → Searched bs bs₁ ms s Q dim k lo rows best best' on rows
-  unfolding RootSplit Scanned Searched
-  scan-done e best' on c st r t a h =
-      let z = stays st bs bs₁ s dim k lo rows t n e (o st t h) in
+  pub scan-done : (best' : ℕ) (on : Bool) → Scanned bs₁ ms s Q k lo rows best best' on → Searched bs bs₁ ms s Q dim k lo rows best best' on rows
+  unfolding RootSplit RootSplitAs Scanned Searched
+  scan-done best' on c st r t a h =
+      let z : Stays st bs bs₁ dim t = o st t h in
       let here : HasTree st (words bs₁) s k lo rows (leaf z.es) = as-leaf st bs bs₁ s k lo rows t z.es z.bytes z.is h in
       let d = c st r z.es a here in
       let v : search_from st r dim t (option_of best) ≡ record { tree = leaf z.es; acc = option_of best'; on = on } =
       step st h.holds.valid r dim t (option_of best) h.ordered ∙ rw z.split_root-is (visit-leaf st r z.es (option_of best) (record { acc = option_of best'; on = on }) d.is) in
       rw v (record { became = same-leaf st bs bs₁ s k lo rows t z.es z.bytes z.is (became-refl st s bs k lo rows t h); best-is = refl; on-is = refl; small = d.small })
 
-  pub branch-ready : (n ≡ 0 → ⊥) → Ready bs ms s Q k lo rows best → ReadyBranch bs₁ ms s Q k lo n best
-  unfolding RootSplit
-  branch-ready e w =
-      let z = opens w.state bs bs₁ s dim k lo rows w.tree n e (o w.state w.tree w.has) in
+module _ (bs bs₁ ms : List ℕ) (s : Shape) (Q : List ℕ) (dim k lo rows best n : ℕ) (o : RootSplit bs bs₁ s dim k lo rows (Some n)) where
+  pub branch-ready : Ready bs ms s Q k lo rows best → ReadyBranch bs₁ ms s Q k lo n best
+  unfolding RootSplit RootSplitAs
+  branch-ready w =
+      let z : RootBranch w.state bs bs₁ s dim k lo rows w.tree n = o w.state w.tree w.has in
       let q = rw z.split_root-is at (split_root-kept w.state w.has.holds.valid w.request dim w.tree w.has.ordered) in
       record {
         state = w.state;
@@ -109,10 +92,10 @@ module _ (bs bs₁ ms : List ℕ) (s : Shape) (Q : List ℕ) (dim k lo rows best
         small = w.small;
       }
 
-  pub branch-done : (n ≡ 0 → ⊥) → (bs₂ : List ℕ) (best' : ℕ) (on : Bool) (rows' : ℕ) → Branched bs₁ bs₂ ms s Q k lo n best best' on rows' → Searched bs bs₂ ms s Q dim k lo rows best best' on rows'
-  unfolding RootSplit Branched Searched
-  branch-done e bs₂ best' on rows' c st r t a h =
-      let z = opens st bs bs₁ s dim k lo rows t n e (o st t h) in
+  pub branch-done : (bs₂ : List ℕ) (best' : ℕ) (on : Bool) (rows' : ℕ) → Branched bs₁ bs₂ ms s Q k lo n best best' on rows' → Searched bs bs₂ ms s Q dim k lo rows best best' on rows'
+  unfolding RootSplit RootSplitAs Branched Searched
+  branch-done bs₂ best' on rows' c st r t a h =
+      let z : RootBranch st bs bs₁ s dim k lo rows t n = o st t h in
       let u = branch z.d z.key z.less z.other in
       let q = rw z.split_root-is at (split_root-kept st h.holds.valid r dim t h.ordered) in
       let f = c st r z.d z.key z.less z.other a (tree-became st s bs bs₁ k lo rows n t u h z.became q) in
@@ -131,11 +114,11 @@ count-read st W s k lo rows t h = count_at st W s (based h.holds) k lo rows t h.
 pub standing : (bs ms : List ℕ) (s : Shape) (Q : List ℕ) (k lo rows best : ℕ) → Ready bs ms s Q k lo rows best → Standing bs s k lo rows
 standing bs ms s Q k lo rows best w = record { state = w.state; tree = w.tree; has = w.has }
 
-pub branch-falls : (bs bs₁ ms : List ℕ) (s : Shape) (Q : List ℕ) (dim k lo rows best n : ℕ) (o : RootSplit bs bs₁ s dim k lo rows n) → (n ≡ 0 → ⊥) → Ready bs ms s Q k lo rows best
+pub branch-falls : (bs bs₁ ms : List ℕ) (s : Shape) (Q : List ℕ) (dim k lo rows best n : ℕ) (o : RootSplit bs bs₁ s dim k lo rows (Some n)) → Ready bs ms s Q k lo rows best
     → get_or (words bs₁) (at.node_at s k + 2) 0 ≡ get_or (words bs) (at.node_at s k + 2) 0
-unfolding RootSplit
-branch-falls bs bs₁ ms s Q dim k lo rows best n o e w =
-    let z = opens w.state bs bs₁ s dim k lo rows w.tree n e (o w.state w.tree w.has) in
+unfolding RootSplit RootSplitAs
+branch-falls bs bs₁ ms s Q dim k lo rows best n o w =
+    let z : RootBranch w.state bs bs₁ s dim k lo rows w.tree n = o w.state w.tree w.has in
     let q = rw z.split_root-is at (split_root-kept w.state w.has.holds.valid w.request dim w.tree w.has.ordered) in
     let u = branch z.d z.key z.less z.other in
     count-read w.state (words bs₁) s k lo n u (tree-became w.state s bs bs₁ k lo rows n w.tree u w.has z.became q) ∙ z.became.same

@@ -38,11 +38,10 @@ pub fn search(
     requires acc_value { (on_of acc ≡ true) × (dim ≤ 65) }
     ensures { Searched image.old image.new m.now (shape_in (words q.now)) (words q.now) dim k lo (rows_of acc) (best_of acc) (best_of result) (on_of result) (rows_of result) }
 {
-    let n = kd_node::open_node(image, q, dim, k, lo, step::rows(acc));
-    if n == 0 {
-        return scan(image, q, m, k, lo, acc);
+    match kd_node::open_node(image, q, dim, k, lo, step::rows(acc)) {
+        Some(n) => branch_search(image, q, m, k, lo, step::with_rows(acc, n)),
+        None => scan(image, q, m, k, lo, acc),
     }
-    branch_search(image, q, m, k, lo, step::with_rows(acc, n))
 }
 
 // Searches the sides of the branch at row k, the less side first.
@@ -56,10 +55,7 @@ pub fn branch_search(image: &mut [u8], q: &[u8], m: &[u8], k: usize, lo: usize, 
     if b.less {
         let a = search(image, q, m, b.next, k + 1, lo, acc);
         let o = kd_node::grow(image, q, k, step::rows(a) - step::rows(acc));
-        if !step::goes_on(a) {
-            return a;
-        }
-        if !b.other {
+        if !step::goes_on(a) || !b.other {
             return a;
         }
         return search(image, q, m, b.next, o.row, lo + o.less, a);
@@ -78,11 +74,10 @@ fn search_root(image: &mut [u8], q: &[u8], m: &[u8], acc: u64) -> u64
     requires acc_value { on_of acc ≡ true }
     ensures { Searched image.old image.new m.now (shape_in (words q.now)) (words q.now) 0 0 0 (rows_of acc) (best_of acc) (best_of result) (on_of result) (rows_of result) }
 {
-    let n = kd_split::split_node(image, query::shape(q), 0, 0, 0, step::rows(acc));
-    if n == 0 {
-        return scan(image, q, m, 0, 0, acc);
+    match kd_split::split_node(image, query::shape(q), 0, 0, 0, step::rows(acc)) {
+        Some(n) => search(image, q, m, 0, 0, 0, step::with_rows(acc, n)),
+        None => scan(image, q, m, 0, 0, acc),
     }
-    search(image, q, m, 0, 0, 0, step::with_rows(acc, n))
 }
 
 // Searches the whole image: the place of the entry that is found.

@@ -84,11 +84,6 @@ module _ (bs qs : List ℕ) (s : Shape) (L : Laid (words qs) s) (R : walk.Ready 
         is = λ r z. z ∙ ap (λ (j : ℕ). get_or (words bs) j 0) w ∙ ap (λ (x : ℕ). get_or (words bs) (at.label_at s x) 0) i;
       }
 
-pub shape_is : (Q : List ℕ) (k v c e n : ℕ) → k ≡ get_or Q 87 0 → v ≡ get_or Q 88 0 → c ≡ get_or Q 89 0 → e ≡ get_or Q 90 0 → n ≡ get_or Q 91 0
-    → ◌≡◌ {A = Shape} (record { kind = k; variables = v; capacity = c; entries = e; nodes = n }) (shape_in Q)
-unfolding shape_in
-shape_is Q k v c e n ek ev ec ee en = rw (ek, ev, ec, ee, en) refl
-
 pub nodes-is : (Q : List ℕ) → get_or Q 91 0 ≡ (shape_in Q).nodes
 unfolding shape_in
 nodes-is Q = refl

@@ -9,27 +9,6 @@ num-requires c = omega (arith, query-long _ _ c.requires.laid)
 pub num-requires-2 : goal.num-requires-2
 num-requires-2 c = omega (arith, query-long _ _ c.requires.laid)
 
-pub overflow_mul-e : goal.overflow_mul-e
-overflow_mul-e c =
-    rw c.num-2.ensures.0 (omega (
-      arith,
-      (row_read c.args.image.now c.args.q.now _ c.requires.laid c.requires.ready c.args.e
-          c.requires.q_value.0 c.requires.q_value.1).is,
-      (row_read c.args.image.now c.args.q.now _ c.requires.laid c.requires.ready c.args.e
-          c.requires.q_value.0 c.requires.q_value.1).small,
-    ))
-
-pub overflow_add-num : goal.overflow_add-num
-overflow_add-num c =
-    rw c.num-2.ensures.0 (omega (
-      arith,
-      (row_read c.args.image.now c.args.q.now _ c.requires.laid c.requires.ready c.args.e
-          c.requires.q_value.0 c.requires.q_value.1).is,
-      (row_read c.args.image.now c.args.q.now _ c.requires.laid c.requires.ready c.args.e
-          c.requires.q_value.0 c.requires.q_value.1).small,
-      c.num.ensures.0,
-    ))
-
 pub num-row-requires : goal.num-row-requires
 num-row-requires c =
     rw c.num-2.ensures.0 (omega (
@@ -46,29 +25,6 @@ num-requires-3 c = omega (arith, query-long _ _ c.requires.laid)
 
 pub num-requires-4 : goal.num-requires-4
 num-requires-4 c = omega (arith, query-long _ _ c.requires.laid)
-
-pub overflow_mul-row : goal.overflow_mul-row
-overflow_mul-row c =
-    let num = c.num in
-    let num2 = c.num-2 in
-    let num3 = c.num-row in
-    rw c.num-4.ensures.0 (omega (
-      arith,
-      (label-read c.args.image.now c.args.q.now _ c.requires.laid c.requires.ready c.args.e
-          c.requires.q_value.0 c.requires.q_value.1 num3.result (num3.ensures.0 ∙ rw (num.ensures.0, num2.ensures.0) refl)).small,
-    ))
-
-pub overflow_add-num-2 : goal.overflow_add-num-2
-overflow_add-num-2 c =
-    let num = c.num in
-    let num2 = c.num-2 in
-    let num3 = c.num-row in
-    rw c.num-4.ensures.0 (omega (
-      arith,
-      (label-read c.args.image.now c.args.q.now _ c.requires.laid c.requires.ready c.args.e
-          c.requires.q_value.0 c.requires.q_value.1 num3.result (num3.ensures.0 ∙ rw (num.ensures.0, num2.ensures.0) refl)).small,
-      c.num-3.ensures.0,
-    ))
 
 pub get-requires : goal.get-requires
 get-requires c =
