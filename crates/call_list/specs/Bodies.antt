@@ -6,18 +6,24 @@ use Rattle.words.specs.Words.{words}
 use Rattle.refusals.specs.declared.Refusal.{Refusal}
 use Rattle.refusals.specs.Numbers.{number}
 use Rattle.monomial.specs.Monomial.{Canonical}
-use Rattle.index_theory.specs.Calls.{Call, listed, body_of, Request, Asked, refused, asks, with_index, with_part, at_end}
+use Rattle.call_list.specs.declared.Call.{Call}
+use Rattle.index_theory.specs.Calls as theory
+use Rattle.index_theory.specs.Calls.{listed, body_of, Request, Asked, refused, asks, with_index, with_part, at_end}
 
 -- a whole number of words that are calls
 pub record IsList (bs : List ℕ) : Type 0 where
   pub whole : length bs % 4 ≡ 0
-  pub calls : List Call
+  pub calls : List theory.Call
   pub are : listed (words bs) ≡ some calls
 
 -- the bytes b are the front of the list bs that has the words before its next call
 pub record Body (bs b : List ℕ) : Type 0 where
   pub front : b ≡ take (4 * length (body_of (words bs))) bs
   pub words-are : words b ≡ body_of (words bs)
+
+-- a call as it is read, and as the theory has it
+abbrev pub call_of : Call → theory.Call
+call_of c = record { number = c.number; body = words c.body.now }
 
 -- ---- the parts that are read of a body b
 -- what is asked by what a reader gave: whatever f makes of the parts, or its refusal

@@ -9,6 +9,13 @@ ghost use Rattle.call_list.specs.Bodies.{IsList, Body, Leads, Begins, Single, Pa
 
 use refusals::Refusal;
 
+// A call: its number, and its body.
+#[derive(Clone, Copy)]
+pub struct Call<'a> {
+    pub number: u32,
+    pub body: &'a [u8],
+}
+
 // Whether w begins a call.
 fn is_call(w: u32) -> bool
     ensures { result ≡ eqb (kind w) 6 }

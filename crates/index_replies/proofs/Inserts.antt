@@ -5,6 +5,9 @@ use Prim.Native.Nat.{ℕ, ◌≤◌, ◌<◌}
 use native.Mathlib.Omega.{arith}
 use lib.ListN.{length}
 use borrow.Author.Tests.{lt-ltb, le-ltb}
+use Rattle.std.specs.Prelude.{Ok, Err}
+use Rattle.refusals.specs.declared.Refusal.TheVariants.{Full}
+use Rattle.refusals.specs.Numbers.{number}
 use Rattle.words.specs.Kinds.{answer_word, refusal_word}
 use Rattle.words.specs.Words.{words, paste_w}
 use Rattle.words.proofs.Laws.{Bytes}
@@ -34,8 +37,8 @@ with-room bs s R h = record {
 }
 
 -- ---- question 8
-full : (st : State) (e : Entry) → st.capacity ≤ length st.entries → serve st (insertion e) ≡ record { answer = refusal_word 8; state = st }
-unfolding serve
+full : (st : State) (e : Entry) → st.capacity ≤ length st.entries → serve st (insertion e) ≡ record { answer = refusal_word (number Full); state = st }
+unfolding serve number
 full st e h = rw (le-ltb (length st.entries) st.capacity h)
 
 taken : (st : State) (e : Entry) → length st.entries < st.capacity → serve st (insertion e) ≡ record { answer = answer_word (length st.entries); state = inserted st e }
@@ -46,22 +49,13 @@ taken st e h = rw (lt-ltb (length st.entries) st.capacity h)
 pub itself : (bs : List ℕ) (st : State) → Bytes bs → Is st bs → paste_w bs 0 (encode st) ≡ bs
 itself bs st b I = ap (paste_w bs 0) (sym I.is) ∙ paste-own bs _ b I.room
 
-pub refused : (bs : List ℕ) (s : Shape) (e : Entry) (w : ℕ) → Root bs s → Bytes bs → s.capacity ≤ s.entries → w ≡ refusal_word 8 → Replied (λ st. serve st (insertion e)) bs bs w
-refused bs s e w R b h ew = record {
-  answer = λ st I. let z : st.capacity ≤ length st.entries = subst (λ (x : Shape). x.capacity ≤ x.entries) (shaped bs s R st I) h in ew ∙ ap (λ d. d.answer) (sym (full st e z));
+pub refused : (bs : List ℕ) (s : Shape) (e : Entry) → Root bs s → Bytes bs → s.capacity ≤ s.entries → Replied (λ st. serve st (insertion e)) bs bs (Err Full)
+refused bs s e R b h = record {
+  answer = λ st I. let z : st.capacity ≤ length st.entries = subst (λ (x : Shape). x.capacity ≤ x.entries) (shaped bs s R st I) h in ap (λ d. d.answer) (sym (full st e z));
+  small = tt;
   bytes = λ st I.
       let z : st.capacity ≤ length st.entries = subst (λ (x : Shape). x.capacity ≤ x.entries) (shaped bs s R st I) h in
       sym (ap (λ d. paste_w bs 0 (encode d.state)) (full st e z) ∙ itself bs st b I);
-}
-
-pub accepted : (bs bs' : List ℕ) (s : Shape) (e : Entry) (n w : ℕ) → Root bs s → s.entries < s.capacity → Inserted e n bs bs' → w ≡ answer_word n → Replied (λ st. serve st (insertion e)) bs bs' w
-accepted bs bs' s e n w R h d ew = record {
-  answer = λ st I.
-      let z : length st.entries < st.capacity = subst (λ (x : Shape). x.entries < x.capacity) (shaped bs s R st I) h in
-      ew ∙ ap answer_word (d.number st I) ∙ ap (λ d. d.answer) (sym (taken st e z));
-  bytes = λ st I.
-      let z : length st.entries < st.capacity = subst (λ (x : Shape). x.entries < x.capacity) (shaped bs s R st I) h in
-      d.bytes st I ∙ ap (λ d. paste_w bs 0 (encode d.state)) (sym (taken st e z));
 }
 
 -- the number of an entry is small
@@ -69,3 +63,14 @@ pub number_small : (bs : List ℕ) (s : Shape) (e : Entry) (n : ℕ) (bs' : List
 number_small bs s e n bs' R h d =
     let few : length R.state.entries < R.state.capacity = subst (λ (x : Shape). x.entries < x.capacity) R.shape h in
     omega (arith, d.number R.state R.is, R.is.valid.cap-to)
+
+pub accepted : (bs bs' : List ℕ) (s : Shape) (e : Entry) (n : ℕ) → Root bs s → s.entries < s.capacity → Inserted e n bs bs' → Replied (λ st. serve st (insertion e)) bs bs' (Ok n)
+accepted bs bs' s e n R h d = record {
+  answer = λ st I.
+      let z : length st.entries < st.capacity = subst (λ (x : Shape). x.entries < x.capacity) (shaped bs s R st I) h in
+      ap answer_word (d.number st I) ∙ ap (λ d. d.answer) (sym (taken st e z));
+  small = number_small bs s e n bs' R h d;
+  bytes = λ st I.
+      let z : length st.entries < st.capacity = subst (λ (x : Shape). x.entries < x.capacity) (shaped bs s R st I) h in
+      d.bytes st I ∙ ap (λ d. paste_w bs 0 (encode d.state)) (sym (taken st e z));
+}

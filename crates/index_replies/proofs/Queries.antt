@@ -2,11 +2,15 @@
 use mathlib.Core.Path.{◌≡◌, refl, sym, ap, ◌∙◌, subst}
 use mathlib.Core.Bool.{Bool, true, false, cond}
 use mathlib.Core.List.{List}
-use Prim.Native.Nat.{ℕ, zero, suc, ◌+◌, ◌-◌, ◌≤◌, ◌<◌}
+use mathlib.Core.Option.{none, some}
+use mir.Val.{bool_byte}
+use Prim.Native.Nat.{ℕ, ◌+◌, ◌≤◌, ◌<◌}
 use native.Mathlib.Omega.{arith}
 use lib.Dec.{ltb}
 use lib.ListN.{length, get_or}
 use borrow.Author.Tests.{lt-ltb, le-ltb}
+use Rattle.std.specs.Prelude.{Option, Some, None, Ok, IfSome, MatchOption, is_some}
+use Rattle.std.proofs.lemmas.Option.{IfSome_then}
 use Rattle.words.specs.Kinds.{answer_word}
 use Rattle.words.specs.Words.{words}
 use Rattle.fast_compare.specs.Map.{Value}
@@ -19,9 +23,9 @@ use Rattle.index_image.specs.Head.{HeadOk}
 use Rattle.index_image.specs.Walk.{Ready, label}
 use Rattle.index_image.specs.declared.Shape.{Shape}
 use Rattle.index_image.proofs.Images as image
-use Rattle.query_words.specs.Asked.{shape_in, floor_in, option_of, lowered, label_at, Laid}
+use Rattle.query_words.specs.Asked.{shape_in, floor_in, lowered, label_at, Laid}
 use Rattle.kd_query.specs.Posed.{PosedFor}
-use Rattle.query_words.specs.Rooted.{Rooted, RootReady, Answer, Answered}
+use Rattle.query_words.specs.Rooted.{theory_option, Rooted, RootReady, Answer, Answered}
 use Rattle.listing.specs.Listed.{Root}
 use Rattle.listing.proofs.Wholes as whole
 use Rattle.index_replies.specs.Replied.{Replied}
@@ -51,30 +55,20 @@ module _ (bs : List ℕ) (S : Sound bs) where
       record { state = S.state; is = S.is; shape = rw (ek ∙ h.kind, em ∙ h.variables, ec ∙ h.capacity, en ∙ h.entries, er ∙ h.nodes) }
 
 -- ---- answer words
-pub yes-none : (best : ℕ) → best ≡ 0 → yes (option_of best) ≡ answer_word 0
-unfolding yes option_of
-yes-none zero e = refl
-yes-none (suc b) e = absurd (omega arith)
+pub yes-is : (place : Option ℕ) (t : Bool) (n : ℕ) → t ≡ is_some place → n ≡ bool_byte t → answer_word n ≡ yes (theory_option place)
+unfolding yes
+yes-is None t n et en = rw (en, et)
+yes-is (Some e) t n et en = rw (en, et)
 
-pub yes-some : (best : ℕ) → (best ≡ 0 → ⊥) → yes (option_of best) ≡ answer_word 1
-unfolding yes option_of
-yes-some zero e = absurd (e refl)
-yes-some (suc b) e = refl
+pub bit-small : (t : Bool) (n : ℕ) → n ≡ bool_byte t → n < 268435456
+bit-small true n e = omega (arith, e)
+bit-small false n e = omega (arith, e)
 
-pub found-is : (st : State) → Valid st → (best : ℕ) → best ≤ length st.entries → found st.entries (option_of best) ≡ answer_word best
-unfolding found option_of
-found-is st v zero h = refl
-found-is st v (suc b) h = ap (λ n. answer_word (n + 1)) (v.numbered b (omega arith)) ∙ ap answer_word (omega arith)
-
-pub reducer-none : (es : List Entry) (v : Value) (best : ℕ) → best ≡ 0 → found_reducer es v (option_of best) ≡ answer_word 0
-unfolding found_reducer option_of
-reducer-none es v zero e = refl
-reducer-none es v (suc b) e = absurd (omega arith)
-
-reducer-is : (st : State) → Valid st → (v : Value) (b : ℕ) → b < length st.entries → (g : Bool) → is_regular st.entries v b ≡ g
-    → found_reducer st.entries v (option_of (suc b)) ≡ answer_word (b + 1 + cond g 0 134217728)
-unfolding found_reducer option_of
-reducer-is st val v b h g e = rw (e, val.numbered b h)
+found-is : (st : State) → Valid st → (place : Option ℕ) → IfSome place (λ e. e < length st.entries) → (n : ℕ) → MatchOption place (n ≡ 0) (λ e. n ≡ e + 1)
+    → answer_word n ≡ found st.entries (theory_option place)
+unfolding found
+found-is st v None h n q = ap answer_word q
+found-is st v (Some e) h n q = ap answer_word q ∙ ap (λ k. answer_word (k + 1)) (sym (v.numbered e h))
 
 module _ (s : Shape) (r : Query) (bs ms Q : List ℕ) (R : Root bs s) (p : PosedFor bs ms r Q) where
   rooted : (st : State) → Is st bs → Rooted st r bs ms Q
@@ -84,27 +78,48 @@ module _ (s : Shape) (r : Query) (bs ms Q : List ℕ) (R : Root bs s) (p : Posed
   pub ready : RootReady bs ms Q
   ready = record { state = R.state; request = r; root = rooted R.state R.is }
 
-  module _ (bs' : List ℕ) (best : ℕ) (a : Answered bs bs' ms Q best) where
-    pub answer : (st : State) → Is st bs → Answer st r bs bs' best
+  module _ (bs' : List ℕ) (place : Option ℕ) (a : Answered bs bs' ms Q place) where
+    pub answer : (st : State) → Is st bs → Answer st r bs bs' place
     unfolding Answered
     answer st I = a st r (rooted st I)
 
-    pub small : best ≤ 4096
-    small = omega (arith, (answer R.state R.is).small, R.is.valid.few, R.is.valid.cap-to)
+    pub small : IfSome place (λ e. e < 4096)
+    small = IfSome_then place (answer R.state R.is).small (λ e h. omega (arith, R.is.valid.few, R.is.valid.cap-to))
 
-    pub replied : (w : ℕ) → ((st : State) → Is st bs → w ≡ told st.entries r (option_of best)) → Replied (λ st. serve st (query r)) bs bs' w
+    pub replied : (n : ℕ) → n < 268435456 → ((st : State) → Is st bs → answer_word n ≡ told st.entries r (theory_option place)) → Replied (λ st. serve st (query r)) bs bs' (Ok n)
     unfolding serve
-    replied w t = record {
+    replied n h t = record {
       answer = λ st I. t st I ∙ ap (told st.entries r) (answer st I).found;
+      small = h;
       bytes = λ st I. (answer st I).bytes;
     }
 
-    -- a base divisor's answer
-    pub found_as : (w : ℕ) → w ≡ answer_word best → (st : State) → Is st bs → w ≡ found st.entries (option_of best)
-    found_as w e st I = e ∙ sym (found-is st I.valid best (answer st I).small)
+    -- the number of a base divisor + 1, or 0
+    pub found_small : (n : ℕ) → MatchOption place (n ≡ 0) (λ e. n ≡ e + 1) → n < 268435456
+    found_small n q = go place small q
+      where
+        go : (place : Option ℕ) → IfSome place (λ e. e < 4096) → MatchOption place (n ≡ 0) (λ e. n ≡ e + 1) → n < 268435456
+        go None h q = omega (arith, q)
+        go (Some e) h q = omega (arith, q)
 
--- ---- a reducer's label is read behind the search, which changes no label
-module _ (s : Shape) (v : Value) (q bs ms Q : List ℕ) (R : Root bs s) (p : PosedFor bs ms (reducing v q) Q) (bs' : List ℕ) (best : ℕ) (a : Answered bs bs' ms Q best) where
+    pub found_as : (n : ℕ) → MatchOption place (n ≡ 0) (λ e. n ≡ e + 1) → (st : State) → Is st bs → answer_word n ≡ found st.entries (theory_option place)
+    found_as n q st I = found-is st I.valid place (answer st I).small n q
+
+-- ---- a reducer
+pub reducer-none : (es : List Entry) (v : Value) → answer_word 0 ≡ found_reducer es v none
+unfolding found_reducer
+reducer-none es v = refl
+
+reducer-is : (st : State) → Valid st → (v : Value) (e : ℕ) → e < length st.entries → (g : Bool) → is_regular st.entries v e ≡ g
+    → answer_word (e + 1 + cond g 0 134217728) ≡ found_reducer st.entries v (some e)
+unfolding found_reducer
+reducer-is st val v e h g q = rw (q, val.numbered e h)
+
+-- its label is read behind the search, which changes no label
+module _ (s : Shape) (v : Value) (q bs ms Q : List ℕ) (R : Root bs s) (p : PosedFor bs ms (reducing v q) Q) (bs' : List ℕ) (e : ℕ) (a : Answered bs bs' ms Q (Some e)) where
+  inside-of : (st : State) → Is st bs → e < length st.entries
+  inside-of st I = (answer s (reducing v q) bs ms Q R p bs' (Some e) a st I).small
+
   module _ (st : State) (I : Is st bs) where
     posed : Rooted st (reducing v q) bs ms Q
     posed = rooted s (reducing v q) bs ms Q R p st I
@@ -113,31 +128,22 @@ module _ (s : Shape) (v : Value) (q bs ms Q : List ℕ) (R : Root bs s) (p : Pos
     home = posed.asks.home
 
     after : Is (with_tree st (find st (reducing v q)).tree) bs'
-    after = (answer s (reducing v q) bs ms Q R p bs' best a st I).after
+    after = (answer s (reducing v q) bs ms Q R p bs' (Some e) a st I).after
 
     label-ready-of : Ready (words bs') (shape_in Q)
     label-ready-of =
         let z = whole.ready bs' (with_tree st (find st (reducing v q)).tree) after in
         rw posed.shape (record { range = image.range bs st I; room = z.room; map = z.map; lms = z.lms; places = z.places; rows = z.rows })
 
-    regular-is : (b : ℕ) → b < length st.entries → is_regular st.entries v b ≡ ltb (label (words bs') (shape_in Q) b) (floor_in Q)
+    regular-is : is_regular st.entries v e ≡ ltb (label (words bs') (shape_in Q) e) (floor_in Q)
     unfolding label lowered
-    regular-is b hb =
-        let l : label (words bs') (shape_in Q) b ≡ label_at st b = rw posed.shape (image.label_is bs' (with_tree st (find st (reducing v q)).tree) after home b hb) in
-        (posed.asks.range home).floor-is refl b hb ∙ ap (λ l. ltb l (floor_in Q)) (sym l)
+    regular-is =
+        let he = inside-of st I in
+        let l : label (words bs') (shape_in Q) e ≡ label_at st e = rw posed.shape (image.label_is bs' (with_tree st (find st (reducing v q)).tree) after home e he) in
+        (posed.asks.range home).floor-is refl e he ∙ ap (λ l. ltb l (floor_in Q)) (sym l)
 
-    told-as : (g : Bool) (l w : ℕ) → (best ≡ 0 → ⊥) → l ≡ label (words bs') (shape_in Q) (best - 1) → ltb l (floor_in Q) ≡ g → w ≡ answer_word (best + cond g 0 134217728)
-        → w ≡ found_reducer st.entries v (option_of best)
-    told-as g l w z el eg ew = go best z refl el ew
-      where
-        go : (n : ℕ) → (n ≡ 0 → ⊥) → n ≡ best → l ≡ label (words bs') (shape_in Q) (n - 1) → w ≡ answer_word (n + cond g 0 134217728) → w ≡ found_reducer st.entries v (option_of n)
-        go zero z e el ew = absurd (z refl)
-        go (suc b) z e el ew =
-            let hb : b < length st.entries = omega (arith, (answer s (reducing v q) bs ms Q R p bs' best a st I).small) in
-            let x : b + 1 ≡ suc b = omega arith in
-            let y : suc b - 1 ≡ b = omega arith in
-            let el₁ : l ≡ label (words bs') (shape_in Q) b = rw y at el in
-            ew ∙ sym (reducer-is st I.valid v b hb g (regular-is b hb ∙ ap (λ l. ltb l (floor_in Q)) (sym el₁) ∙ eg) ∙ rw x)
+    told-as : (g : Bool) (l : ℕ) → l ≡ label (words bs') (shape_in Q) e → ltb l (floor_in Q) ≡ g → answer_word (e + 1 + cond g 0 134217728) ≡ found_reducer st.entries v (some e)
+    told-as g l el eg = reducer-is st I.valid v e (inside-of st I) g (regular-is ∙ ap (λ l. ltb l (floor_in Q)) (sym el) ∙ eg)
 
   -- what is asked of the label's reader
   pub label-ready : Ready (words bs') (shape_in Q)
@@ -149,12 +155,12 @@ module _ (s : Shape) (v : Value) (q bs ms Q : List ℕ) (R : Root bs s) (p : Pos
   pub query-kind : (shape_in Q).kind ≡ 1
   query-kind = rw (posed R.state R.is).shape (ap code (home R.state R.is))
 
-  pub inside : (best ≡ 0 → ⊥) → best - 1 < (shape_in Q).entries
-  inside z = rw (posed R.state R.is).shape (omega (arith, z, (answer s (reducing v q) bs ms Q R p bs' best a R.state R.is).small))
+  pub inside : e < (shape_in Q).entries
+  inside = rw (posed R.state R.is).shape (inside-of R.state R.is)
 
-  module _ (l : ℕ) (z : best ≡ 0 → ⊥) (el : l ≡ label (words bs') (shape_in Q) (best - 1)) (w : ℕ) where
-    pub told-regular : l < floor_in Q → w ≡ answer_word best → (st : State) → Is st bs → w ≡ told st.entries (reducing v q) (option_of best)
-    told-regular hl ew st I = told-as st I true l w z el (lt-ltb l (floor_in Q) hl) (ew ∙ ap answer_word (omega arith))
+  module _ (l : ℕ) (el : l ≡ label (words bs') (shape_in Q) e) where
+    pub told-regular : l < floor_in Q → (st : State) → Is st bs → answer_word (e + 1) ≡ told st.entries (reducing v q) (some e)
+    told-regular hl st I = ap answer_word (omega arith) ∙ told-as st I true l el (lt-ltb l (floor_in Q) hl)
 
-    pub told-singular : floor_in Q ≤ l → w ≡ answer_word (best + 134217728) → (st : State) → Is st bs → w ≡ told st.entries (reducing v q) (option_of best)
-    told-singular hl ew st I = told-as st I false l w z el (le-ltb l (floor_in Q) hl) ew
+    pub told-singular : floor_in Q ≤ l → (st : State) → Is st bs → answer_word (e + 1 + 134217728) ≡ told st.entries (reducing v q) (some e)
+    told-singular hl st I = told-as st I false l el (le-ltb l (floor_in Q) hl)

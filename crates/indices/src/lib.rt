@@ -1,14 +1,16 @@
 // A call of a list on the image of an index, whichever kind it is.
 #![tactic(auto)]
 
-ghost use Rattle.std.specs.Prelude.{◌≡◌, ◌+◌, ◌≤◌, length, drop};
-ghost use Rattle.words.specs.Words.{words};
-ghost use Rattle.index_theory.specs.Calls.{body_of, Call, step};
+ghost use Rattle.std.specs.Prelude.{◌≡◌, ◌≤◌, length};
+ghost use Rattle.index_theory.specs.Calls.{step};
 ghost use Rattle.index_image.specs.Layout.{Sound};
+ghost use Rattle.call_list.specs.Bodies.{call_of};
 ghost use Rattle.listing.specs.Listed.{Root};
 ghost use Rattle.index_replies.specs.Replied.{Replied};
 
+use call_list::Call;
 use index_image::{Shape, fields};
+use refusals::Refusal;
 
 // The numbers of a sound image's header.
 pub fn shape(image: &[u8]) -> Shape
@@ -24,16 +26,16 @@ pub fn shape(image: &[u8]) -> Shape
     }
 }
 
-// A call of a list: its number, and its body from word `at` up to `end`. The answer word, or a refusal in its place.
-pub fn call(image: &mut [u8], q: &mut [u8], list: &[u8], number: u32, at: usize, end: usize) -> u32
+// A call of a list, answered by a number or refused.
+pub fn call(image: &mut [u8], q: &mut [u8], call: Call<'_>) -> Result<u32, Refusal>
     requires sound { Sound image.old }
     requires in_bounds { 368 ≤ length q.old }
-    requires at_in_bounds { (at ≤ length (words list.now)) × (end ≡ at + length (body_of (drop at (words list.now)))) }
-    ensures { Replied (λ st. step st (record { number = number; body = body_of (drop at (words list.now)) })) image.old image.new result }
+    ensures { Replied (λ st. step st (call_of call.entry)) image.old image.new result }
 {
     let s = shape(image);
     if s.kind == 0 {
-        return monomial_index::call(image, s, q, list, number, at, end);
+        monomial_index::call(image, s, q, call)
+    } else {
+        ratio_monomial_index::call(image, s, q, call)
     }
-    ratio_monomial_index::call(image, s, q, list, number, at, end)
 }

@@ -1,18 +1,21 @@
 // From monomial_index.rs: the calls of a monomial index.
 #![tactic(auto)]
 
-ghost use Rattle.std.specs.Prelude.{◌≡◌, ◌+◌, ◌%◌, ◌≤◌, length, drop};
+ghost use Rattle.std.specs.Prelude.{◌≡◌, Ok, ◌%◌, ◌≤◌, length};
 ghost use Rattle.words.specs.Words.{words};
 ghost use Rattle.monomial.specs.Monomial.{Canonical};
-ghost use Rattle.index_theory.specs.Calls.{body_of, Call, insertion, query, plain, serve, step};
+ghost use Rattle.index_theory.specs.Calls.{insertion, query, plain, serve, step};
 ghost use Rattle.index_theory.specs.Searches.{containment};
+ghost use Rattle.call_list.specs.Bodies.{call_of};
 ghost use Rattle.listing.specs.Listed.{Root};
 ghost use Rattle.index_replies.specs.Replied.{Replied};
 
+use call_list::Call;
 use index_image::Shape;
+use refusals::Refusal;
 
-// Call 0: inserts a monomial. The answer word has its number; 8 where the index is full.
-pub fn insert(image: &mut [u8], s: Shape, lm: &[u8]) -> u32
+// Call 0: inserts a monomial, and answers its number.
+pub fn insert(image: &mut [u8], s: Shape, lm: &[u8]) -> Result<u32, Refusal>
     requires root { Root image.old s }
     requires kind_value { s.kind ≡ 0 }
     requires canonical { Canonical 1 s.variables (words lm.now) }
@@ -20,52 +23,41 @@ pub fn insert(image: &mut [u8], s: Shape, lm: &[u8]) -> u32
     ensures { Replied (λ st. serve st (insertion (plain (words lm.now)))) image.old image.new result }
 {
     if s.capacity <= s.entries {
-        return words::refusal_word(8);
+        return Err(Refusal::Full);
     }
     let n = kd_insert::insertion::insert_monomial(image, s, lm);
-    words::answer_word(n as u32)
+    Ok(n as u32)
 }
 
-// Call 1: whether an entry divides the monomial. The query's words are written to q.
+// Call 1: whether an entry divides the monomial, 1 or 0. The query's words are written to q.
 pub fn contains_divisor(image: &mut [u8], s: Shape, q: &mut [u8], m: &[u8]) -> u32
     requires root { Root image.old s }
     requires kind_value { s.kind ≡ 0 }
     requires in_bounds { 368 ≤ length q.old }
     requires canonical { Canonical 1 s.variables (words m.now) }
-    ensures { Replied (λ st. serve st (query (containment (words m.now)))) image.old image.new result }
+    ensures { Replied (λ st. serve st (query (containment (words m.now)))) image.old image.new (Ok result) }
 {
     kd_query::contained(image, s, q, m);
-    if kd_tree::find(image, q, m) == 0 {
-        return words::answer_word(0);
-    }
-    words::answer_word(1)
+    u32::from(kd_tree::find(image, q, m).is_some())
 }
 
-// A call to a monomial index: its number, and its body from word `at` of the list up to `end`.
-pub fn call(
-    image: &mut [u8],
-    s: Shape,
-    q: &mut [u8],
-    list: &[u8],
-    number: u32,
-    at: usize,
-    end: usize,
-) -> u32
+// A call to a monomial index.
+pub fn call(image: &mut [u8], s: Shape, q: &mut [u8], call: Call<'_>) -> Result<u32, Refusal>
     requires root { Root image.old s }
     requires kind_value { s.kind ≡ 0 }
     requires in_bounds { 368 ≤ length q.old }
-    requires at_in_bounds { (at ≤ length (words list.now)) × (end ≡ at + length (body_of (drop at (words list.now)))) }
-    ensures { Replied (λ st. step st (record { number = number; body = body_of (drop at (words list.now)) })) image.old image.new result }
+    ensures { Replied (λ st. step st (call_of call.entry)) image.old image.new result }
 {
-    if 1 < number {
-        return words::refusal_word(6);
+    let v = s.variables as u32;
+    match call.number {
+        0 => {
+            let lm = call_list::single(call.body, v)?;
+            insert(image, s, lm)
+        }
+        1 => {
+            let m = call_list::single(call.body, v)?;
+            Ok(contains_divisor(image, s, q, m))
+        }
+        _ => Err(Refusal::NotServed),
     }
-    let m = monomial::monomial_at(list, at, s.variables as u32);
-    if !call_list::single(list, at, end, m) {
-        return words::refusal_word(7);
-    }
-    if number == 0 {
-        return insert(image, s, m);
-    }
-    contains_divisor(image, s, q, m)
 }

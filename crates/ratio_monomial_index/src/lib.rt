@@ -1,21 +1,30 @@
 // From ratio_monomial_index.rs: the calls of a ratio index.
 #![tactic(auto)]
 
-ghost use Rattle.std.specs.Prelude.{◌≡◌, ◌⊎◌, ◌+◌, ◌%◌, ◌≤◌, ◌<◌, length, drop};
+ghost use Rattle.std.specs.Prelude.{◌≡◌, Ok, IfSome, MatchOption, ◌+◌, ◌%◌, ◌≤◌, ◌<◌, length};
 ghost use Rattle.words.specs.Words.{words};
 ghost use Rattle.monomial.specs.Monomial.{Canonical};
 ghost use Rattle.fast_compare.specs.Map.{value_of};
 ghost use Rattle.index_theory.specs.Searches.{reducing, high, low, singular};
-ghost use Rattle.index_theory.specs.Calls.{body_of, Call, insertion, query, serve, step};
+ghost use Rattle.index_theory.specs.Calls.{insertion, query, serve, step};
+ghost use Rattle.call_list.specs.Bodies.{call_of};
 ghost use Rattle.kd_insert.specs.Inserting.{signed};
 ghost use Rattle.listing.specs.Listed.{Root};
 ghost use Rattle.index_replies.specs.Replied.{Replied};
 
+use call_list::Call;
 use index_image::Shape;
 use query_words as query;
+use refusals::Refusal;
 
-// Call 2: inserts an entry. The answer word has its number; 8 where the index is full.
-pub fn insert(image: &mut [u8], s: Shape, index: u32, sign: &[u8], lm: &[u8]) -> u32
+// Call 2: inserts an entry, and answers its number.
+pub fn insert(
+    image: &mut [u8],
+    s: Shape,
+    index: u32,
+    sign: &[u8],
+    lm: &[u8],
+) -> Result<u32, Refusal>
     requires root { Root image.old s }
     requires kind_value { s.kind ≡ 1 }
     requires index_bound { index < 268435456 }
@@ -24,13 +33,24 @@ pub fn insert(image: &mut [u8], s: Shape, index: u32, sign: &[u8], lm: &[u8]) ->
     ensures { Replied (λ st. serve st (insertion (signed index (words sign.now) (words lm.now)))) image.old image.new result }
 {
     if s.capacity <= s.entries {
-        return words::refusal_word(8);
+        return Err(Refusal::Full);
     }
     let n = kd_insert::insertion::insert_ratio(image, s, index, sign, lm);
-    words::answer_word(n as u32)
+    Ok(n as u32)
 }
 
-// Call 3: a reducer of the monomial, the first regular one or else the last singular one. The answer word has its number + 1, and 2^27 more for a singular one; 0 for none.
+// The number of an entry + 1; 0 for none.
+fn numbered(entry: Option<usize>) -> u32
+    requires { IfSome entry (λ e. e < 4096) }
+    ensures { MatchOption entry (result ≡ 0) (λ e. result ≡ e + 1) }
+{
+    match entry {
+        Some(e) => e as u32 + 1,
+        None => 0,
+    }
+}
+
+// Call 3: a reducer of the monomial, the first regular one or else the last singular one: its number + 1, and 2^27 more for a singular one; 0 for none.
 pub fn find_a_reducer(
     image: &mut [u8],
     s: Shape,
@@ -44,20 +64,20 @@ pub fn find_a_reducer(
     requires in_bounds { 368 ≤ length q.old }
     requires canonical { Canonical 2 s.variables (words ratio.now) }
     requires canonical_2 { Canonical 1 s.variables (words m.now) }
-    ensures { Replied (λ st. serve st (query (reducing (value_of index (words ratio.now)) (words m.now)))) image.old image.new result }
+    ensures { Replied (λ st. serve st (query (reducing (value_of index (words ratio.now)) (words m.now)))) image.old image.new (Ok result) }
 {
     kd_query::reducer(image, s, q, index, ratio, m);
-    let r = kd_tree::find(image, q, m);
-    if r == 0 {
-        return words::answer_word(0);
+    let Some(e) = kd_tree::find(image, q, m) else {
+        return 0;
+    };
+    let n = e as u32 + 1;
+    if query::label(image, q, e) < words::pairs::get(q, query::FLOOR) {
+        return n;
     }
-    if query::label(image, q, r - 1) < words::pairs::get(q, query::FLOOR) {
-        return words::answer_word(r as u32);
-    }
-    words::answer_word(r as u32 + 134217728)
+    n + 134217728
 }
 
-// Call 4: the first high base divisor of the largest ratio. The answer word has its number + 1; 0 for none.
+// Call 4: the first high base divisor of the largest ratio: its number + 1; 0 for none.
 pub fn find_high_base_divisor(
     image: &mut [u8],
     s: Shape,
@@ -71,11 +91,10 @@ pub fn find_high_base_divisor(
     requires in_bounds { 368 ≤ length q.old }
     requires canonical { Canonical 2 s.variables (words ratio.now) }
     requires canonical_2 { Canonical 1 s.variables (words m.now) }
-    ensures { Replied (λ st. serve st (query (high (value_of index (words ratio.now)) (words m.now)))) image.old image.new result }
+    ensures { Replied (λ st. serve st (query (high (value_of index (words ratio.now)) (words m.now)))) image.old image.new (Ok result) }
 {
     kd_query::high(image, s, q, index, ratio, m);
-    let r = kd_tree::find(image, q, m);
-    words::answer_word(r as u32)
+    numbered(kd_tree::find(image, q, m))
 }
 
 // Call 5: the first low base divisor of the largest ratio, as for call 4.
@@ -91,14 +110,13 @@ pub fn find_low_base_divisor(
     requires in_bounds { 368 ≤ length q.old }
     requires index_bound { index < 268435456 }
     requires canonical { Canonical 1 s.variables (words sign.now) }
-    ensures { Replied (λ st. serve st (query (low index (words sign.now)))) image.old image.new result }
+    ensures { Replied (λ st. serve st (query (low index (words sign.now)))) image.old image.new (Ok result) }
 {
     kd_query::low(image, s, q, index, sign);
-    let r = kd_tree::find(image, q, sign);
-    words::answer_word(r as u32)
+    numbered(kd_tree::find(image, q, sign))
 }
 
-// Call 6: whether a signature is singular.
+// Call 6: whether a signature is singular, 1 or 0.
 pub fn test_singular_criterion(
     image: &mut [u8],
     s: Shape,
@@ -113,121 +131,41 @@ pub fn test_singular_criterion(
     requires index_bound { index < 268435456 }
     requires canonical { Canonical 1 s.variables (words sign.now) }
     requires canonical_2 { Canonical 1 s.variables (words lm.now) }
-    ensures { Replied (λ st. serve st (query (singular index (words sign.now) (words lm.now)))) image.old image.new result }
+    ensures { Replied (λ st. serve st (query (singular index (words sign.now) (words lm.now)))) image.old image.new (Ok result) }
 {
     kd_query::singular(image, s, q, index, sign, lm);
-    if kd_tree::find(image, q, sign) == 0 {
-        return words::answer_word(0);
-    }
-    words::answer_word(1)
+    u32::from(kd_tree::find(image, q, sign).is_some())
 }
 
-// A call with an index and a monomial: 5.
-fn pair_call(image: &mut [u8], s: Shape, q: &mut [u8], list: &[u8], at: usize, end: usize) -> u32
+// A call to a ratio index.
+pub fn call(image: &mut [u8], s: Shape, q: &mut [u8], call: Call<'_>) -> Result<u32, Refusal>
     requires root { Root image.old s }
     requires kind_value { s.kind ≡ 1 }
     requires in_bounds { 368 ≤ length q.old }
-    requires at_in_bounds { (at ≤ length (words list.now)) × (end ≡ at + length (body_of (drop at (words list.now)))) }
-    ensures { Replied (λ st. step st (record { number = 5; body = body_of (drop at (words list.now)) })) image.old image.new result }
-{
-    let x = monomial::monomial_at(list, at + 1, s.variables as u32);
-    let b = call_list::pair(list, at, end, x);
-    if !b.good {
-        return words::refusal_word(7);
-    }
-    find_low_base_divisor(image, s, q, b.index, x)
-}
-
-// A call with an index, a ratio and a monomial: 3 or 4.
-fn ratio_call(
-    image: &mut [u8],
-    s: Shape,
-    q: &mut [u8],
-    list: &[u8],
-    number: u32,
-    at: usize,
-    end: usize,
-) -> u32
-    requires root { Root image.old s }
-    requires kind_value { s.kind ≡ 1 }
-    requires in_bounds { 368 ≤ length q.old }
-    requires fact { (number ≡ 3) ⊎ (number ≡ 4) }
-    requires at_in_bounds { (at ≤ length (words list.now)) × (end ≡ at + length (body_of (drop at (words list.now)))) }
-    ensures { Replied (λ st. step st (record { number = number; body = body_of (drop at (words list.now)) })) image.old image.new result }
+    ensures { Replied (λ st. step st (call_of call.entry)) image.old image.new result }
 {
     let v = s.variables as u32;
-    let x = monomial::ratio_at(list, at + 1, v);
-    let y = monomial::monomial_at(list, at + 1 + x.len() / 4, v);
-    let b = call_list::triple(list, at, end, x, y);
-    if !b.good {
-        return words::refusal_word(7);
+    match call.number {
+        2 => {
+            let (index, sign, lm) = call_list::triple(1, call.body, v)?;
+            insert(image, s, index, sign, lm)
+        }
+        3 => {
+            let (index, ratio, m) = call_list::triple(2, call.body, v)?;
+            Ok(find_a_reducer(image, s, q, index, ratio, m))
+        }
+        4 => {
+            let (index, ratio, m) = call_list::triple(2, call.body, v)?;
+            Ok(find_high_base_divisor(image, s, q, index, ratio, m))
+        }
+        5 => {
+            let (index, sign) = call_list::pair(call.body, v)?;
+            Ok(find_low_base_divisor(image, s, q, index, sign))
+        }
+        6 => {
+            let (index, sign, lm) = call_list::triple(1, call.body, v)?;
+            Ok(test_singular_criterion(image, s, q, index, sign, lm))
+        }
+        _ => Err(Refusal::NotServed),
     }
-    if number == 3 {
-        return find_a_reducer(image, s, q, b.index, x, y);
-    }
-    find_high_base_divisor(image, s, q, b.index, x, y)
-}
-
-// A call with an index and two monomials: 2 or 6.
-fn signed_call(
-    image: &mut [u8],
-    s: Shape,
-    q: &mut [u8],
-    list: &[u8],
-    number: u32,
-    at: usize,
-    end: usize,
-) -> u32
-    requires root { Root image.old s }
-    requires kind_value { s.kind ≡ 1 }
-    requires in_bounds { 368 ≤ length q.old }
-    requires fact { (number ≡ 2) ⊎ (number ≡ 6) }
-    requires at_in_bounds { (at ≤ length (words list.now)) × (end ≡ at + length (body_of (drop at (words list.now)))) }
-    ensures { Replied (λ st. step st (record { number = number; body = body_of (drop at (words list.now)) })) image.old image.new result }
-{
-    let v = s.variables as u32;
-    let x = monomial::monomial_at(list, at + 1, v);
-    let y = monomial::monomial_at(list, at + 1 + x.len() / 4, v);
-    let b = call_list::triple(list, at, end, x, y);
-    if !b.good {
-        return words::refusal_word(7);
-    }
-    if number == 2 {
-        return insert(image, s, b.index, x, y);
-    }
-    test_singular_criterion(image, s, q, b.index, x, y)
-}
-
-// A call to a ratio index: its number, and its body from word `at` of the list up to `end`.
-pub fn call(
-    image: &mut [u8],
-    s: Shape,
-    q: &mut [u8],
-    list: &[u8],
-    number: u32,
-    at: usize,
-    end: usize,
-) -> u32
-    requires root { Root image.old s }
-    requires kind_value { s.kind ≡ 1 }
-    requires in_bounds { 368 ≤ length q.old }
-    requires at_in_bounds { (at ≤ length (words list.now)) × (end ≡ at + length (body_of (drop at (words list.now)))) }
-    ensures { Replied (λ st. step st (record { number = number; body = body_of (drop at (words list.now)) })) image.old image.new result }
-{
-    if number < 2 {
-        return words::refusal_word(6);
-    }
-    if 6 < number {
-        return words::refusal_word(6);
-    }
-    if number == 5 {
-        return pair_call(image, s, q, list, at, end);
-    }
-    if number == 3 {
-        return ratio_call(image, s, q, list, number, at, end);
-    }
-    if number == 4 {
-        return ratio_call(image, s, q, list, number, at, end);
-    }
-    signed_call(image, s, q, list, number, at, end)
 }

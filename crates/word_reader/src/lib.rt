@@ -4,14 +4,10 @@
 ghost use Rattle.std.specs.Prelude.{◌≡◌};
 ghost use Rattle.std.specs.Iterator.{YieldsFirstBy, item_count};
 ghost use Rattle.words.specs.Words.{words};
-ghost use Rattle.word_reader.specs.Reading.{call_of, read};
+ghost use Rattle.call_list.specs.Bodies.{call_of};
+ghost use Rattle.word_reader.specs.Reading.{read};
 
-// A call of a list: its number, and its body.
-#[derive(Clone, Copy)]
-pub struct Call<'a> {
-    pub number: u32,
-    pub body: &'a [u8],
-}
+use call_list::Call;
 
 // What is left of a list: it begins with the word of the next call.
 #[derive(Drop)]

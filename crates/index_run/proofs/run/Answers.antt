@@ -1,58 +1,42 @@
 use native.Mathlib.Omega.{arith}
-use mathlib.Core.Path.{refl, ◌∙◌}
-use Prim.Native.Nat.{◌<◌}
+use mathlib.Core.Path.{◌≡◌, refl, ap, ◌∙◌}
+use mathlib.Core.Logic.{inl}
+use mathlib.Core.List.{List}
+use Prim.Native.Nat.{ℕ}
 use lib.ListN.{length}
+use Rattle.std.specs.Borrow.{Bor}
+use Rattle.std.specs.declared.iter.Enumerate.{Enumerate}
 use Rattle.words.specs.Words.{words}
-use Rattle.words.proofs.Laws.{length-words}
-use Rattle.word_reader.proofs.Places.{end-inside}
-use Rattle.index_run.proofs.Running.{running_none, running-sound, place-small, running-next, running-all, list-first, part_room}
+use Rattle.index_theory.specs.Calls.{calls}
+use Rattle.word_reader.specs.declared.Reader.{Reader}
+use Rattle.word_reader.specs.Reading.{read}
+use Rattle.word_reader.proofs.Reading.{read-list}
+use Rattle.index_run.proofs.Running.{running_none, running-sound, room-for-one, running-next, running-all}
 use Rattle.index_run.proofs.run.Goals as goal
 
-pub loop-at-init : goal.loop-at-init
-loop-at-init c =
-    (running_none _ _ _ c.requires.sound (λ j. (c.type_inv.image j).fits) (list-first _ c.requires.list), refl)
+pub loop-i-init : goal.loop-i-init
+loop-i-init c =
+    let it = c.into_iter-i-iterator.result in
+    let src : it.iter.rest.now ≡ c.args.list.now = ap (λ (x : Enumerate Reader). x.iter.rest.now) c.into_iter-i-iterator.ensures.into_iter_gives
+    ∙ ap (λ (x : Reader). x.rest.now) c.enumerate-i-items.ensures.source ∙ ap (λ (x : Bor (List ℕ)). x.now) c.new.ensures in
+    let r : read (words it.iter.rest.now) ≡ calls (words c.args.list.now) = ap (λ bs. read (words bs)) src ∙ read-list _ c.requires.list in
+    let n : it.count ≡ 0 = ap (λ (x : Enumerate Reader). x.count) c.into_iter-i-iterator.ensures.into_iter_gives ∙ c.enumerate-i-items.ensures.count in
+    ((tt, tt, inl (omega (arith, n, ap length r, c.well_formed, c.requires.list_in_bounds))), tt, rw (r, n) (running_none _ _ _ c.requires.sound (λ j. (c.type_inv.image j).fits)), refl)
 
-pub overflow_mul-o : goal.overflow_mul-o
-overflow_mul-o c =
-    omega (arith, c.well_formed, place-small _ _ _ c.requires.sound _ _ _ _ c.loop-at.invariant.0 c.requires.list_in_bounds, c.loop-at.invariant.0.same_out)
+pub call-reply-requires : goal.call-reply-requires
+call-reply-requires c = record { sound = running-sound _ _ _ c.requires.sound _ _ _ _ c.loop-i.invariant.2; in_bounds = omega (arith, c.loop-i.invariant.3) }
 
-pub slice_bounds-call_at-count : goal.slice_bounds-call_at-count
-slice_bounds-call_at-count c =
-    place-small _ _ _ c.requires.sound _ _ _ _ c.loop-at.invariant.0 c.requires.list_in_bounds
+pub put-requires : goal.put-requires
+put-requires c =
+    let step = c.in-Some.ensures.steps in
+    omega (arith, step.1, room-for-one _ _ _ c.requires.sound _ _ _ _ c.loop-i.invariant.2 _ _ step.0 c.requires.list_in_bounds)
 
-pub slice_bounds-call_at-start : goal.slice_bounds-call_at-start
-slice_bounds-call_at-start c =
-    place-small _ _ _ c.requires.sound _ _ _ _ c.loop-at.invariant.0 c.requires.list_in_bounds
-
-pub call_at-at-requires : goal.call_at-at-requires
-call_at-at-requires c =
-    let inside : c.loop-at.at < length (words c.args.list.now) = omega (arith, c.loop-at-test.true, length-words c.args.list.now) in record { sound = running-sound _ _ _ c.requires.sound _ _ _ _ c.loop-at.invariant.0; in_bounds = omega (arith, c.loop-at.invariant.1); at_in_bounds = (inside, part_room _ _ _ c.requires.sound _ _ _ _ c.loop-at.invariant.0 c.requires.list_in_bounds inside) }
-
-pub overflow_add-n : goal.overflow_add-n
-overflow_add-n c =
-    omega (arith, c.well_formed, place-small _ _ _ c.requires.sound _ _ _ _ c.loop-at.invariant.0 c.requires.list_in_bounds, c.loop-at.invariant.0.same_out)
-
-pub loop-at-smaller : goal.loop-at-smaller
-loop-at-smaller c =
-    let L = c.args.list.now in
-    let inside : c.loop-at.at < length (words L) = omega (arith, c.loop-at-test.true, length-words L) in
-    let far = (end-inside (words L) c.loop-at.at inside).0 in
-    omega (arith, c.call_at-at.ensures.value, c.loop-at-test.true, far)
-
-pub loop-at-preserved : goal.loop-at-preserved
-loop-at-preserved c =
-    let L = c.args.list.now in
-    let inside : c.loop-at.at < length (words L) = omega (arith, c.loop-at-test.true, length-words L) in
-    let ran = running-next _ _ _ c.requires.sound _ _ _ _ c.loop-at.invariant.0 inside _ c.call_at-at.ensures.value _ _ _ c.requires.list_in_bounds refl
-    c.call_at-at.ensures.called c.call_at-at.auto.image in
-    (ran, c.call_at-at.auto.q ∙ c.loop-at.invariant.1)
-
-pub shape_of-image : goal.shape_of-image
-shape_of-image c = c.loop-at.invariant.0.same-image
-
-pub shape_of-out : goal.shape_of-out
-shape_of-out c = c.loop-at.invariant.0.same_out
+pub loop-i-preserved : goal.loop-i-preserved
+loop-i-preserved c =
+    let step = c.in-Some.ensures.steps in
+    let word = c.put.ensures ∙ rw (step.1, c.word.ensures) in
+    let ran = running-next _ _ _ c.requires.sound _ _ _ _ c.loop-i.invariant.2 _ _ step.0 c.requires.list_in_bounds _ _ _ c.call-reply.ensures word c.call-reply.auto.image in
+    (c.in-Some.ensures.goes.keeps, tt, rw step.2 ran, c.call-reply.auto.q ∙ c.loop-i.invariant.3)
 
 pub returns : goal.returns
-returns c =
-    running-all _ _ _ c.requires.sound _ _ _ _ c.loop-at.invariant.0 (omega (arith, c.loop-at-test.false, length-words c.args.list.now))
+returns c = running-all _ _ _ c.requires.sound _ _ _ _ c.loop-i.invariant.2 c.in-None.ensures.steps.0.0

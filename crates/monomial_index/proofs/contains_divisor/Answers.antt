@@ -1,5 +1,4 @@
-use Rattle.index_replies.proofs.Queries.{head_of, sound-of, ready, replied, yes-none, yes-some}
-use mathlib.Core.Path.{sym, ◌∙◌}
+use Rattle.index_replies.proofs.Queries.{head_of, sound-of, ready, replied, yes-is, bit-small}
 use Rattle.monomial_index.proofs.contains_divisor.Goals as goal
 
 pub contained-requires : goal.contained-requires
@@ -8,10 +7,6 @@ contained-requires c = record { sound = sound-of _ _ c.requires.root; head_ok = 
 pub find-requires : goal.find-requires
 find-requires c = ready _ _ _ _ _ c.requires.root c.contained.ensures
 
-pub returns-then-find-eq0 : goal.returns-then-find-eq0
-returns-then-find-eq0 c =
-    replied _ _ _ _ _ c.requires.root c.contained.ensures _ _ c.find.ensures _ (λ st I. c.answer_word.ensures ∙ sym (yes-none _ c.if-find-eq0.true))
-
 pub returns : goal.returns
 returns c =
-    replied _ _ _ _ _ c.requires.root c.contained.ensures _ _ c.find.ensures _ (λ st I. c.answer_word-2.ensures ∙ sym (yes-some _ c.if-find-eq0.false))
+    replied _ _ _ _ _ c.requires.root c.contained.ensures _ _ c.find.ensures _ (bit-small _ _ c.from.ensures) (λ st I. yes-is _ _ _ c.is_some.ensures c.from.ensures)

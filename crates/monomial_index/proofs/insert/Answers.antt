@@ -3,25 +3,13 @@ use native.Mathlib.Omega.{arith}
 use Rattle.monomial_index.proofs.insert.Goals as goal
 
 pub returns-then-s : goal.returns-then-s
-returns-then-s c =
-    refused c.args.image.now c.args.s _ c.refusal_word.result c.requires.root (λ j. (c.type_inv.image j).fits) (omega (arith, c.if-s.true)) c.refusal_word.ensures
+returns-then-s c = refused c.args.image.now c.args.s _ c.requires.root (λ j. (c.type_inv.image j).fits) c.if-s.true
 
 pub insert_monomial-n-requires : goal.insert_monomial-n-requires
-insert_monomial-n-requires c = record { room = with-room c.args.image.now c.args.s c.requires.root (omega (arith, c.if-s.false)); kind_value = c.requires.kind_value; canonical = c.requires.canonical; lm_len = c.requires.lm_len }
+insert_monomial-n-requires c = record { room = with-room c.args.image.now c.args.s c.requires.root c.if-s.false; kind_value = c.requires.kind_value; canonical = c.requires.canonical; lm_len = c.requires.lm_len }
 
-pub overflow_cast-n : goal.overflow_cast-n
-overflow_cast-n c =
-    omega (
-      arith,
-      number_small c.args.image.now c.args.s _ c.insert_monomial-n.result _ c.requires.root (omega (arith, c.if-s.false))
-          c.insert_monomial-n.ensures,
-    )
-
-pub answer_word-requires : goal.answer_word-requires
-answer_word-requires c =
-    number_small c.args.image.now c.args.s _ c.insert_monomial-n.result _ c.requires.root (omega (arith, c.if-s.false)) c.insert_monomial-n.ensures
+pub overflow_cast-result : goal.overflow_cast-result
+overflow_cast-result c = omega (arith, number_small c.args.image.now c.args.s _ c.insert_monomial-n.result _ c.requires.root c.if-s.false c.insert_monomial-n.ensures)
 
 pub returns : goal.returns
-returns c =
-    accepted c.args.image.now _ c.args.s _ c.insert_monomial-n.result c.answer_word.result c.requires.root (omega (arith, c.if-s.false))
-    c.insert_monomial-n.ensures c.answer_word.ensures
+returns c = accepted c.args.image.now _ c.args.s _ c.insert_monomial-n.result c.requires.root c.if-s.false c.insert_monomial-n.ensures

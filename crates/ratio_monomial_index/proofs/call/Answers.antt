@@ -1,23 +1,47 @@
-use Rattle.index_replies.proofs.Calling.{refuses, of-ratioed, six-below, six-above, two-or-six}
-use mathlib.Core.Logic.{inl, inr}
+use native.Mathlib.Omega.{arith}
+use Rattle.index_replies.proofs.Calling.{refuses, refuses-parts, serves, of-ratioed, no-ratios, inserts-signed, asks-reducing, asks-high, asks-low, asks-singular}
 use Rattle.ratio_monomial_index.proofs.call.Goals as goal
 
-pub returns-then-number-lt2 : goal.returns-then-number-lt2
-returns-then-number-lt2 c =
-    refuses _ _ 6 _ (of-ratioed _ _ _ c.requires.root _ c.requires.kind_value (six-below _ _ _ c.if-number-lt2.true)) (λ j. (c.type_inv.image j).fits) c.refusal_word.ensures
+pub returns-in_err-index-in-2 : goal.returns-in_err-index-in-2
+returns-in_err-index-in-2 c =
+    refuses-parts _ _ _ _ c.from_residual.ensures.1 (of-ratioed _ _ _ c.requires.root _ c.requires.kind_value (inserts-signed _ _ _ _ c.in_err-index-in-2.ensures c.in-2.is)) (λ j. (c.type_inv.image j).fits)
 
-pub returns-then-number-gt6 : goal.returns-then-number-gt6
-returns-then-number-gt6 c =
-    refuses _ _ 6 _ (of-ratioed _ _ _ c.requires.root _ c.requires.kind_value (six-above _ _ _ c.if-number-gt6.true)) (λ j. (c.type_inv.image j).fits) c.refusal_word-then-number-gt6.ensures
+pub returns-in_ok-index-in-2 : goal.returns-in_ok-index-in-2
+returns-in_ok-index-in-2 c =
+    serves _ _ _ _ _ (of-ratioed _ _ _ c.requires.root _ c.requires.kind_value (inserts-signed _ _ _ _ c.in_ok-index-in-2.ensures c.in-2.is)) c.insert.ensures
 
-pub returns-then-number-eq5 : goal.returns-then-number-eq5
-returns-then-number-eq5 c = rw c.if-number-eq5.true c.pair_call.ensures
+pub returns-in_err-index-in-3 : goal.returns-in_err-index-in-3
+returns-in_err-index-in-3 c =
+    refuses-parts _ _ _ _ c.from_residual-in_err-index-in-3.ensures.1 (of-ratioed _ _ _ c.requires.root _ c.requires.kind_value (asks-reducing _ _ _ _ c.in_err-index-in-3.ensures c.in-3.is)) (λ j. (c.type_inv.image j).fits)
 
-pub ratio_call-requires : goal.ratio_call-requires
-ratio_call-requires c = record { root = c.requires.root; kind_value = c.requires.kind_value; in_bounds = c.requires.in_bounds; fact = inl c.if-number-eq3.true; at_in_bounds = c.requires.at_in_bounds }
+pub returns-in_ok-index-in-3 : goal.returns-in_ok-index-in-3
+returns-in_ok-index-in-3 c =
+    serves _ _ _ _ _ (of-ratioed _ _ _ c.requires.root _ c.requires.kind_value (asks-reducing _ _ _ _ c.in_ok-index-in-3.ensures c.in-3.is)) c.find_a_reducer.ensures
 
-pub ratio_call-requires-then-number-eq4 : goal.ratio_call-requires-then-number-eq4
-ratio_call-requires-then-number-eq4 c = record { root = c.requires.root; kind_value = c.requires.kind_value; in_bounds = c.requires.in_bounds; fact = inr c.if-number-eq4.true; at_in_bounds = c.requires.at_in_bounds }
+pub returns-in_err-index-in-4 : goal.returns-in_err-index-in-4
+returns-in_err-index-in-4 c =
+    refuses-parts _ _ _ _ c.from_residual-in_err-index-in-4.ensures.1 (of-ratioed _ _ _ c.requires.root _ c.requires.kind_value (asks-high _ _ _ _ c.in_err-index-in-4.ensures c.in-4.is)) (λ j. (c.type_inv.image j).fits)
 
-pub signed_call-requires : goal.signed_call-requires
-signed_call-requires c = record { root = c.requires.root; kind_value = c.requires.kind_value; in_bounds = c.requires.in_bounds; fact = two-or-six _ c.if-number-lt2.false c.if-number-gt6.false c.if-number-eq5.false c.if-number-eq3.false c.if-number-eq4.false; at_in_bounds = c.requires.at_in_bounds }
+pub returns-in_ok-index-in-4 : goal.returns-in_ok-index-in-4
+returns-in_ok-index-in-4 c =
+    serves _ _ _ _ _ (of-ratioed _ _ _ c.requires.root _ c.requires.kind_value (asks-high _ _ _ _ c.in_ok-index-in-4.ensures c.in-4.is)) c.find_high_base_divisor.ensures
+
+pub returns-in_err-index-in-5 : goal.returns-in_err-index-in-5
+returns-in_err-index-in-5 c =
+    refuses-parts _ _ _ _ c.from_residual-in_err-index-in-5.ensures.1 (of-ratioed _ _ _ c.requires.root _ c.requires.kind_value (asks-low _ _ _ _ c.in_err-index-in-5.ensures c.in-5.is)) (λ j. (c.type_inv.image j).fits)
+
+pub returns-in_ok-index-in-5 : goal.returns-in_ok-index-in-5
+returns-in_ok-index-in-5 c =
+    serves _ _ _ _ _ (of-ratioed _ _ _ c.requires.root _ c.requires.kind_value (asks-low _ _ _ _ c.in_ok-index-in-5.ensures c.in-5.is)) c.find_low_base_divisor.ensures
+
+pub returns-in_err-index-in-6 : goal.returns-in_err-index-in-6
+returns-in_err-index-in-6 c =
+    refuses-parts _ _ _ _ c.from_residual-in_err-index-in-6.ensures.1 (of-ratioed _ _ _ c.requires.root _ c.requires.kind_value (asks-singular _ _ _ _ c.in_err-index-in-6.ensures c.in-6.is)) (λ j. (c.type_inv.image j).fits)
+
+pub returns-in_ok-index-in-6 : goal.returns-in_ok-index-in-6
+returns-in_ok-index-in-6 c =
+    serves _ _ _ _ _ (of-ratioed _ _ _ c.requires.root _ c.requires.kind_value (asks-singular _ _ _ _ c.in_ok-index-in-6.ensures c.in-6.is)) c.test_singular_criterion.ensures
+
+pub returns-in_default : goal.returns-in_default
+returns-in_default c =
+    refuses _ _ _ (of-ratioed _ _ _ c.requires.root _ c.requires.kind_value (no-ratios _ _ _ (λ z. omega (arith, z)) (λ z. omega (arith, z)) (λ z. omega (arith, z)) (λ z. omega (arith, z)) (λ z. omega (arith, z)))) (λ j. (c.type_inv.image j).fits)

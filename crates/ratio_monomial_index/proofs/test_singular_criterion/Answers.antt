@@ -1,18 +1,12 @@
-use Rattle.index_replies.proofs.Queries.{head_of, sound-of, ready, replied, yes-none, yes-some}
-use mathlib.Core.Path.{sym, ◌∙◌}
+use Rattle.index_replies.proofs.Queries.{head_of, sound-of, ready, replied, yes-is, bit-small}
 use Rattle.ratio_monomial_index.proofs.test_singular_criterion.Goals as goal
 
 pub singular-requires : goal.singular-requires
 singular-requires c = record { sound = sound-of _ _ c.requires.root; head_ok = head_of _ _ c.requires.root; kind_value = c.requires.kind_value; in_bounds = c.requires.in_bounds; index_bound = c.requires.index_bound; canonical = c.requires.canonical; canonical_2 = c.requires.canonical_2 }
 
 pub find-requires : goal.find-requires
-find-requires c =
-    ready _ _ _ _ _ c.requires.root c.singular.ensures
-
-pub returns-then-find-eq0 : goal.returns-then-find-eq0
-returns-then-find-eq0 c =
-    replied _ _ _ _ _ c.requires.root c.singular.ensures _ _ c.find.ensures _ (λ st I. c.answer_word.ensures ∙ sym (yes-none _ c.if-find-eq0.true))
+find-requires c = ready _ _ _ _ _ c.requires.root c.singular.ensures
 
 pub returns : goal.returns
 returns c =
-    replied _ _ _ _ _ c.requires.root c.singular.ensures _ _ c.find.ensures _ (λ st I. c.answer_word-2.ensures ∙ sym (yes-some _ c.if-find-eq0.false))
+    replied _ _ _ _ _ c.requires.root c.singular.ensures _ _ c.find.ensures _ (bit-small _ _ c.from.ensures) (λ st I. yes-is _ _ _ c.is_some.ensures c.from.ensures)
