@@ -2,279 +2,293 @@
 // its name, the number returned, and the words after, in hex. Bytes that a refusal left alone are aa.
 #![tactic(auto)]
 
-ghost use Rattle.std.specs.Prelude.{◌≡◌, ◌<◌, ◌≤◌, length};
+ghost use Rattle.std.specs.Prelude.{◌≤◌, length};
 
+use std::alloc::{AllocError, Global};
 use std::io;
 
-fn begin(rt: &impl Print, name: &[u8], number: u32) -> io::Result<()> {
-    rt.write_all(name)?;
-    print!(rt; ":")?;
-    word(rt, number)
-}
-
-fn word(rt: &impl Print, w: u32) -> io::Result<()> {
-    print!(rt; " {w:08x}")
-}
-
-fn bytes(rt: &impl Print, out: &[u8; 3]) -> io::Result<()> {
-    print!(rt; " ")?;
-    byte(rt, out[0])?;
-    byte(rt, out[1])?;
-    byte(rt, out[2])
-}
-
-fn byte(rt: &impl Print, b: u8) -> io::Result<()> {
-    print!(rt; "{b:02x}")
-}
-
-fn end(rt: &impl Print) -> io::Result<()> {
+// A case's line. Bytes that make no word are shown as they stand.
+fn show(rt: &impl Print, name: &str, number: u32, after: &[u8]) -> io::Result<()> {
+    print!(rt; "{name}: {number:08x}")?;
+    for bytes in after.chunks(4) {
+        print!(rt; " ")?;
+        match program_io::word_at(bytes, 0) {
+            Some(word) => print!(rt; "{word:08x}")?,
+            None => show_bytes(rt, bytes)?,
+        }
+    }
     println!(rt;)
 }
 
-// The mask of a monomial.
+fn show_bytes(rt: &impl Print, bytes: &[u8]) -> io::Result<()> {
+    for byte in bytes {
+        print!(rt; "{byte:02x}")?;
+    }
+    Ok(())
+}
+
+// The mask of a monomial, in a buffer of `room` bytes.
 fn mask(
     rt: &impl Print,
-    name: &[u8],
+    alloc: Global,
+    name: &str,
     variables: u32,
     maxima: &[u8],
     monomial: &[u8],
+    room: usize,
 ) -> io::Result<()> {
-    let mut out = [170u8; 4];
-    begin(
-        rt,
-        name,
-        divmask_work::divisor_index_divmask_mask(variables, maxima, monomial, &mut out),
-    )?;
-    word(rt, words::get(&out, 0))?;
-    end(rt)
+    let mut out = vec![in alloc; 0xAA; room]?;
+    let number = divmask_work::divisor_index_divmask_mask(
+        variables,
+        maxima,
+        monomial,
+        out.as_mut_slice(),
+    );
+    show(rt, name, number, out.as_slice())
 }
 
-// The same with a byte too few for the answer.
-fn mask_short(
-    rt: &impl Print,
-    name: &[u8],
-    variables: u32,
-    maxima: &[u8],
-    monomial: &[u8],
-) -> io::Result<()> {
-    let mut out = [170u8; 3];
-    begin(
-        rt,
-        name,
-        divmask_work::divisor_index_divmask_mask(variables, maxima, monomial, &mut out),
-    )?;
-    bytes(rt, &out)?;
-    end(rt)
+// The first n bytes of maxima that are all x.
+fn all(alloc: Global, x: u32, n: usize) -> Result<Vec<u8>, AllocError> {
+    let words = vec![in alloc; x; 65]?;
+    let mut maxima = program_io::bytes_of(alloc, words.as_slice())?;
+    maxima.truncate(n);
+    Ok(maxima)
 }
 
-// 65 maxima x.
-fn fill(maxima: &mut [u8], x: u32)
-    requires { length maxima.old ≡ 260 }
-    ensures { length maxima.new ≡ 260 }
-{
-    for i in 0..65 {
-        words::put(maxima, i, x);
+// A variable count, how many bytes of maxima are lent and what each maximum is, and the variable whose power is asked about.
+type Single = (&'static str, u32, usize, u32, (u8, u16));
+
+fn singles(rt: &impl Print, alloc: Global, cases: &[Single]) -> io::Result<()> {
+    for (name, variables, bytes, x, power) in cases {
+        let maxima = all(alloc, *x, *bytes)?;
+        let monomial = program_io::monomial(alloc, &[*power])?;
+        mask(
+            rt,
+            alloc,
+            name,
+            *variables,
+            maxima.as_slice(),
+            monomial.as_slice(),
+            4,
+        )?;
     }
-}
-
-// The mask of variable v to the power p, where each maximum is x and the maxima lent are so many bytes.
-fn single(
-    rt: &impl Print,
-    name: &[u8],
-    variables: u32,
-    bytes: usize,
-    x: u32,
-    v: u32,
-    p: u32,
-) -> io::Result<()>
-    requires { (bytes ≤ 260) × ((v < 4096) × (p < 65536)) }
-{
-    let mut maxima = [0u8; 260];
-    fill(&mut maxima, x);
-    let mut monomial = [0u8; 8];
-    words::put(&mut monomial, 0, words::variable_word(v, p));
-    words::put(&mut monomial, 1, words::end_word(1));
-    mask(rt, name, variables, &maxima[..bytes], &monomial)
-}
-
-// `update` over two maxima.
-fn update(rt: &impl Print, name: &[u8], x0: u32, x1: u32, monomial: &[u8]) -> io::Result<()> {
-    let mut maxima = [0u8; 8];
-    words::put(&mut maxima, 0, x0);
-    words::put(&mut maxima, 1, x1);
-    begin(
-        rt,
-        name,
-        divmask_work::divisor_index_divmask_update(2, &mut maxima, monomial),
-    )?;
-    word(rt, words::get(&maxima, 0))?;
-    word(rt, words::get(&maxima, 1))?;
-    end(rt)
-}
-
-// Growth of two maxima.
-fn growth(rt: &impl Print, name: &[u8], x0: u32, x1: u32, percentage: u8) -> io::Result<()> {
-    let mut maxima = [0u8; 8];
-    words::put(&mut maxima, 0, x0);
-    words::put(&mut maxima, 1, x1);
-    let mut out = [170u8; 4];
-    begin(
-        rt,
-        name,
-        divmask_work::divisor_index_divmask_growth(2, &maxima, percentage, &mut out),
-    )?;
-    word(rt, words::get(&out, 0))?;
-    end(rt)
-}
-
-fn growth_short(rt: &impl Print, name: &[u8]) -> io::Result<()> {
-    let maxima = [1u8, 0, 0, 0];
-    let mut out = [170u8; 3];
-    begin(
-        rt,
-        name,
-        divmask_work::divisor_index_divmask_growth(1, &maxima, 0, &mut out),
-    )?;
-    bytes(rt, &out)?;
-    end(rt)
-}
-
-fn test(rt: &impl Print, name: &[u8], a: u32, b: u32) -> io::Result<()> {
-    begin(rt, name, divmask_work::divisor_index_divmask_divides(a, b))?;
-    end(rt)
+    Ok(())
 }
 
 // Document 01's masks, then 64 variables.
-fn masks(rt: &impl Print) -> io::Result<()> {
-    single(rt, b"1 variable, maximum 33, power 1", 1, 4, 33, 0, 1)?;
-    single(rt, b"1 variable, maximum 33, power 2", 1, 4, 33, 0, 2)?;
-    single(rt, b"1 variable, maximum 33, power 32", 1, 4, 33, 0, 32)?;
-    single(rt, b"1 variable, maximum 33, power 33", 1, 4, 33, 0, 33)?;
-    single(rt, b"3 variables, maxima 1, id 0, power 1", 3, 12, 1, 0, 1)?;
-    single(
-        rt,
-        b"3 variables, maxima 1, id 0, power 32767",
-        3,
-        12,
-        1,
-        0,
-        32767,
-    )?;
-    single(rt, b"3 variables, maxima 1, id 1, power 1", 3, 12, 1, 1, 1)?;
-    single(rt, b"3 variables, maxima 1, id 2, power 1", 3, 12, 1, 2, 1)?;
-    single(
-        rt,
-        b"3 variables, maxima 1, id 2, power 32767",
-        3,
-        12,
-        1,
-        2,
-        32767,
-    )?;
-    single(rt, b"33 variables, id 31", 33, 132, 1, 31, 5)?;
-    single(rt, b"33 variables, id 32", 33, 132, 1, 32, 5)?;
-    single(rt, b"64 variables, id 0", 64, 256, 1, 0, 5)?;
-    single(rt, b"64 variables, id 63", 64, 256, 1, 63, 5)?;
-    single(rt, b"maximum 32767, power 32767", 1, 4, 32767, 0, 32767)?;
+fn masks(rt: &impl Print, alloc: Global) -> io::Result<()> {
+    let cases = [
+        ("1 variable, maximum 33, power 1", 1, 4, 33, (0, 1)),
+        ("1 variable, maximum 33, power 2", 1, 4, 33, (0, 2)),
+        ("1 variable, maximum 33, power 32", 1, 4, 33, (0, 32)),
+        ("1 variable, maximum 33, power 33", 1, 4, 33, (0, 33)),
+        ("3 variables, maxima 1, id 0, power 1", 3, 12, 1, (0, 1)),
+        (
+            "3 variables, maxima 1, id 0, power 32767",
+            3,
+            12,
+            1,
+            (0, 32767),
+        ),
+        ("3 variables, maxima 1, id 1, power 1", 3, 12, 1, (1, 1)),
+        ("3 variables, maxima 1, id 2, power 1", 3, 12, 1, (2, 1)),
+        (
+            "3 variables, maxima 1, id 2, power 32767",
+            3,
+            12,
+            1,
+            (2, 32767),
+        ),
+        ("33 variables, id 31", 33, 132, 1, (31, 5)),
+        ("33 variables, id 32", 33, 132, 1, (32, 5)),
+        ("64 variables, id 0", 64, 256, 1, (0, 5)),
+        ("64 variables, id 63", 64, 256, 1, (63, 5)),
+        ("maximum 32767, power 32767", 1, 4, 32767, (0, 32767)),
+    ];
+    singles(rt, alloc, &cases)?;
+    let maxima = program_io::bytes_of(alloc, &[2, 4])?;
+    let monomial = program_io::monomial(alloc, &[(1, 2), (0, 1)])?;
     mask(
         rt,
-        b"x1^2 x0, maxima 2 4",
+        alloc,
+        "x1^2 x0, maxima 2 4",
         2,
-        b"\x02\0\0\0\x04\0\0\0",
-        b"\x02\0\x01\x10\x01\0\0\x10\x02\0\0\0",
+        maxima.as_slice(),
+        monomial.as_slice(),
+        4,
     )?;
-    mask(rt, b"one", 1, b"\x01\0\0\0", b"\0\0\0\0")
+    of_zeros(rt, alloc, "one", 1, 4, 4)
 }
 
-fn refusals(rt: &impl Print) -> io::Result<()> {
-    single(rt, b"0 variables", 0, 0, 1, 0, 1)?;
-    single(rt, b"65 variables", 65, 260, 1, 0, 1)?;
-    single(rt, b"maxima a byte short", 64, 255, 1, 0, 1)?;
-    single(rt, b"maxima a byte long", 64, 257, 1, 0, 1)?;
-    single(rt, b"maximum 0", 1, 4, 0, 0, 1)?;
-    single(rt, b"maximum 32768", 1, 4, 32768, 0, 1)?;
-    single(rt, b"power 0", 1, 4, 1, 0, 0)?;
-    single(rt, b"power 32768", 1, 4, 1, 0, 32768)?;
-    single(rt, b"id at the variables", 3, 12, 1, 3, 1)?;
-    mask(rt, b"no end word", 1, b"\x01\0\0\0", b"\x01\0\0\x10")?;
-    mask(rt, b"no words", 1, b"\x01\0\0\0", b"")?;
+// What is asked of n bytes 0 as monomial, with 1 variable and its maximum.
+fn of_zeros(
+    rt: &impl Print,
+    alloc: Global,
+    name: &str,
+    maximum: u32,
+    n: usize,
+    room: usize,
+) -> io::Result<()> {
+    let maxima = program_io::bytes_of(alloc, &[maximum])?;
+    let monomial = vec![in alloc; 0; n]?;
     mask(
         rt,
-        b"a byte behind the end word",
+        alloc,
+        name,
         1,
-        b"\x01\0\0\0",
-        b"\0\0\0\0\0",
-    )?;
-    mask_short(rt, b"room for 3 bytes", 1, b"\x01\0\0\0", b"\0\0\0\0")?;
-    mask_short(
-        rt,
-        b"room for 3 bytes, bad words",
-        1,
-        b"\x01\0\0\0",
-        b"\0\0\0",
-    )?;
-    mask_short(
-        rt,
-        b"room for 3 bytes, bad words, bad maxima",
-        1,
-        b"\0\0\0\0",
-        b"\0\0\0",
+        maxima.as_slice(),
+        monomial.as_slice(),
+        room,
     )
 }
 
-fn maxima(rt: &impl Print) -> io::Result<()> {
+fn refusals(rt: &impl Print, alloc: Global) -> io::Result<()> {
+    let cases = [
+        ("0 variables", 0, 0, 1, (0, 1)),
+        ("65 variables", 65, 260, 1, (0, 1)),
+        ("maxima a byte short", 64, 255, 1, (0, 1)),
+        ("maxima a byte long", 64, 257, 1, (0, 1)),
+        ("maximum 0", 1, 4, 0, (0, 1)),
+        ("maximum 32768", 1, 4, 32768, (0, 1)),
+        ("power 0", 1, 4, 1, (0, 0)),
+        ("power 32768", 1, 4, 1, (0, 32768)),
+        ("id at the variables", 3, 12, 1, (3, 1)),
+    ];
+    singles(rt, alloc, &cases)?;
+    let maxima = program_io::bytes_of(alloc, &[1])?;
+    let open = program_io::bytes_of(alloc, &[words::variable_word(0, 1)])?;
+    mask(
+        rt,
+        alloc,
+        "no end word",
+        1,
+        maxima.as_slice(),
+        open.as_slice(),
+        4,
+    )?;
+    for (name, maximum, n, room) in [
+        ("no words", 1, 0, 4),
+        ("a byte behind the end word", 1, 5, 4),
+        ("room for 3 bytes", 1, 4, 3),
+        ("room for 3 bytes, bad words", 1, 3, 3),
+        ("room for 3 bytes, bad words, bad maxima", 0, 3, 3),
+    ] {
+        of_zeros(rt, alloc, name, maximum, n, room)?;
+    }
+    Ok(())
+}
+
+// `update` over two maxima.
+fn update(
+    rt: &impl Print,
+    alloc: Global,
+    name: &str,
+    before: [u32; 2],
+    powers: &[(u8, u16)],
+) -> io::Result<()>
+    requires { length powers.now ≤ 64 }
+{
+    let mut maxima = program_io::bytes_of(alloc, &before)?;
+    let monomial = program_io::monomial(alloc, powers)?;
+    let number = divmask_work::divisor_index_divmask_update(
+        2,
+        maxima.as_mut_slice(),
+        monomial.as_slice(),
+    );
+    show(rt, name, number, maxima.as_slice())
+}
+
+fn updates(rt: &impl Print, alloc: Global) -> io::Result<()> {
+    let ones = [1, 1];
     update(
         rt,
-        b"update 1 1 with x1 x0^5",
-        1,
-        1,
-        b"\x01\0\x01\x10\x05\0\0\x10\x02\0\0\0",
+        alloc,
+        "update 1 1 with x1 x0^5",
+        ones,
+        &[(1, 1), (0, 5)],
     )?;
     update(
         rt,
-        b"update 1 1 with x1^2 x0^5",
-        1,
-        1,
-        b"\x02\0\x01\x10\x05\0\0\x10\x02\0\0\0",
+        alloc,
+        "update 1 1 with x1^2 x0^5",
+        ones,
+        &[(1, 2), (0, 5)],
     )?;
     update(
         rt,
-        b"update 1 1 with x1^2 x0",
-        1,
-        1,
-        b"\x02\0\x01\x10\x01\0\0\x10\x02\0\0\0",
+        alloc,
+        "update 1 1 with x1^2 x0",
+        ones,
+        &[(1, 2), (0, 1)],
     )?;
-    update(
+    update(rt, alloc, "update 1 1 with x0^32767", ones, &[(0, 32767)])?;
+    update(rt, alloc, "update 1 1 with x0^32768", ones, &[(0, 32768)])?;
+    update(rt, alloc, "update 1 0", [1, 0], &[(0, 5)])
+}
+
+// Growth of maxima, in a buffer of `room` bytes.
+fn growths(rt: &impl Print, alloc: Global) -> io::Result<()> {
+    for (name, x, percentage) in [
+        ("growth of 1 1 beyond 0", [1, 1], 0),
+        ("growth of 2 2 beyond 49", [2, 2], 49),
+        ("growth of 2 2 beyond 50", [2, 2], 50),
+        ("growth of 32767 32767 beyond 98", [32767, 32767], 98),
+        ("growth of 32767 32767 beyond 255", [32767, 32767], 255),
+        ("growth of 0 1", [0, 1], 0),
+    ] {
+        let maxima = program_io::bytes_of(alloc, &x)?;
+        growth(rt, alloc, name, 2, maxima.as_slice(), percentage, 4)?;
+    }
+    let maxima = program_io::bytes_of(alloc, &[1])?;
+    growth(
         rt,
-        b"update 1 1 with x0^32767",
+        alloc,
+        "growth, room for 3 bytes",
         1,
-        1,
-        b"\xff\x7f\0\x10\x01\0\0\0",
-    )?;
-    update(
-        rt,
-        b"update 1 1 with x0^32768",
-        1,
-        1,
-        b"\0\x80\0\x10\x01\0\0\0",
-    )?;
-    update(rt, b"update 1 0", 1, 0, b"\x05\0\0\x10\x01\0\0\0")?;
-    growth(rt, b"growth of 1 1 beyond 0", 1, 1, 0)?;
-    growth(rt, b"growth of 2 2 beyond 49", 2, 2, 49)?;
-    growth(rt, b"growth of 2 2 beyond 50", 2, 2, 50)?;
-    growth(rt, b"growth of 32767 32767 beyond 98", 32767, 32767, 98)?;
-    growth(rt, b"growth of 32767 32767 beyond 255", 32767, 32767, 255)?;
-    growth(rt, b"growth of 0 1", 0, 1, 0)?;
-    growth_short(rt, b"growth, room for 3 bytes")
+        maxima.as_slice(),
+        0,
+        3,
+    )
+}
+
+fn growth(
+    rt: &impl Print,
+    alloc: Global,
+    name: &str,
+    variables: u32,
+    maxima: &[u8],
+    percentage: u8,
+    room: usize,
+) -> io::Result<()> {
+    let mut out = vec![in alloc; 0xAA; room]?;
+    let number = divmask_work::divisor_index_divmask_growth(
+        variables,
+        maxima,
+        percentage,
+        out.as_mut_slice(),
+    );
+    show(rt, name, number, out.as_slice())
+}
+
+fn tests(rt: &impl Print) -> io::Result<()> {
+    for (a, b) in [
+        (0x7ff, 0xffe),
+        (0x7ff, 0x7ff),
+        (0, 0),
+        (0x80000000, 0xffffffff),
+        (0xffffffff, 0x7fffffff),
+    ] {
+        let number = divmask_work::divisor_index_divmask_divides(a, b);
+        println!(rt; "test {a:x} in {b:x}: {number:08x}")?;
+    }
+    Ok(())
 }
 
 fn main(rt: HostRuntime) -> io::Result<()> {
-    masks(&rt)?;
-    refusals(&rt)?;
-    maxima(&rt)?;
-    test(&rt, b"test 7ff in ffe", 2047, 4094)?;
-    test(&rt, b"test 7ff in 7ff", 2047, 2047)?;
-    test(&rt, b"test 0 in 0", 0, 0)?;
-    test(&rt, b"test 80000000 in ffffffff", 2147483648, 4294967295)?;
-    test(&rt, b"test ffffffff in 7fffffff", 4294967295, 2147483647)
+    let alloc = rt.alloc();
+    masks(&rt, alloc)?;
+    refusals(&rt, alloc)?;
+    updates(&rt, alloc)?;
+    growths(&rt, alloc)?;
+    tests(&rt)
 }

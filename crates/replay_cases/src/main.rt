@@ -2,236 +2,243 @@
 // or the refusal of the whole list, and the image's number of nodes.
 #![tactic(auto)]
 
-ghost use Rattle.std.specs.Prelude.{◌≡◌, ◌+◌, ◌*◌, ◌≤◌, ◌<◌, length};
-
 use index_image::fields;
+use std::alloc::{AllocError, Global};
 use std::io;
+use words::{call_word, end_word, index_word, variable_word};
 
-fn word(rt: &impl Print, w: u64) -> io::Result<()> {
-    print!(rt; " {w:08x}")
+#[derive(Clone, Copy)]
+enum Kind {
+    Monomials = 0,
+    Ratios = 1,
+}
+
+impl Kind {
+    // Adds an insert of a power of the variable, with index 0 and leading monomial one in a ratio index.
+    fn insert(self, list: &mut Vec<u32>, power: u8) -> Result<(), AllocError> {
+        let variable = variable_word(0, u32::from(power));
+        match self {
+            Kind::Monomials => list.extend_from_slice(&[call_word(0), variable, end_word(1)]),
+            Kind::Ratios => list.extend_from_slice(&[
+                call_word(2),
+                index_word(0),
+                variable,
+                end_word(1),
+                end_word(0),
+            ]),
+        }
+    }
+
+    // Adds the question whether an element divides the variable, or its low base divisor.
+    fn search(self, list: &mut Vec<u32>) -> Result<(), AllocError> {
+        let variable = variable_word(0, 1);
+        match self {
+            Kind::Monomials => list.extend_from_slice(&[call_word(1), variable, end_word(1)]),
+            Kind::Ratios => {
+                list.extend_from_slice(&[call_word(5), index_word(0), variable, end_word(1)])
+            }
+        }
+    }
+}
+
+// An index of capacity 100 and maxima 1, just opened.
+fn opened(alloc: Global, kind: Kind, variables: u32) -> Result<Vec<u8>, AllocError> {
+    let mut image = vec![in alloc; 0; 16384]?;
+    let mut maxima = program_io::bytes_of(alloc, &[1; 4])?;
+    maxima.truncate(4 * variables as usize);
+    divisor_index::divisor_index_open(
+        kind as u32,
+        variables,
+        100,
+        maxima.as_slice(),
+        image.as_mut_slice(),
+    );
+    Ok(image)
 }
 
 // How many answers were written: none is 0, and behind them the buffer is as it was.
-fn written(answers: &[u8; 16384]) -> usize
-    ensures { result ≤ 4096 }
-{
-    for n in 0..4096 {
-        if words::get(answers, n) == 0 {
-            return n;
-        }
+fn written(answers: &[u8]) -> usize {
+    let n = answers.len() / 4;
+    (0..n)
+        .position(|i| program_io::word_at(answers, i) == Some(0))
+        .unwrap_or(n)
+}
+
+// Runs the list, and shows the last six answers, or all.
+fn run(
+    rt: &impl Print,
+    alloc: Global,
+    name: &str,
+    image: &mut [u8],
+    list: &[u8],
+) -> io::Result<()> {
+    let mut answers = vec![in alloc; 0; 16384]?;
+    print!(rt; "{name}:")?;
+    let number = divisor_index::divisor_index_run(image, list, answers.as_mut_slice());
+    if number != 0 {
+        print!(rt; " 5{number:07x}")?;
     }
-    4096
-}
-
-// The first of the last six of n.
-fn last_six(n: usize) -> usize
-    ensures { result ≤ n }
-{
-    if n < 6 { 0 } else { n - 6 }
-}
-
-// The last six answers, or all.
-fn show(rt: &impl Print, answers: &[u8; 16384]) -> io::Result<()> {
-    let n = written(answers);
-    for i in last_six(n)..n {
-        word(rt, words::get(answers, i) as u64)?;
+    let n = written(answers.as_slice());
+    for i in n.saturating_sub(6)..n {
+        let answer = program_io::word_at(answers.as_slice(), i).unwrap_or(0);
+        print!(rt; " {answer:08x}")?;
     }
-    Ok(())
+    let nodes = program_io::word_at(image, fields::NODES).unwrap_or(0);
+    println!(rt; ", nodes {nodes}")
 }
 
-fn run(rt: &impl Print, name: &[u8], image: &mut [u8; 16384], list: &[u8]) -> io::Result<()> {
-    let mut answers = [0u8; 16384];
-    rt.write_all(name)?;
-    print!(rt; ":")?;
-    let r = divisor_index::divisor_index_run(image, list, &mut answers);
-    if r != 0 {
-        word(rt, 0x50000000 + r as u64)?;
-    }
-    show(rt, &answers)?;
-    println!(rt; ", nodes {}", words::get(image, fields::NODES))
+// The list on a monomial index of 4 variables.
+fn four(rt: &impl Print, alloc: Global, name: &str, list: &[u8]) -> io::Result<()> {
+    let mut image = opened(alloc, Kind::Monomials, 4)?;
+    run(rt, alloc, name, image.as_mut_slice(), list)
 }
 
-// The list on a monomial index of 4 variables and capacity 100.
-fn four(rt: &impl Print, name: &[u8], list: &[u8]) -> io::Result<()> {
-    let mut image = [0u8; 16384];
-    let ones = b"\x01\x00\x00\x00\x01\x00\x00\x00\x01\x00\x00\x00\x01\x00\x00\x00";
-    divisor_index::divisor_index_open(0, 4, 100, ones, &mut image);
-    run(rt, name, &mut image, list)
+// The same with a list of words.
+fn four_words(rt: &impl Print, alloc: Global, name: &str, list: &[u32]) -> io::Result<()> {
+    let list = program_io::bytes_of(alloc, list)?;
+    four(rt, alloc, name, list.as_slice())
 }
 
-// The list on an index of 1 variable and capacity 100.
-fn one(rt: &impl Print, name: &[u8], kind: u32, list: &[u8]) -> io::Result<()> {
-    let mut image = [0u8; 16384];
-    divisor_index::divisor_index_open(kind, 1, 100, b"\x01\x00\x00\x00", &mut image);
-    run(rt, name, &mut image, list)
+// The list on an index of 1 variable.
+fn one(rt: &impl Print, alloc: Global, name: &str, kind: Kind, list: &[u32]) -> io::Result<()> {
+    let mut image = opened(alloc, kind, 1)?;
+    let list = program_io::bytes_of(alloc, list)?;
+    run(rt, alloc, name, image.as_mut_slice(), list.as_slice())
 }
 
 // Lists refused whole, the empty one, and an image that is none.
-fn whole(rt: &impl Print) -> io::Result<()> {
-    four(rt, b"empty list", b"")?;
-    four(rt, b"one byte", b"\x60")?;
-    four(rt, b"no call in front", b"\x02\x00\x00\x10\x01\x00\x00\x00")?;
-    four(
-        rt,
-        b"a byte behind",
-        b"\x00\x00\x00\x60\x00\x00\x00\x00\x00",
-    )?;
-    let mut image = [0u8; 16384];
-    run(rt, b"image of zeros", &mut image, b"")
+fn whole(rt: &impl Print, alloc: Global) -> io::Result<()> {
+    four(rt, alloc, "empty list", b"")?;
+    four(rt, alloc, "one byte", b"\x60")?;
+    let no_call = [variable_word(0, 2), end_word(1)];
+    four_words(rt, alloc, "no call in front", &no_call)?;
+    let mut list = program_io::bytes_of(alloc, &[call_word(0), end_word(0)])?;
+    list.push(0)?;
+    four(rt, alloc, "a byte behind", list.as_slice())?;
+    let mut image = vec![in alloc; 0; 16384]?;
+    run(rt, alloc, "image of zeros", image.as_mut_slice(), b"")
 }
 
 // Refusals in their calls' places: number 9, no body, a body that goes on, a ratio index's number, each with a call served behind it.
-fn places(rt: &impl Print) -> io::Result<()> {
-    four(
-        rt,
-        b"number 9",
-        b"\x09\x00\x00\x60\x00\x00\x00\x60\x02\x00\x00\x10\x01\x00\x00\x00",
-    )?;
-    four(
-        rt,
-        b"no body",
-        b"\x00\x00\x00\x60\x01\x00\x00\x60\x00\x00\x00\x00",
-    )?;
-    four(
-        rt,
-        b"body that goes on",
-        b"\x00\x00\x00\x60\x00\x00\x00\x00\x00\x00\x00\x00\x01\x00\x00\x60\x00\x00\x00\x00",
-    )?;
-    four(
-        rt,
-        b"number of a ratio index",
-        b"\x05\x00\x00\x60\x00\x00\x00\x30\x00\x00\x00\x00\x00\x00\x00\x60\x00\x00\x00\x00",
-    )?;
+fn places(rt: &impl Print, alloc: Global) -> io::Result<()> {
+    let nine = [call_word(9), call_word(0), variable_word(0, 2), end_word(1)];
+    four_words(rt, alloc, "number 9", &nine)?;
+    let no_body = [call_word(0), call_word(1), end_word(0)];
+    four_words(rt, alloc, "no body", &no_body)?;
+    let goes_on = [
+        call_word(0),
+        end_word(0),
+        end_word(0),
+        call_word(1),
+        end_word(0),
+    ];
+    four_words(rt, alloc, "body that goes on", &goes_on)?;
+    let low_base_divisor = [
+        call_word(5),
+        index_word(0),
+        end_word(0),
+        call_word(0),
+        end_word(0),
+    ];
+    four_words(rt, alloc, "number of a ratio index", &low_base_divisor)?;
+    let contains = [
+        call_word(1),
+        end_word(0),
+        call_word(5),
+        index_word(0),
+        end_word(0),
+    ];
     one(
         rt,
-        b"number of a monomial index",
-        1,
-        b"\x01\x00\x00\x60\x00\x00\x00\x00\x05\x00\x00\x60\x00\x00\x00\x30\x00\x00\x00\x00",
+        alloc,
+        "number of a monomial index",
+        Kind::Ratios,
+        &contains,
     )
 }
 
 // Inserts with power 32,767 and 32,768, then a query with 32,767.
-fn powers(rt: &impl Print) -> io::Result<()> {
-    one(
-        rt,
-        b"powers",
-        0,
-        b"\x00\x00\x00\x60\xFF\x7F\x00\x10\x01\x00\x00\x00\x00\x00\x00\x60\x00\x80\x00\x10\x01\x00\x00\x00\x01\x00\x00\x60\xFF\x7F\x00\x10\x01\x00\x00\x00",
-    )?;
-    one(
-        rt,
-        b"powers, ratio index",
-        1,
-        b"\x02\x00\x00\x60\x00\x00\x00\x30\xFF\x7F\x00\x10\x01\x00\x00\x00\x00\x00\x00\x00\x02\x00\x00\x60\x00\x00\x00\x30\x00\x80\x00\x10\x01\x00\x00\x00\x00\x00\x00\x00\x05\x00\x00\x60\x00\x00\x00\x30\xFF\x7F\x00\x10\x01\x00\x00\x00",
-    )
+fn powers(rt: &impl Print, alloc: Global) -> io::Result<()> {
+    let monomials = [
+        call_word(0),
+        variable_word(0, 32767),
+        end_word(1),
+        call_word(0),
+        variable_word(0, 32768),
+        end_word(1),
+        call_word(1),
+        variable_word(0, 32767),
+        end_word(1),
+    ];
+    one(rt, alloc, "powers", Kind::Monomials, &monomials)?;
+    let signatures = [
+        call_word(2),
+        index_word(0),
+        variable_word(0, 32767),
+        end_word(1),
+        end_word(0),
+        call_word(2),
+        index_word(0),
+        variable_word(0, 32768),
+        end_word(1),
+        end_word(0),
+        call_word(5),
+        index_word(0),
+        variable_word(0, 32767),
+        end_word(1),
+    ];
+    one(rt, alloc, "powers, ratio index", Kind::Ratios, &signatures)
 }
 
-// Calls of number 9, as many as the list has room for.
-fn nines(list: &mut [u8]) {
-    let n = list.len() / 4;
-    for i in 0..n {
-        words::put(list, i, words::call_word(9));
+// Calls of number 9: one byte less than 4,096 of them, 4,096, and one call more than there is room for answers.
+fn lengths(rt: &impl Print, alloc: Global) -> io::Result<()> {
+    let nines = vec![in alloc; call_word(9); 4097]?;
+    for (name, n) in [
+        ("16,383 bytes", 16383),
+        ("16,384 bytes", 16384),
+        ("16,388 bytes", 16388),
+    ] {
+        let mut list = program_io::bytes_of(alloc, nines.as_slice())?;
+        list.truncate(n);
+        four(rt, alloc, name, list.as_slice())?;
     }
+    Ok(())
 }
 
-fn long(rt: &impl Print, name: &[u8], n: usize) -> io::Result<()>
-    requires { n ≤ 16388 }
-{
-    let mut list = [0u8; 16388];
-    nines(&mut list);
-    four(rt, name, &list[..n])
-}
-
-// One byte less than 4,096 calls, 4,096, and one call more than there is room for answers.
-fn lengths(rt: &impl Print) -> io::Result<()> {
-    long(rt, b"16,383 bytes", 16383)?;
-    long(rt, b"16,384 bytes", 16384)?;
-    long(rt, b"16,388 bytes", 16388)
-}
-
-// The power of insert i: all are 1, or they rise from 1.
-fn power(equal: bool, i: usize) -> u32
-    requires { i < 128 }
-    ensures { result < 65536 }
-{
-    if equal { 1 } else { i as u32 + 1 }
-}
-
-// Writes a call with a power of the variable from word `at` on.
-fn monomial_call(list: &mut [u8], at: usize, number: u32, power: u32)
-    requires at_in_bounds { 4 * at + 16 ≤ length list.old }
-    requires number_bound { (number < 7) × (power < 65536) }
-{
-    words::put(list, at, words::call_word(number));
-    words::put(list, at + 1, words::variable_word(0, power));
-    words::put(list, at + 2, words::end_word(1));
-}
-
-// n inserts, then whether one of them divides the variable.
-fn monomials(list: &mut [u8], n: usize, equal: bool)
-    requires { (n < 128) × (length list.old ≡ 4096) }
-{
+// n inserts, whose powers are all 1 or rise from 1, and a search.
+fn inserts(alloc: Global, kind: Kind, n: u8, equal: bool) -> Result<Vec<u32>, AllocError> {
+    let mut list = Vec::new(alloc);
     for i in 0..n {
-        monomial_call(list, 3 * i, 0, power(equal, i));
+        let power = if equal { 1 } else { i + 1 };
+        kind.insert(&mut list, power)?;
     }
-    monomial_call(list, 3 * n, 1, 1);
-}
-
-fn inserts(rt: &impl Print, name: &[u8], n: usize, equal: bool) -> io::Result<()>
-    requires { n < 128 }
-{
-    let mut list = [0u8; 4096];
-    monomials(&mut list, n, equal);
-    let e = 12 * n + 12;
-    one(rt, name, 0, &list[..e])
-}
-
-// Writes a call with index 0 and a power of the variable as signature. The word behind it is 0, which is the leading monomial one of an insert.
-fn ratio_call(list: &mut [u8], at: usize, number: u32, power: u32)
-    requires at_in_bounds { 4 * at + 16 ≤ length list.old }
-    requires number_bound { (number < 7) × (power < 65536) }
-{
-    words::put(list, at, words::call_word(number));
-    words::put(list, at + 1, words::index_word(0));
-    words::put(list, at + 2, words::variable_word(0, power));
-    words::put(list, at + 3, words::end_word(1));
-}
-
-// n inserts, then the low base divisor of the variable.
-fn ratios(list: &mut [u8], n: usize, equal: bool)
-    requires { (n < 128) × (length list.old ≡ 4096) }
-{
-    for i in 0..n {
-        ratio_call(list, 5 * i, 2, power(equal, i));
-    }
-    ratio_call(list, 5 * n, 5, 1);
-}
-
-fn ratio_inserts(rt: &impl Print, name: &[u8], n: usize, equal: bool) -> io::Result<()>
-    requires { n < 128 }
-{
-    let mut list = [0u8; 4096];
-    ratios(&mut list, n, equal);
-    let e = 20 * n + 16;
-    one(rt, name, 1, &list[..e])
+    kind.search(&mut list)?;
+    Ok(list)
 }
 
 // 64 entries unsplit, 65 split, 65 equal ones unsplit; the 101st insert refused.
-fn splits(rt: &impl Print) -> io::Result<()> {
-    inserts(rt, b"64 entries", 64, false)?;
-    inserts(rt, b"65 entries", 65, false)?;
-    inserts(rt, b"65 equal entries", 65, true)?;
-    inserts(rt, b"101 entries", 101, false)?;
-    ratio_inserts(rt, b"64 entries, ratio index", 64, false)?;
-    ratio_inserts(rt, b"65 entries, ratio index", 65, false)?;
-    ratio_inserts(rt, b"65 equal entries, ratio index", 65, true)?;
-    ratio_inserts(rt, b"101 entries, ratio index", 101, false)
+fn splits(rt: &impl Print, alloc: Global) -> io::Result<()> {
+    for (name, kind, n, equal) in [
+        ("64 entries", Kind::Monomials, 64, false),
+        ("65 entries", Kind::Monomials, 65, false),
+        ("65 equal entries", Kind::Monomials, 65, true),
+        ("101 entries", Kind::Monomials, 101, false),
+        ("64 entries, ratio index", Kind::Ratios, 64, false),
+        ("65 entries, ratio index", Kind::Ratios, 65, false),
+        ("65 equal entries, ratio index", Kind::Ratios, 65, true),
+        ("101 entries, ratio index", Kind::Ratios, 101, false),
+    ] {
+        let list = inserts(alloc, kind, n, equal)?;
+        one(rt, alloc, name, kind, list.as_slice())?;
+    }
+    Ok(())
 }
 
 fn main(rt: HostRuntime) -> io::Result<()> {
-    whole(&rt)?;
-    places(&rt)?;
-    powers(&rt)?;
-    lengths(&rt)?;
-    splits(&rt)
+    let alloc = rt.alloc();
+    whole(&rt, alloc)?;
+    places(&rt, alloc)?;
+    powers(&rt, alloc)?;
+    lengths(&rt, alloc)?;
+    splits(&rt, alloc)
 }

@@ -1,5 +1,6 @@
 use Rattle.std.proofs.Common.{◌≤◌}
-use Rattle.index_cases.proofs.changed.Given as goal
+use Rattle.show_index.proofs.calls.write_powers.Given as goal
 
+-- No more variables than powers.
 abbrev pub invariant-loop-i : goal.invariant-loop-i
 invariant-loop-i l = l.n ≤ l.i
