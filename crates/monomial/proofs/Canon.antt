@@ -195,10 +195,6 @@ pub some-told : (m n : ℕ) → Some n ≡ some_words m → n ≡ m
 some-told zero n e = cc
 some-told (suc m) n e = cc
 
-pub none-told : (m : ℕ) → None ≡ some_words m → m ≡ 0
-none-told zero e = refl
-none-told (suc m) e = cc
-
 pub or-none : (m : ℕ) → unwrap_or (some_words m) 0 ≡ m
 or-none zero = refl
 or-none (suc m) = refl

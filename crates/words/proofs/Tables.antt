@@ -13,7 +13,7 @@ use lib.Bits.{bit_or, or_add_and, and_le_l, and_le_r}
 use lib.Seq.{take_at, drop_at, take-add, drop-drop, drop-cons, get_or-take, get_or-drop, drop-append-le, take-append-le, drop-append-add, take-append-add, take-take, length-take-le}
 use Rattle.words.specs.Words.{words, bytes, put_w, paste_w}
 use Rattle.words.specs.Tables.{part, zeros, table, over}
-use Rattle.words.proofs.Laws.{Bytes, Words, length-words, length-bytes, bytes-append, bytes-words, words_take, put_w-split, paste_w-nil, paste_w-snoc, paste_w-before}
+use Rattle.words.proofs.Laws.{Bytes, Words, length-words, length-bytes, bytes-append, bytes-words, words_take, put_w-split}
 
 pub never : {X : Type 0} → false ≡ true → X
 never e = absurd (let z : ◌≡◌ {A = ℕ} 0 1 = cc in omega arith)
@@ -291,16 +291,7 @@ pub small-each : (l : List ℕ) → ((i : ℕ) → i < length l → get_or l i 0
 small-each [] h = small-nil
 small-each (x ∷ l) h = small-cons (h 0 (omega arith)) (small-each l (λ i k. h (suc i) (omega arith)))
 
--- ---- the writers' steps
-pub clear_none : (bs : List ℕ) (at : ℕ) → bs ≡ paste_w bs at (zeros 0)
-unfolding zeros
-clear_none bs at = sym (paste_w-nil bs at)
-
-pub clear-more : (bs s : List ℕ) (at i : ℕ) → s ≡ paste_w bs at (zeros i) → 4 * (at + i) + 4 ≤ length bs → put_w s (at + i) 0 ≡ paste_w bs at (zeros (i + 1))
-clear-more bs s at i e h =
-    let z : zeros (i + 1) ≡ zeros i ++ (0 ∷ []) = zeros-add i 1 ∙ rw (zeros-suc 0, zeros-nil) in
-    rw (e, z) (paste_w-snoc bs at (zeros i) (at + i) 0 (omega (arith, length-zeros i)) h)
-
+-- ---- a run of zeros, word by word
 -- the words so far are 0
 pub blank-more : (W : List ℕ) (at i : ℕ) → at + i < length W → part W at i ≡ zeros i → get_or W (at + i) 0 ≡ 0 → part W at (i + 1) ≡ zeros (i + 1)
 blank-more W at i h e z = part-snoc W at i h ∙ rw (e, z) (sym (zeros-add i 1 ∙ rw (zeros-suc 0, zeros-nil)))
@@ -328,22 +319,6 @@ bits-more W at i b w h ew e = (
     fewer p =
         let a = (part-append W at i 1 (zeros i) (zeros 1) (omega arith) (length-zeros i)).0 (p ∙ zeros-add i 1) in
         a.0
-
--- moving up by d, from the end down: the words from i on stand d further up
-pub up_none : (bs : List ℕ) (e d : ℕ) → bs ≡ paste_w bs (e + d) (part (words bs) e (e - e))
-up_none bs e d = let z : e - e ≡ 0 = omega arith in rw (z, part-nil (words bs) e) (sym (paste_w-nil bs (e + d)))
-
-pub up_more : (bs s : List ℕ) (i e d w : ℕ) → i < e → 4 * (e + d) ≤ length bs → s ≡ paste_w bs (i + 1 + d) (part (words bs) (i + 1) (e - (i + 1))) → w ≡ get_or (words s) i 0
-    → put_w s (i + d) w ≡ paste_w bs (i + d) (part (words bs) i (e - i))
-up_more bs s i e d w h l q g =
-    let W = words bs in
-    let lw = length-words bs in
-    let n = e - (i + 1) in
-    let en : e - i ≡ suc n = omega arith in
-    let ed : i + 1 + d ≡ i + d + 1 = omega arith in
-    let lp : length (part W (i + 1) n) ≡ n = length_part W (i + 1) n (omega arith) in
-    let gw : w ≡ get_or W i 0 = g ∙ ap (λ (z : List ℕ). get_or (words z) i 0) q ∙ paste_w-before bs (i + 1 + d) (part W (i + 1) n) i (omega arith) (omega arith) in
-    rw (q, ed, en, part-cons W i n (omega arith), gw) (paste_w-cons bs (i + d) (part W (i + 1) n) (get_or W i 0) (omega arith))
 
 -- words pasted behind words pasted
 pub paste_w-append : (bs : List ℕ) (at : ℕ) (a : List ℕ) (i : ℕ) (b : List ℕ) → i ≡ at + length a → 4 * i ≤ length bs → paste_w (paste_w bs at a) i b ≡ paste_w bs at (a ++ b)

@@ -1,14 +1,11 @@
 use native.Mathlib.Omega.{arith}
-use mathlib.Core.Path.{refl, sym, ◌∙◌}
+use mathlib.Core.Path.{sym, ◌∙◌}
 use lib.ListN.{drop_of_length-le}
 use Rattle.words.specs.Words.{words}
 use Rattle.words.proofs.Fields.{is-end-true, is-end-false}
 use Rattle.words.proofs.Laws.{length-words, word-and-rest}
 use Rattle.monomial.proofs.Canon.{told-some, told-none, is-var, front-none, front-end, front-bad-end, front-var, front-bad-var}
 use Rattle.monomial.proofs.canonical_words.Goals as goal
-
-pub loop-i-init : goal.loop-i-init
-loop-i-init c = (omega arith, refl)
 
 pub returns-then-payload-n : goal.returns-then-payload-n
 returns-then-payload-n c =
@@ -30,10 +27,6 @@ returns-then-not-is_variable c =
     told-none _ (loop.invariant.1
     ∙ rw (word-and-rest (words c.args.s.now) loop.i c.get-w.result (omega (arith, length-words c.args.s.now)) c.get-w.ensures)
     (front-bad-var _ _ _ _ _ (is-end-false _ c.is_end.ensures c.if-is_end.false) (sym c.is_variable.ensures ∙ c.if-not-is_variable.true)))
-
-pub overflow_add-n : goal.overflow_add-n
-overflow_add-n c = let v = sym c.is_variable.ensures ∙ c.if-not-is_variable.false in
-    omega (arith, (is-var _ _ _ v).below)
 
 pub loop-i-preserved : goal.loop-i-preserved
 loop-i-preserved c =

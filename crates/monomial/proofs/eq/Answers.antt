@@ -1,5 +1,5 @@
 use native.Mathlib.Omega.{arith}
-use mathlib.Core.Path.{refl, sym, ◌∙◌}
+use mathlib.Core.Path.{sym, ◌∙◌}
 use Rattle.words.specs.Words.{words}
 use Rattle.words.proofs.Laws.{length-words}
 use Rattle.monomial.proofs.Divisions.{equal-at, differ-at, equal-end, other_length}
@@ -9,9 +9,6 @@ pub returns-then-n-b : goal.returns-then-n-b
 returns-then-n-b c =
     sym (other_length (words c.args.a.now) (words c.args.b.now)
     (λ e. c.if-n-b.true (omega (arith, length-words c.args.a.now, length-words c.args.b.now))))
-
-pub loop-i-init : goal.loop-i-init
-loop-i-init c = refl
 
 pub returns-then-get : goal.returns-then-get
 returns-then-get c =

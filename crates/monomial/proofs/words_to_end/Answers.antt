@@ -10,9 +10,6 @@ use Rattle.monomial.proofs.Canon.{told-some, told-none}
 use Rattle.monomial.proofs.Ends.{end_none, end-here, end-past}
 use Rattle.monomial.proofs.words_to_end.Goals as goal
 
-pub loop-i-init : goal.loop-i-init
-loop-i-init c = (omega arith, let z : c.args.at - c.args.at ≡ 0 = omega arith in rw z)
-
 pub returns-then-is_end : goal.returns-then-is_end
 returns-then-is_end c =
     let loop = c.loop-i in

@@ -23,10 +23,6 @@ finish-requires c =
     let f = fits loop.invariant c.requires.b_in_bounds in
     (f.few, omega (arith, f))
 
-pub shape_of-out-then-u-eq0 : goal.shape_of-out-then-u-eq0
-shape_of-out-then-u-eq0 c =
-    c.finish.auto.out ∙ (fits c.loop-op.invariant c.requires.b_in_bounds).kept
-
 pub returns-then-u-eq0 : goal.returns-then-u-eq0
 returns-then-u-eq0 c =
     let finish = c.finish in
