@@ -14,7 +14,7 @@ use Rattle.words.specs.Kinds.{kind, ident, power, upper_half}
 use Rattle.monomial.specs.Monomial.{bias, Canonical, find, pow}
 use Rattle.monomial.specs.Operations.{Divides, all_below, divides, equal}
 use Rattle.monomial.specs.Walk.{past}
-use Rattle.std.specs.Prelude.{Some, None}
+use Rattle.monomial.specs.declared.Power.TheVariants.{Found, Absent}
 use Rattle.monomial.proofs.Canon.{Canon, canon-of, both_true, false-not-true}
 use Rattle.monomial.proofs.Powers.{pow-ids, pow-here, pow-past, pow-end}
 use Rattle.monomial.proofs.Walks.{Rest, Last, Next, word_at, turn, at-yes, at-no}
@@ -126,11 +126,11 @@ module _ {A B : List ℕ} {i j : ℕ} (s : Dividing A B i j) {x y : ℕ} (ex : x
 -- ---- the walk of `find_power`
 -- what a canonical list says of a variable: absent, or a power that is not 0
 pub find_cases : (k b n : ℕ) (ws : List ℕ) (v : ℕ) → 0 < k → Canon k b n ws
-    → ((find k ws v ≡ None) × (pow k ws v ≡ bias k)) ⊎ ((find k ws v ≡ Some (pow k ws v)) × (pow k ws v ≡ bias k → ⊥))
+    → ((find k ws v ≡ Absent) × (pow k ws v ≡ bias k)) ⊎ ((find k ws v ≡ Found (pow k ws v)) × (pow k ws v ≡ bias k → ⊥))
 unfolding Canon find
 find_cases k b n [] v h c = absurd c
 find_cases k b n (w ∷ ws) v h (inl e) =
-    let z : find k (w ∷ ws) v ≡ None = rw (ne_eqb (kind w) k (λ q. omega (arith, e.kinded)), e.last) in
+    let z : find k (w ∷ ws) v ≡ Absent = rw (ne_eqb (kind w) k (λ q. omega (arith, e.kinded)), e.last) in
     inl (z, pow-end k h n w ws v e)
 find_cases k b n (w ∷ ws) v h (inr (x, c)) =
     elim (ℕ_discrete (ident w) v) [
@@ -147,28 +147,28 @@ pub record Finding (k : ℕ) (A : List ℕ) (v i : ℕ) : Type 0 where
   pub ra : Rest k A i b
 
 module _ {k : ℕ} (pos : 0 < k) {A : List ℕ} (ca : Canonical k 4096 A) {v i : ℕ} (s : Finding k A v i) {w : ℕ} (e : w ≡ get_or A i 0) where
-  pub absent-here : upper_half w < 4096 * k + v → None ≡ find k A v
+  pub absent-here : upper_half w < 4096 * k + v → Absent ≡ find k A v
   absent-here h = sym (absent (find_cases k 4096 0 A v pos (canon-of ca)) (zero (word_at pos w s.ra e)))
     where
       zero : Last k A s.b w ⊎ Next k A i s.b w → pow k A v ≡ bias k
       zero (inl z) = z.none v s.below
       zero (inr z) = z.gap v (omega (arith, z.upper)) s.below
 
-      absent : ((find k A v ≡ None) × (pow k A v ≡ bias k)) ⊎ ((find k A v ≡ Some (pow k A v)) × (pow k A v ≡ bias k → ⊥)) → pow k A v ≡ bias k → find k A v ≡ None
+      absent : ((find k A v ≡ Absent) × (pow k A v ≡ bias k)) ⊎ ((find k A v ≡ Found (pow k A v)) × (pow k A v ≡ bias k → ⊥)) → pow k A v ≡ bias k → find k A v ≡ Absent
       absent (inl z) q = z.0
       absent (inr z) q = absurd (z.1 q)
 
-  pub found_here : upper_half w ≡ 4096 * k + v → Some (power w) ≡ find k A v
+  pub found_here : upper_half w ≡ 4096 * k + v → Found (power w) ≡ find k A v
   found_here h = sym (there (find_cases k 4096 0 A v pos (canon-of ca)) (word_at pos w s.ra e))
     where
-      there : ((find k A v ≡ None) × (pow k A v ≡ bias k)) ⊎ ((find k A v ≡ Some (pow k A v)) × (pow k A v ≡ bias k → ⊥)) → Last k A s.b w ⊎ Next k A i s.b w → find k A v ≡ Some (power w)
+      there : ((find k A v ≡ Absent) × (pow k A v ≡ bias k)) ⊎ ((find k A v ≡ Found (pow k A v)) × (pow k A v ≡ bias k → ⊥)) → Last k A s.b w ⊎ Next k A i s.b w → find k A v ≡ Found (power w)
       there c (inl z) = absurd (omega (arith, z.upper))
       there (inl c) (inr z) =
           let q : ident w ≡ v = omega (arith, z.upper) in
           absurd (z.var.some (sym z.here ∙ ap (pow k A) q ∙ c.1))
       there (inr c) (inr z) =
           let q : ident w ≡ v = omega (arith, z.upper) in
-          c.0 ∙ ap Some (ap (pow k A) (sym q) ∙ z.here)
+          c.0 ∙ ap Found (ap (pow k A) (sym q) ∙ z.here)
 
   pub found-later : 4096 * k + v < upper_half w → Finding k A v (i + 1)
   found-later h = go (word_at pos w s.ra e)

@@ -14,7 +14,7 @@ use Rattle.words.specs.Kinds.{kind, ident, power, var_word}
 use Rattle.words.proofs.Fields.{kind-var, ident-var, power-var, var-fits}
 use Rattle.words.proofs.Laws.{Words}
 use Rattle.monomial.specs.Monomial.{bias, Canonical, find, power_of, pow, vars_of, monomial_of}
-use Rattle.std.specs.Prelude.{Some}
+use Rattle.monomial.specs.declared.Power.TheVariants.{Found}
 use Rattle.monomial.proofs.Canon.{IsVar, IsEnd, Canon, canon-of, canonical-of, raise, lower}
 
 -- ---- the powers of a list
@@ -30,7 +30,7 @@ pub pow-past : (k w : ℕ) (ws : List ℕ) (v : ℕ) → (ident w ≡ v → ⊥)
 unfolding pow find
 pow-past k w ws v e = rw (ne_eqb (ident w) v e) (go (eqb (kind w) k))
   where
-    go : (t : Bool) → power_of k (cond (t && false) (Some (power w)) (find k ws v)) ≡ power_of k (find k ws v)
+    go : (t : Bool) → power_of k (cond (t && false) (Found (power w)) (find k ws v)) ≡ power_of k (find k ws v)
     go true = refl
     go false = refl
 

@@ -4,6 +4,8 @@ use Rattle.std.specs.Prelude.{◌≡◌, Bool, cond, not, ◌&&◌, List, [], �
 use Rattle.words.specs.Kinds.{kind, payload, ident, power, var_word, end_word}
 use Rattle.words.specs.Words.{words}
 use Rattle.monomial.specs.declared.Kind.{Kind}
+use Rattle.monomial.specs.declared.Power.{Power}
+use Rattle.monomial.specs.declared.Power.TheVariants.{Found, Absent}
 use Rattle.monomial.specs.declared.Kind.TheVariants.{Monomial, Ratio}
 
 -- the kind of the words of a monomial's variables, and of a ratio's
@@ -61,15 +63,15 @@ to_end n (w ∷ ws) = cond (eqb (kind w) 0) (n + 1) (to_end (n + 1) ws)
 unfoldable pub ended : List ℕ → ℕ → List ℕ
 ended s at = take (4 * to_end 0 (drop at (words s))) (drop (4 * at) s)
 
--- what a list of words says of variable v: the bits of its power, none where it is absent
-unfoldable pub find : ℕ → List ℕ → ℕ → Option ℕ
-find k [] v = None
-find k (w ∷ ws) v = cond (eqb (kind w) k && eqb (ident w) v) (Some (power w)) (find k ws v)
+-- what a list of words says of variable v: the bits of its power, or that it is absent
+unfoldable pub find : ℕ → List ℕ → ℕ → Power
+find k [] v = Absent
+find k (w ∷ ws) v = cond (eqb (kind w) k && eqb (ident w) v) (Found (power w)) (find k ws v)
 
 -- an absent variable has power 0
-unfoldable pub power_of : ℕ → Option ℕ → ℕ
-power_of k (Some p) = p
-power_of k None = bias k
+unfoldable pub power_of : ℕ → Power → ℕ
+power_of k (Found p) = p
+power_of k Absent = bias k
 
 -- the power of variable v; in a ratio, the power + 32,768
 unfoldable pub pow : ℕ → List ℕ → ℕ → ℕ

@@ -44,6 +44,14 @@ impl Kind {
     }
 }
 
+/// What a monomial or ratio says of a variable. An absent one has power 0, so this is no Option, whose None says that nothing is known;
+/// the interface of the index asks for this form.
+#[derive(Clone, Copy, Debug, PartialEq, Eq)]
+pub enum Power {
+    Found(u32),
+    Absent,
+}
+
 // Whether w is a variable's word of the kind, its id below the bound.
 #[tactic(auto, unfolding(crate::specs::Monomial::is_var))]
 pub fn is_variable(w: u32, kind: Kind, bound: u32) -> bool
@@ -140,8 +148,8 @@ pub fn known_at(s: &[u8], at: usize) -> &[u8]
     words_at(s, at, words_to_end(s, at))
 }
 
-// The bits of variable v's power in m, none where it is absent. Ids fall, so the walk stops at the first that is not above v.
-pub fn find_power(m: &[u8], kind: Kind, v: u32) -> Option<u32>
+// What m says of variable v. Ids fall, so the walk stops at the first that is not above v.
+pub fn find_power(m: &[u8], kind: Kind, v: u32) -> Power
     requires id { v < 4096 }
     requires starts { Starts (number kind) 4096 (words m.now) }
     ensures { result ≡ find (number kind) (first (number kind) (words m.now)) v }
@@ -150,13 +158,13 @@ pub fn find_power(m: &[u8], kind: Kind, v: u32) -> Option<u32>
     for w in variables::variables_of(m) {
         let u = words::upper_half(w);
         if u < upper {
-            return None;
+            return Power::Absent;
         }
         if u == upper {
-            return Some(words::power(w));
+            return Power::Found(words::power(w));
         }
     }
-    None
+    Power::Absent
 }
 
 // The power of variable v, absent being 0; in a ratio with 32,768 added.
@@ -165,7 +173,10 @@ pub fn power_of(m: &[u8], kind: Kind, v: u32) -> u32
     requires starts { Starts (number kind) 4096 (words m.now) }
     ensures { result ≡ pow (number kind) (first (number kind) (words m.now)) v }
 {
-    find_power(m, kind, v).unwrap_or(kind.bias())
+    let Power::Found(p) = find_power(m, kind, v) else {
+        return kind.bias();
+    };
+    p
 }
 
 // Whether a divides b, each a part of some longer list. A word of b below that of a lacks its variable or has the lower power.
