@@ -16,7 +16,6 @@ use Rattle.monomial.proofs.Laws.{canonical-result}
 use Rattle.fast_compare.specs.Map as map
 use Rattle.fast_compare.specs.Layout as labels
 use Rattle.fast_compare.specs.declared.Comparer.{Comparer}
-use Rattle.fast_compare.specs.declared.Comparer.TheVariants.{Known, New}
 use Rattle.fast_compare.specs.declared.Unlabelled.{Unlabelled}
 use Rattle.fast_compare.specs.declared.Unlabelled.TheVariants.{Full, NoLabel}
 use Rattle.fast_compare.proofs.Exact.{pasted}

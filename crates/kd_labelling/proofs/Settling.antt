@@ -1,13 +1,12 @@
 -- A value gets its label and its row. Assumes nothing.
 use mathlib.Core.Path.{◌≡◌, refl, sym, ap, ◌∙◌}
-use mathlib.Core.Bool.{Bool, true, false}
 use mathlib.Core.List.{List}
 use Prim.Native.Nat.{ℕ, ◌<◌}
 use native.Mathlib.Omega.{arith}
 use lib.ListN.{length, get_or}
 use Rattle.std.proofs.Common.{Result, Ok, Err}
 use Rattle.words.specs.Words.{words, paste_w}
-use Rattle.words.proofs.Tables.{never, paste-again}
+use Rattle.words.proofs.Tables.{paste-again}
 use Rattle.fast_compare.specs.Labels.{sorted}
 use Rattle.fast_compare.specs.Map.{Value, Good, State, Valid, cmp, value, place, answer, stored, after, rebuild}
 use Rattle.fast_compare.specs.Layout.{size, encode, Is, Gave}

@@ -2,6 +2,7 @@
 #![tactic(auto)]
 
 ghost use Rattle.std.specs.Prelude.{◌≡◌, ℕ, Ok, ◌<◌, length};
+ghost use Rattle.refusals.specs.Numbers as refusals;
 ghost use Rattle.label_work.specs.Door as Door;
 
 use fast_compare::{Comparer, Unlabelled};
@@ -49,7 +50,7 @@ fn number(a: Result<u32, Refusal>) -> u64
     }
 }
 
-// The length of a map's image in bytes, which is above 16; or 1, for question 1.
+// The length of a map's image in bytes, which is above 16; or 1, for question 1: C gets both as one number.
 #[unsafe(no_mangle)]
 pub extern "C" fn divisor_index_fast_compare_length(variables: u32, capacity: u32) -> u32
     ensures { result ≡ Door.length_for variables capacity }
@@ -58,6 +59,22 @@ pub extern "C" fn divisor_index_fast_compare_length(variables: u32, capacity: u3
         return 1;
     }
     fast_compare::length(variables as usize, capacity as usize) as u32
+}
+
+// Questions 1 and 2; writes an empty map.
+fn open(variables: u32, capacity: u32, image: &mut [u8]) -> Result<(), Refusal>
+    ensures { (refusals.told result ≡ Door.opening_for variables capacity (length image.old)) × (image.new ≡ Door.opened_bytes variables capacity image.old) }
+{
+    let v = variables as usize;
+    let c = capacity as usize;
+    if !monomial::sizes::sizes_fit(v, c) {
+        return Err(Refusal::Sizes);
+    }
+    if image.len() < fast_compare::length(v, c) {
+        return Err(Refusal::ShortImage);
+    }
+    fast_compare::open(image, v, c);
+    Ok(())
 }
 
 // Writes an empty map; 0, or the number of the question that says no.
@@ -69,16 +86,7 @@ pub extern "C" fn divisor_index_fast_compare_open(
 ) -> u32
     ensures { (result ≡ Door.opening_for variables capacity (length image.old)) × (image.new ≡ Door.opened_bytes variables capacity image.old) }
 {
-    let v = variables as usize;
-    let c = capacity as usize;
-    if !monomial::sizes::sizes_fit(v, c) {
-        return 1;
-    }
-    if image.len() < fast_compare::length(v, c) {
-        return 2;
-    }
-    fast_compare::open(image, v, c);
-    0
+    refusals::told(open(variables, capacity, image))
 }
 
 // The label of a value, which is stored where it is new; or a refusal's number in the upper half.
@@ -94,14 +102,21 @@ pub extern "C" fn divisor_index_fast_compare_get_comparer(
     number(a)
 }
 
+// Question 3; spaces the labels evenly.
+fn rebuild(image: &mut [u8]) -> Result<(), Refusal>
+    ensures { Door.Rebuilt (refusals.told result) image.old image.new }
+{
+    if !label_sound::sound(image) {
+        return Err(Refusal::Unsound);
+    }
+    label_insert::rebuild(image);
+    Ok(())
+}
+
 // Spaces the labels evenly; 0, or 3.
 #[unsafe(no_mangle)]
 pub extern "C" fn divisor_index_fast_compare_rebuild(image: &mut [u8]) -> u32
     ensures { Door.Rebuilt result image.old image.new }
 {
-    if !label_sound::sound(image) {
-        return 3;
-    }
-    label_insert::rebuild(image);
-    0
+    refusals::told(rebuild(image))
 }

@@ -5,7 +5,6 @@ use Rattle.std.proofs.Common.{Err}
 use Rattle.words.specs.Words.{words}
 use Rattle.fast_compare.specs.Map.{value_of, rebuild}
 use Rattle.fast_compare.specs.declared.Unlabelled.{Unlabelled}
-use Rattle.fast_compare.specs.declared.Unlabelled.TheVariants.{NoLabel}
 use Rattle.kd_labelling.proofs.Settling.{first_done, still, dealt, good-again, second-done}
 use Rattle.kd_labelling.proofs.settle.Goals as goal
 
