@@ -5,7 +5,6 @@
 ghost use Rattle.std.specs.Prelude.{◌≡◌, ◌+◌, ◌*◌, ◌≤◌, ◌<◌, length};
 ghost use Rattle.index_image.specs.Shape as at;
 
-use index_image::head::Head;
 use index_image::{Shape, fields};
 use std::io;
 
@@ -306,8 +305,8 @@ fn labels(rt: &impl Print, image: &[u8; 16384], n: usize) -> io::Result<()>
     requires { (2 ≤ n) × (n ≤ 64) }
 {
     match index_image::head::read(image) {
-        Head::Image(s) => three_labels(rt, image, s, n),
-        Head::Bad => number(rt, 0),
+        Some(s) => three_labels(rt, image, s, n),
+        None => number(rt, 0),
     }
 }
 
