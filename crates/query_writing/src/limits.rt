@@ -13,10 +13,8 @@ fn pass_all(q: &mut [u8], s: Shape)
     requires in_bounds { 368 ≤ length q.old }
     ensures { Limited (words q.new) s (λ v. 4294967295) }
 {
-    let mut v: usize = 0;
-    while v < s.variables {
+    for v in 0..s.variables {
         words::put(q, 1 + s.kind + v, 4294967295);
-        v += 1;
     }
 }
 
