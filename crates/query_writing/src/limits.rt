@@ -28,14 +28,8 @@ fn set_powers(q: &mut [u8], s: Shape, m: &[u8])
 {
     let top = words::id(words::get(m, 0)) as usize;
     words::runs::clear(q, 1 + s.kind, top + 1);
-    let mut i: usize = 0;
-    loop {
-        let w = words::get(m, i);
-        if words::kind(w) == 0 {
-            return;
-        }
+    for w in monomial::variables::variables_of(m) {
         words::put(q, 1 + s.kind + words::id(w) as usize, words::power(w));
-        i += 1;
     }
 }
 
