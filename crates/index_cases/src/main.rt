@@ -5,7 +5,6 @@
 ghost use Rattle.std.specs.Prelude.{◌≤◌, ◌<◌};
 ghost use Rattle.index_image.specs.Shape as at;
 
-use index_image::head::Head;
 use index_image::{Shape, fields};
 use std::alloc::{AllocError, Global};
 use std::io;
@@ -232,8 +231,8 @@ fn label_at(s: Shape, r: u8) -> usize
 
 fn label(image: &[u8], r: u8) -> Option<u32> {
     match index_image::head::read(image) {
-        Head::Image(s) => program_io::word_at(image, label_at(s, r)),
-        Head::Bad => None,
+        Some(s) => program_io::word_at(image, label_at(s, r)),
+        None => None,
     }
 }
 

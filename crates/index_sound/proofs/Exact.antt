@@ -7,7 +7,7 @@ use Rattle.words.specs.Words.{words}
 use Rattle.index_image.specs.Layout.{shape_of, Sound}
 use Rattle.index_image.specs.Head.{HeadOk, HeadIs}
 use Rattle.index_image.specs.declared.Shape.{Shape}
-use Rattle.index_image.specs.declared.head.Head.TheVariants.{Bad}
+use Rattle.std.specs.Prelude.{None}
 use Rattle.index_image.proofs.Heads.{same_shape}
 use Rattle.index_sound.specs.Checks.{TablesOk}
 use Rattle.index_sound.proofs.Decoding.{decode}
@@ -22,6 +22,6 @@ tables-sound bs s h = (
       rw e at (tables-ok bs x.state x.is),
 )
 
-pub no-image : (bs : List ℕ) → HeadIs (words bs) (length bs) Bad → Sound bs → ⊥
+pub no-image : (bs : List ℕ) → HeadIs (words bs) (length bs) None → Sound bs → ⊥
 unfolding HeadIs
 no-image bs h x = h (shape_of x.state) (head_ok bs x.state x.is)

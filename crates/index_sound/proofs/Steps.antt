@@ -17,7 +17,7 @@ use Rattle.words.proofs.Tables.{never, split_rows}
 use Rattle.divmask.specs.Tracker.{Maxima, maxima_lent}
 use Rattle.divmask.proofs.Growth.{lent-maxima}
 use Rattle.fast_compare.specs.Layout as labels
-use Rattle.kd_theory.specs.Tree.{Tree, inorder, count}
+use Rattle.kd_theory.specs.Tree.{Tree, inorder, count, nodes}
 use Rattle.index_image.specs.Shape as at
 use Rattle.index_image.specs.Layout.{Sound}
 use Rattle.index_image.specs.Head.{HeadOk, HeadIs}
@@ -28,8 +28,9 @@ use Rattle.index_image.specs.Door.{rows_in, Tables, EntriesOk}
 use Rattle.index_image.specs.Marks.{name_at, Named}
 use Rattle.leaf_rows.specs.Leaves.{Uppers}
 use Rattle.index_image.specs.declared.Shape.{Shape}
-use Rattle.index_image.specs.declared.head.Head.{Head}
-use Rattle.index_image.specs.declared.head.Head.TheVariants.{Image}
+use Rattle.std.specs.Prelude.{Option, Some, None}
+use Rattle.std.specs.Option.{option_eq}
+use borrow.Author.Tests.{eqb-true, eq-eqb}
 use Rattle.index_image.proofs.Bounds.{width_small, size_small, nodes-small, ratio-width, entry-inside}
 use Rattle.index_image.proofs.Gcds.{power_small, image-powers}
 use Rattle.index_image.proofs.Places.{node-fits}
@@ -71,8 +72,8 @@ CanMark bs at w n places =
 -- ---- what is known once some tables have passed
 module _ (bs : List ℕ) (s : Shape) (R : at.InRange s) (room : 4 * at.size s ≤ length bs) where
   -- what is asked before the entries are looked at
-  pub tables-of : MaximaOk (words bs) s → LabelsOk bs s → Tables (words bs) s
-  tables-of x l = record {
+  pub tables_of : MaximaOk (words bs) s → LabelsOk bs s → Tables (words bs) s
+  tables_of x l = record {
     map = x.map;
     few = λ k. let p = map_of bs s R room k (l k) in omega (arith, rows-count bs s R room k (l k).state p, p.valid.few, p.cap);
     rows = λ k j h.
@@ -146,11 +147,16 @@ module _ (bs : List ℕ) (s : Shape) (by : Bytes bs) (H : List ℕ) (high : (v :
     labels = λ k e m. (omega arith, omega (arith, label_small e));
   }
 
-  pub rooted : (r : ℕ) → Walked (words bs) s H 0 4294967296 0 0 s.entries r → Rooted (words bs) s r
+  pub rooted : (r : Option ℕ) → Walked (words bs) s H 0 4294967296 0 0 s.entries r → Rooted (words bs) s r
   rooted r w = record {
     only = λ t o. w.only t (record { is = o.is; inside = omega (arith, o.inside); few = o.few; bounded = all-bounded (inorder t) });
-    made = λ p. let f = w.made p in (f.0, record { is = f.1.is; inside = omega (arith, f.1.inside); few = f.1.few });
+    made = λ n p. let f = w.made n p in (f.0, record { is = f.1.is; inside = omega (arith, f.1.inside); few = f.1.few });
   }
+
+-- the answer of `==` on two options
+pub option_same : (r : Option ℕ) (n : ℕ) → (option_eq eqb r (Some n) ≡ true) ↔ (r ≡ Some n)
+option_same None n = (λ (z : false ≡ true). never z, λ (e : None ≡ Some n). let no : ⊥ = cc in absurd no)
+option_same (Some m) n = (λ (z : eqb m n ≡ true). ap Some (eqb-true m n z), λ (e : Some m ≡ Some n). let q : m ≡ n = cc in eq-eqb m n q)
 
 -- ---- the tree of the nodes
 module _ (W : List ℕ) (s : Shape) (R : Ready W s) where
@@ -163,26 +169,29 @@ module _ (W : List ℕ) (s : Shape) (R : Ready W s) where
   root-of : (n : NodesOk W s) → Root W s n.tree
   root-of n = record { is = n.is; inside = omega (arith, n.rows); few = omega (arith, n.all) }
 
-  -- a count that is not the number of entries
-  pub no-tree : (g : ℕ) → g ≡ get_or W (at.count_at (at.node_at s 0)) 0 → (g ≡ s.entries → ⊥) → (false ≡ true) ↔ NodesOk W s
-  no-tree g e h = refuse (λ n. h (e ∙ root-count n.tree (root-of n) ∙ n.all))
+  pub root_all : NodesOk W s → get_or W (at.count_at (at.node_at s 0)) 0 ≡ s.entries
+  root_all n = root-count n.tree (root-of n) ∙ n.all
 
   -- the count is, and what is behind the rows is 0: the number of rows decides
-  pub tree_is : (r g : ℕ) → Rooted W s r → g ≡ get_or W (at.count_at (at.node_at s 0)) 0 → g ≡ s.entries
-      → part W (at.node_at s s.nodes) ((2 * s.capacity - 1 - s.nodes) * at.node_width s.variables) ≡ zeros ((2 * s.capacity - 1 - s.nodes) * at.node_width s.variables)
-      → (eqb r s.nodes ≡ true) ↔ NodesOk W s
-  tree_is r g o e all rest = test r s.nodes to (λ n. o.only n.tree (root-of n) ∙ n.rows)
-    where
-      to : r ≡ s.nodes → NodesOk W s
-      to z =
-          let f = o.made (omega (arith, R.range.nodes-from)) in
-          record {
-            tree = f.0;
-            is = f.1.is;
-            rows = sym (o.only f.0 f.1) ∙ z;
-            all = sym (root-count f.0 f.1) ∙ sym e ∙ all;
-            rest = rest;
-          }
+  pub tree_is : (r : Option ℕ) → Rooted W s r
+      → NodesOk W s
+      ↔ ((get_or W (at.count_at (at.node_at s 0)) 0 ≡ s.entries)
+      × ((part W (at.node_at s s.nodes) ((2 * s.capacity - 1 - s.nodes) * at.node_width s.variables) ≡ zeros ((2 * s.capacity - 1 - s.nodes) * at.node_width s.variables))
+      × (r ≡ Some s.nodes)))
+  tree_is r o = (
+    λ (n : NodesOk W s). (root-count n.tree (root-of n) ∙ n.all, (n.rest, o.only n.tree (root-of n) ∙ ap Some n.rows)),
+    λ q.
+        let f = o.made s.nodes q.1.1 in
+        let z : r ≡ Some (nodes f.0) = o.only f.0 f.1 in
+        let e : r ≡ Some s.nodes = q.1.1 in
+        record {
+          tree = f.0;
+          is = f.1.is;
+          rows = cc;
+          all = sym (root-count f.0 f.1) ∙ q.0;
+          rest = q.1.0;
+        },
+  )
 
 -- the first row of the nodes and the unused ones lie within the image
 pub record NodesRest (s : Shape) (len : ℕ) : Type 0 where
@@ -203,7 +212,7 @@ nodes-rest bs s R =
 
 -- ---- the header
 -- the numbers that were read are those of an image
-pub head-is : (W : List ℕ) (len : ℕ) (h : Head) (s : Shape) → h ≡ Image s → HeadIs W len h → HeadOk W len s
+pub head-is : (W : List ℕ) (len : ℕ) (h : Option Shape) (s : Shape) → h ≡ Some s → HeadIs W len h → HeadOk W len s
 unfolding HeadIs
 head-is W len h s e x = rw e at x
 

@@ -1,5 +1,5 @@
 -- What the door's checks decide, table by table; together they decide `Sound`. Assumes nothing.
-use Rattle.std.specs.Prelude.{◌≡◌, List, ◌↔◌, ◌⊎◌, ℕ, ◌+◌, ◌-◌, ◌*◌, ◌≤◌, ◌<◌, get_or}
+use Rattle.std.specs.Prelude.{◌≡◌, List, ◌↔◌, ◌⊎◌, ℕ, ◌+◌, ◌-◌, ◌*◌, ◌≤◌, ◌<◌, get_or, Option, Some}
 use Rattle.words.specs.Words.{words}
 use Rattle.words.specs.Tables.{part, zeros}
 use Rattle.divmask.specs.Tracker.{Maxima}
@@ -53,10 +53,10 @@ pub record Root (W : List ℕ) (s : Shape) (t : Tree) : Type 0 where
   pub inside : nodes t ≤ s.nodes
   pub few : count t ≤ s.entries
 
--- r is the number of its rows; 0 where there is none
-pub record Rooted (W : List ℕ) (s : Shape) (r : ℕ) : Type 0 where
-  pub only : (t : Tree) → Root W s t → r ≡ nodes t
-  pub made : 0 < r → (t : Tree) × Root W s t
+-- r is the number of its rows, or that there is none
+pub record Rooted (W : List ℕ) (s : Shape) (r : Option ℕ) : Type 0 where
+  pub only : (t : Tree) → Root W s t → r ≡ Some (nodes t)
+  pub made : (n : ℕ) → r ≡ Some n → (t : Tree) × Root W s t
 
 -- ---- question 3: 0 is served
 pub record Judged (bs : List ℕ) (r : ℕ) : Type 0 where

@@ -2,8 +2,9 @@
 // Each table is judged by the ones before it, and what follows from other words is made again and compared.
 #![tactic(auto)]
 
-ghost use Rattle.std.specs.Prelude.{◌≡◌, true, ◌↔◌, ℕ, ◌+◌, ◌*◌, ◌≤◌, ◌<◌, length, get_or};
+ghost use Rattle.std.specs.Prelude.{◌≡◌, true, ◌↔◌, ℕ, ◌+◌, ◌*◌, ◌≤◌, ◌<◌, length, get_or, Ok, IfErr};
 ghost use Rattle.words.specs.Words.{words};
+ghost use Rattle.refusals.specs.declared.Refusal.TheVariants.{Unsound};
 ghost use Rattle.words.specs.Tables.{part};
 ghost use Rattle.divmask.specs.Tracker.{Maxima};
 ghost use Rattle.index_image.specs.Shape as at;
@@ -13,8 +14,8 @@ ghost use Rattle.index_image.specs.Walk.{Ready};
 ghost use Rattle.index_image.specs.Door.{Tables, EntriesOk};
 ghost use Rattle.index_sound.specs.Checks as check;
 
-use index_image::head::Head;
 use index_image::{Shape, fields};
+use refusals::Refusal;
 
 // Whether one maximum a variable stands from word i on.
 fn maxima_at(image: &[u8], variables: usize, i: usize) -> bool
@@ -33,10 +34,7 @@ fn maxima_ok(image: &[u8], s: Shape) -> bool
     ensures { (result ≡ true) ↔ check.MaximaOk (words image.now) s }
 {
     let m = s.variables;
-    if !maxima_at(image, m, fields::HEADER) {
-        return false;
-    }
-    maxima_at(image, m, fields::HEADER + m)
+    maxima_at(image, m, fields::HEADER) && maxima_at(image, m, fields::HEADER + m)
 }
 
 // Whether a ratio index has a sound label map.
@@ -61,13 +59,9 @@ fn permutation_ok(image: &[u8], s: Shape) -> bool
 {
     let p = s.permutation_at();
     let n = s.entries;
-    if !index_tables::marks::in_range(image, p, n) {
-        return false;
-    }
-    if !index_tables::marks::all_named(image, p, 1, n, n) {
-        return false;
-    }
-    words::runs::is_blank(image, p + n, s.capacity - n)
+    index_tables::marks::in_range(image, p, n)
+        && index_tables::marks::all_named(image, p, 1, n, n)
+        && words::runs::is_blank(image, p + n, s.capacity - n)
 }
 
 // Whether each row of the label map is the ratio of an entry.
@@ -91,17 +85,14 @@ fn unbounded(hi: &mut [u8])
     ensures hi_len_unchanged { length hi.new ≡ length hi.old }
     ensures by_index { (v : ℕ) → 4 * v + 4 ≤ length hi.old → get_or (words hi.new) v 0 ≡ 32768 }
 {
-    let n = hi.len() / 4;
-    let mut i: usize = 0;
-    while i < n {
+    for i in 0..hi.len() / 4 {
         words::put(hi, i, 32768);
-        i += 1;
     }
 }
 
-// The number of rows of the tree of at most all entries at the first node row; 0 where there is none.
+// The number of rows of the tree of at most all entries at the first node row; none where there is no such tree.
 // `hi` has a word a variable, for the bounds that go down the tree.
-fn walk_from_root(image: &[u8], s: Shape, hi: &mut [u8]) -> usize
+fn walk_from_root(image: &[u8], s: Shape, hi: &mut [u8]) -> Option<usize>
     requires ready { Ready (words image.now) s }
     requires hi_len { length hi.old ≡ 4 * s.variables }
     ensures { check.Rooted (words image.now) s result }
@@ -113,7 +104,7 @@ fn walk_from_root(image: &[u8], s: Shape, hi: &mut [u8]) -> usize
     index_walk::walk(image, s, hi, 0, 4294967296, 0, 0, s.entries)
 }
 
-fn tree_rows(image: &[u8], s: Shape) -> usize
+fn tree_rows(image: &[u8], s: Shape) -> Option<usize>
     requires { Ready (words image.now) s }
     ensures { check.Rooted (words image.now) s result }
 {
@@ -127,38 +118,25 @@ fn nodes_ok(image: &[u8], s: Shape) -> bool
     requires { Ready (words image.now) s }
     ensures { (result ≡ true) ↔ check.NodesOk (words image.now) s }
 {
-    if words::get(image, s.node_at(0) + fields::COUNT) as usize != s.entries {
-        return false;
-    }
     let rest = (2 * s.capacity - 1 - s.nodes) * (s.variables + fields::NODE);
-    if !words::runs::is_blank(image, s.node_at(s.nodes), rest) {
-        return false;
-    }
-    tree_rows(image, s) == s.nodes
+    words::get(image, s.node_at(0) + fields::COUNT) as usize == s.entries
+        && words::runs::is_blank(image, s.node_at(s.nodes), rest)
+        && tree_rows(image, s) == Some(s.nodes)
 }
 
 // Whether the tables hold an index, which the header's numbers say where to find.
+#[tactic(auto, using(crate::proofs::Steps::tables_of, crate::proofs::Steps::ready_of))]
 fn tables_ok(image: &[u8], s: Shape) -> bool
     requires in_range { at.InRange s }
     requires s_in_bounds { 4 * at.size s ≤ length image.now }
     ensures { (result ≡ true) ↔ check.TablesOk image.now s }
 {
-    if !maxima_ok(image, s) {
-        return false;
-    }
-    if !labels_ok(image, s) {
-        return false;
-    }
-    if !index_tables::entries::entries_ok(image, s) {
-        return false;
-    }
-    if !permutation_ok(image, s) {
-        return false;
-    }
-    if !rows_named(image, s) {
-        return false;
-    }
-    nodes_ok(image, s)
+    maxima_ok(image, s)
+        && labels_ok(image, s)
+        && index_tables::entries::entries_ok(image, s)
+        && permutation_ok(image, s)
+        && rows_named(image, s)
+        && nodes_ok(image, s)
 }
 
 // Whether the bytes begin with the image of a valid index.
@@ -166,15 +144,28 @@ pub fn sound(image: &[u8]) -> bool
     ensures { (result ≡ true) ↔ Sound image.now }
 {
     match index_image::head::read(image) {
-        Head::Image(s) => tables_ok(image, s),
-        Head::Bad => false,
+        Some(s) => tables_ok(image, s),
+        None => false,
+    }
+}
+
+// Question 3: an image that is not sound is refused.
+fn judge(image: &[u8]) -> Result<(), Refusal>
+    ensures served { (result ≡ Ok tt) ↔ Sound image.now }
+    ensures refused { IfErr result (λ e. e ≡ Unsound) }
+{
+    if sound(image) {
+        Ok(())
+    } else {
+        Err(Refusal::Unsound)
     }
 }
 
 // The door of question 3 alone: 0 where the bytes begin with the image of a valid index, else 3. It reads only.
+#[tactic(auto, unfolding(refusals::specs::Numbers::told, refusals::specs::Numbers::number))]
 #[unsafe(no_mangle)]
 pub extern "C" fn divisor_index_check(image: &[u8]) -> u32
     ensures { check.Judged image.now result }
 {
-    if sound(image) { 0 } else { 3 }
+    refusals::told(judge(image))
 }

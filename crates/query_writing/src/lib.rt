@@ -30,10 +30,7 @@ fn put_six(q: &mut [u8], at: usize, a: usize, b: usize, c: usize, d: usize, e: u
 fn node_mask(lm: bool, mask: usize) -> usize
     ensures { result ≡ cond lm mask 4294967295 }
 {
-    if lm {
-        return mask;
-    }
-    4294967295
+    if lm { mask } else { 4294967295 }
 }
 
 // Writes the search's number, a mask with a short exponent vector in the upper half, and the mask for nodes.
@@ -74,15 +71,17 @@ pub fn put_range(q: &mut [u8], from: u64, to: u64, floor: u64)
 }
 
 // Where the lm or the signature monomial of entry 0 stands.
+#[tactic(auto, unfolding(query_words::specs::Asked::slot_at))]
 fn slot_of(s: Shape, lm: bool) -> usize
     requires { at.InRange s }
     ensures { result ≡ slot_at s lm 0 }
 {
     let entry = s.entry_at(0);
     if lm {
-        return entry;
+        entry
+    } else {
+        entry + (s.variables + fields::SIGN)
     }
-    entry + (s.variables + fields::SIGN)
 }
 
 // Writes where the monomial of entry 0 that is to divide stands, and its mask.

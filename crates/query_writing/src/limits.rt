@@ -13,10 +13,8 @@ fn pass_all(q: &mut [u8], s: Shape)
     requires in_bounds { 368 ≤ length q.old }
     ensures { Limited (words q.new) s (λ v. 4294967295) }
 {
-    let mut v: usize = 0;
-    while v < s.variables {
+    for v in 0..s.variables {
         words::put(q, 1 + s.kind + v, 4294967295);
-        v += 1;
     }
 }
 
@@ -30,14 +28,8 @@ fn set_powers(q: &mut [u8], s: Shape, m: &[u8])
 {
     let top = words::id(words::get(m, 0)) as usize;
     words::runs::clear(q, 1 + s.kind, top + 1);
-    let mut i: usize = 0;
-    loop {
-        let w = words::get(m, i);
-        if words::kind(w) == 0 {
-            return;
-        }
+    for w in monomial::variables::variables_of(m) {
         words::put(q, 1 + s.kind + words::id(w) as usize, words::power(w));
-        i += 1;
     }
 }
 

@@ -1,42 +1,54 @@
 use native.Mathlib.Omega.{arith}
-use mathlib.Core.Path.{◌∙◌}
-use Rattle.words.proofs.Answers.{passed, stop}
+use mathlib.Core.Path.{◌≡◌, sym, ◌∙◌}
+use mathlib.Core.List.{List}
+use Prim.Native.Nat.{ℕ, ◌+◌, ◌-◌, ◌*◌}
+use lib.ListN.{get_or}
+use borrow.Author.Tests.{eqb-true}
+use Rattle.words.proofs.Tables.{never}
+use Rattle.words.specs.Tables.{part, zeros}
+use Rattle.index_image.specs.Shape as at
+use Rattle.index_image.specs.declared.Shape.{Shape}
 use Rattle.words.specs.Words.{words}
-use Rattle.index_sound.proofs.Steps.{no-tree, tree_is, nodes-rest}
+use Rattle.index_sound.proofs.Steps.{tree_is, nodes-rest, option_same, root_all}
+use Rattle.index_sound.proofs.nodes_ok.Goals.{then-get-s, else-get-s}
 use Rattle.index_sound.proofs.nodes_ok.Goals as goal
-
-pub overflow_add-node_at : goal.overflow_add-node_at
-overflow_add-node_at c =
-    let k = nodes-rest c.args.image.now c.args.s c.requires in
-    omega (arith, k.first, c.node_at.ensures, k.small)
 
 pub get-requires : goal.get-requires
 get-requires c = omega (arith, (nodes-rest c.args.image.now c.args.s c.requires).first, c.node_at.ensures)
 
-pub returns-then-get-s : goal.returns-then-get-s
-returns-then-get-s c =
-    let Node-at = c.node_at in
-    no-tree (words c.args.image.now) c.args.s c.requires _ (c.get.ensures ∙ rw Node-at.ensures)
-    c.if-get-s.true
-
-pub overflow_mul-rest-2 : goal.overflow_mul-rest-2
-overflow_mul-rest-2 c =
-    omega (arith, (nodes-rest c.args.image.now c.args.s c.requires).fits)
-
 pub is_blank-requires : goal.is_blank-requires
 is_blank-requires c =
-    omega (arith, (nodes-rest c.args.image.now c.args.s c.requires).room, c.node_at-2.ensures)
+    omega (arith, (nodes-rest c.args.image.now c.args.s c.requires).room, c.node_at-then-get-s.ensures)
 
-pub returns-then-not-is_blank : goal.returns-then-not-is_blank
-returns-then-not-is_blank c = stop _ (rw c.node_at-2.ensures at c.is_blank.ensures) c.if-not-is_blank.true (λ n. n.rest)
+-- what the two tests before the walk tell
+record Before (W : List ℕ) (s : Shape) (g : ℕ) : Type 0 where
+  count : g ≡ s.entries
+  rest : part W (at.node_at s s.nodes) ((2 * s.capacity - 1 - s.nodes) * at.node_width s.variables) ≡ zeros ((2 * s.capacity - 1 - s.nodes) * at.node_width s.variables)
 
-pub returns : goal.returns
-returns c =
-    let Node-at = c.node_at in
-    let get = c.get in
-    let if1 = c.if-get-s in
-    let node-at2 = c.node_at-2 in
-    let is-blank = c.is_blank in
-    tree_is (words c.args.image.now) c.args.s c.requires _ _ c.tree_rows.ensures
-    (get.ensures ∙ rw Node-at.ensures) if1.false
-    (passed _ (rw node-at2.ensures at is-blank.ensures) c.if-not-is_blank.false)
+pub returns-then-is_blank : goal.returns-then-is_blank
+returns-then-is_blank c =
+    let W = words c.args.image.now in
+    let j = tree_is W c.args.s c.requires c.tree_rows.result c.tree_rows.ensures in
+    let k = option_same c.tree_rows.result c.args.s.nodes in
+    let g : c.get.result ≡ get_or W (at.count_at (at.node_at c.args.s 0)) 0 = c.get.ensures ∙ rw c.node_at.ensures in
+    let b : Before W c.args.s c.get.result = elim c.if-get-s.branch [
+      | then-get-s w ↦ record {
+        count = w.if-get-s.true;
+        rest = (rw w.node_at-then-get-s.ensures at w.is_blank.ensures).0 (sym w.value-is ∙ c.if-is_blank.true);
+      }
+      | else-get-s w ↦ absurd (w.if-get-s.false (eqb-true _ _ (sym w.value-is ∙ c.if-is_blank.true)))
+    ] in (
+      λ z. j.1 (sym g ∙ b.count, (b.rest, k.0 (sym c.eq.ensures ∙ z))),
+      λ n. c.eq.ensures ∙ k.1 (j.0 n).1.1,
+    )
+
+pub returns-else-is_blank : goal.returns-else-is_blank
+returns-else-is_blank c = (
+  λ z. never (sym c.if-is_blank.false ∙ z),
+  λ n.
+      let e = root_all (words c.args.image.now) c.args.s c.requires n in
+      elim c.if-get-s.branch [
+        | then-get-s w ↦ w.value-is ∙ (rw w.node_at-then-get-s.ensures at w.is_blank.ensures).1 n.rest
+        | else-get-s w ↦ absurd (w.if-get-s.false (c.get.ensures ∙ rw c.node_at.ensures e))
+      ],
+)

@@ -1,76 +1,64 @@
-use Rattle.words.proofs.Answers.{passed, stop, last}
-use Rattle.index_sound.proofs.Steps.{tables-of, ready_of}
+use mathlib.Core.Path.{◌≡◌, sym, ◌∙◌}
+use mathlib.Core.Bool.{true}
+use Rattle.words.specs.Words.{words}
+use Rattle.words.proofs.Tables.{never}
+use Rattle.index_image.specs.Door.{EntriesOk}
+use Rattle.index_sound.specs.Checks.{MaximaOk, LabelsOk, PermutationOk}
+use Rattle.index_sound.proofs.Steps.{tables_of, ready_of}
+use Rattle.index_sound.proofs.tables_ok.Goals.{then-maxima_ok, else-maxima_ok, then-labels_ok, else-labels_ok, then-entries_ok, else-entries_ok, then-permutation_ok, else-permutation_ok}
 use Rattle.index_sound.proofs.tables_ok.Goals as goal
 
-pub returns-then-not-maxima_ok : goal.returns-then-not-maxima_ok
-returns-then-not-maxima_ok c = stop _ c.maxima_ok.ensures c.if-not-maxima_ok.true (λ x. x.maxima)
+-- where the tables hold an index, no earlier check answered no
+pub returns-else-rows_named : goal.returns-else-rows_named
+returns-else-rows_named c = (
+  λ z. never (sym c.if-rows_named.false ∙ z),
+  λ x.
+      let two : c.if-maxima_ok.value ≡ true = elim c.if-maxima_ok.branch [
+        | then-maxima_ok w ↦ w.value-is ∙ w.labels_ok.ensures.1 x.labels
+        | else-maxima_ok w ↦ never (sym w.if-maxima_ok.false ∙ c.maxima_ok.ensures.1 x.maxima)
+      ] in
+      let three : c.if-labels_ok.value ≡ true = elim c.if-labels_ok.branch [
+        | then-labels_ok w ↦ w.value-is ∙ w.entries_ok.ensures.1 x.entries
+        | else-labels_ok w ↦ never (sym w.if-labels_ok.false ∙ two)
+      ] in
+      let four : c.if-entries_ok.value ≡ true = elim c.if-entries_ok.branch [
+        | then-entries_ok w ↦ w.value-is ∙ w.permutation_ok.ensures.1 x.permutation
+        | else-entries_ok w ↦ never (sym w.if-entries_ok.false ∙ three)
+      ] in
+      elim c.if-permutation_ok.branch [
+        | then-permutation_ok w ↦ w.value-is ∙ w.rows_named.ensures.1 x.named
+        | else-permutation_ok w ↦ never (sym w.if-permutation_ok.false ∙ four)
+      ],
+)
 
-pub returns-then-not-labels_ok : goal.returns-then-not-labels_ok
-returns-then-not-labels_ok c = stop _ c.labels_ok.ensures c.if-not-labels_ok.true (λ x. x.labels)
+pub entries_ok-requires-clause-tables : goal.entries_ok-requires-clause-tables
+entries_ok-requires-clause-tables c =
+    let one : MaximaOk (words c.args.image.now) c.args.s × LabelsOk c.args.image.now c.args.s = elim c.if-maxima_ok.branch [
+      | then-maxima_ok w ↦ (c.maxima_ok.ensures.0 w.if-maxima_ok.true, w.labels_ok.ensures.0 (sym w.value-is ∙ c.if-labels_ok.true))
+      | else-maxima_ok w ↦ never (sym w.if-maxima_ok.false ∙ (sym w.value-is ∙ c.if-labels_ok.true))
+    ] in
+    tables_of c.args.image.now c.args.s c.requires.in_range c.requires.s_in_bounds one.0 one.1
 
-pub entries_ok-requires : goal.entries_ok-requires
-entries_ok-requires c =
-    let maxima-ok = c.maxima_ok in record {
-      in_range = c.requires.in_range;
-      s_in_bounds = c.requires.s_in_bounds;
-      tables = tables-of c.args.image.now c.args.s c.requires.in_range c.requires.s_in_bounds
-          (passed _ maxima-ok.ensures c.if-not-maxima_ok.false) (passed _ c.labels_ok.ensures c.if-not-labels_ok.false);
-    }
-
-pub returns-then-not-entries_ok : goal.returns-then-not-entries_ok
-returns-then-not-entries_ok c = stop _ c.entries_ok.ensures c.if-not-entries_ok.true (λ x. x.entries)
-
-pub returns-then-not-permutation_ok : goal.returns-then-not-permutation_ok
-returns-then-not-permutation_ok c = stop _ c.permutation_ok.ensures c.if-not-permutation_ok.true (λ x. x.permutation)
-
-pub rows_named-requires : goal.rows_named-requires
-rows_named-requires c =
-    let maxima-ok = c.maxima_ok in
-    let if1 = c.if-not-maxima_ok in
-    let labels-ok = c.labels_ok in
-    let if2 = c.if-not-labels_ok in
-    let entries-ok = c.entries_ok in record {
-      in_range = c.requires.in_range;
-      s_in_bounds = c.requires.s_in_bounds;
-      tables = tables-of c.args.image.now c.args.s c.requires.in_range c.requires.s_in_bounds (passed _ maxima-ok.ensures if1.false)
-          (passed _ labels-ok.ensures if2.false);
-      entries_ok = (passed _ entries-ok.ensures c.if-not-entries_ok.false);
-    }
-
-pub returns-then-not-rows_named : goal.returns-then-not-rows_named
-returns-then-not-rows_named c = stop _ c.rows_named.ensures c.if-not-rows_named.true (λ x. x.named)
-
+-- what the earlier checks tell, from the last one back
 pub nodes_ok-requires : goal.nodes_ok-requires
 nodes_ok-requires c =
-    let maxima-ok = c.maxima_ok in
-    let if1 = c.if-not-maxima_ok in
-    let labels-ok = c.labels_ok in
-    let if2 = c.if-not-labels_ok in
-    let entries-ok = c.entries_ok in
-    let if3 = c.if-not-entries_ok in
-    let permutation-ok = c.permutation_ok in
-    ready_of c.args.image.now c.args.s c.requires.in_range c.requires.s_in_bounds
-    (tables-of c.args.image.now c.args.s c.requires.in_range c.requires.s_in_bounds (passed _ maxima-ok.ensures if1.false)
-    (passed _ labels-ok.ensures if2.false))
-    (passed _ entries-ok.ensures if3.false) (passed _ permutation-ok.ensures c.if-not-permutation_ok.false)
-
-pub returns : goal.returns
-returns c =
-    let maxima-ok = c.maxima_ok in
-    let if1 = c.if-not-maxima_ok in
-    let labels-ok = c.labels_ok in
-    let if2 = c.if-not-labels_ok in
-    let entries-ok = c.entries_ok in
-    let if3 = c.if-not-entries_ok in
-    let permutation-ok = c.permutation_ok in
-    let if4 = c.if-not-permutation_ok in
-    last _ c.nodes_ok.ensures
-    (λ n. record {
-      maxima = (passed _ maxima-ok.ensures if1.false);
-      labels = (passed _ labels-ok.ensures if2.false);
-      entries = (passed _ entries-ok.ensures if3.false);
-      permutation = (passed _ permutation-ok.ensures if4.false);
-      named = (passed _ c.rows_named.ensures c.if-not-rows_named.false);
-      nodes-ok = n;
-    })
-    (λ x. x.nodes-ok)
+    let W = words c.args.image.now in
+    let s = c.args.s in
+    let four : c.if-entries_ok.value ≡ true = elim c.if-permutation_ok.branch [
+      | then-permutation_ok w ↦ w.if-permutation_ok.true
+      | else-permutation_ok w ↦ never (sym w.if-permutation_ok.false ∙ (sym w.value-is ∙ c.if-rows_named.true))
+    ] in
+    let three : (c.if-labels_ok.value ≡ true) × PermutationOk W s = elim c.if-entries_ok.branch [
+      | then-entries_ok w ↦ (w.if-entries_ok.true, w.permutation_ok.ensures.0 (sym w.value-is ∙ four))
+      | else-entries_ok w ↦ never (sym w.if-entries_ok.false ∙ (sym w.value-is ∙ four))
+    ] in
+    let two : (c.if-maxima_ok.value ≡ true) × EntriesOk W s = elim c.if-labels_ok.branch [
+      | then-labels_ok w ↦ (w.if-labels_ok.true, w.entries_ok.ensures.0 (sym w.value-is ∙ three.0))
+      | else-labels_ok w ↦ never (sym w.if-labels_ok.false ∙ (sym w.value-is ∙ three.0))
+    ] in
+    let one : MaximaOk W s × LabelsOk c.args.image.now s = elim c.if-maxima_ok.branch [
+      | then-maxima_ok w ↦ (c.maxima_ok.ensures.0 w.if-maxima_ok.true, w.labels_ok.ensures.0 (sym w.value-is ∙ two.0))
+      | else-maxima_ok w ↦ never (sym w.if-maxima_ok.false ∙ (sym w.value-is ∙ two.0))
+    ] in
+    ready_of c.args.image.now s c.requires.in_range c.requires.s_in_bounds
+    (tables_of c.args.image.now s c.requires.in_range c.requires.s_in_bounds one.0 one.1) two.1 three.1
