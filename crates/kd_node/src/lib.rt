@@ -90,6 +90,7 @@ pub fn path_at(image: &[u8], q: &[u8], m: &[u8], k: usize, lo: usize, acc: u64) 
 }
 
 // Opens the node at row k: a leaf of more than 64 entries is split, if it can be. None where it is a leaf that stays, else the rows in use.
+// It first asks what `split_node` asks, so that a branch and a short leaf cost no call of that function, which has a large array.
 pub fn open_node(
     image: &mut [u8],
     q: &[u8],
