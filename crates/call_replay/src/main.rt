@@ -6,254 +6,183 @@
 // lists. A list is the length of its calls, the length of its answers, the calls and the answers. Lengths are in words.
 #![tactic(auto)]
 
-ghost use Rattle.std.specs.Prelude.{◌+◌, ◌*◌, ◌≤◌, length};
+ghost use Rattle.std.specs.Prelude.{◌<◌, IfSome, length};
 
+use program_io::{split_off_word, word_at};
+use std::alloc::{AllocError, Global};
 use std::io;
 
-#[derive(Clone, Copy)]
-struct Tally {
-    jobs: u32,
-    calls: u32,
-    differences: u32,
-}
+// By the number in their records.
+const MODES: [&str; 14] = [
+    "small",
+    "splits",
+    "rising",
+    "falling",
+    "crowding",
+    "equal ratios",
+    "repeats",
+    "low queries",
+    "masks",
+    "odd averages",
+    "many variables",
+    "tall powers",
+    "malformed",
+    "capacity",
+];
 
-// The bytes of a record's first six words, and of the two before a list.
+// The bytes of a record's first six words.
 const HEAD: usize = 24;
 
-const LENGTHS: usize = 8;
-
-fn one_if(b: bool) -> u32 {
-    if b { 1 } else { 0 }
+#[derive(Clone, Copy)]
+struct Job<'a> {
+    kind: u32,
+    variables: u32,
+    capacity: u32,
+    checksum: u32,
+    maxima: &'a [u8],
+    lists: &'a [u8],
 }
 
-fn sum(a: u32, b: u32) -> u32 {
-    std::num::wrapping_add_u32(a, b)
+impl<'a> Job<'a> {
+    fn read(record: &'a [u8]) -> Option<Job<'a>> {
+        let (_, mut rest) = record.split_at_checked(8)?;
+        let kind = split_off_word(&mut rest)?;
+        let variables = split_off_word(&mut rest)?;
+        let capacity = split_off_word(&mut rest)?;
+        let checksum = split_off_word(&mut rest)?;
+        let (maxima, lists) = rest.split_at_checked(4 * variables as usize)?;
+        Some(Job {
+            kind,
+            variables,
+            capacity,
+            checksum,
+            maxima,
+            lists,
+        })
+    }
+
+    // The index just opened, none where that is refused.
+    fn opened(&self, alloc: Global) -> Result<Option<Vec<u8>>, AllocError> {
+        let Job {
+            kind,
+            variables,
+            capacity,
+            maxima,
+            ..
+        } = *self;
+        let n = divisor_index::divisor_index_length(kind, variables, capacity, maxima);
+        let mut image = vec![in alloc; 0; n as usize]?;
+        let number = divisor_index::divisor_index_open(
+            kind,
+            variables,
+            capacity,
+            maxima,
+            image.as_mut_slice(),
+        );
+        Ok(if number == 0 { Some(image) } else { None })
+    }
 }
 
-// A checksum with one word more.
-fn summed(checksum: u32, w: u32) -> u32 {
-    ((31 * (checksum as u64) + w as u64) % 4294967296) as u32
+#[derive(Clone, Copy)]
+struct List<'a> {
+    calls: &'a [u8],
+    answers: &'a [u8],
+}
+
+// The list at the front, and what stands behind it.
+fn split_list(s: &[u8]) -> Option<(List<'_>, &[u8])>
+    ensures { IfSome result (λ p. length p.1.now < length s.now) }
+{
+    let mut rest = s;
+    let calls_length = split_off_word(&mut rest)?;
+    let answers_length = split_off_word(&mut rest)?;
+    let (calls, rest) = rest.split_at_checked(4 * calls_length as usize)?;
+    let (answers, rest) = rest.split_at_checked(4 * answers_length as usize)?;
+    Some((List { calls, answers }, rest))
 }
 
 fn checksum(image: &[u8]) -> u32 {
-    let n = image.len() / 4;
-    let mut r: u32 = 0;
-    for i in 0..n {
-        r = summed(r, words::get(image, i));
+    let mut sum: u32 = 0;
+    for word in image.chunks_exact(4) {
+        sum = sum.wrapping_mul(31).wrapping_add(words::get(word, 0));
     }
-    r
+    sum
 }
 
-// How many words of b are others than those of a.
-fn differing(a: &[u8; 16384], b: &[u8]) -> u32
-    requires { length b.now ≤ 16384 }
-{
-    let n = b.len() / 4;
-    let mut r: u32 = 0;
-    for i in 0..n {
-        r = sum(r, one_if(words::get(a, i) != words::get(b, i)));
-    }
-    r
+#[derive(Clone, Copy, Default)]
+struct Tally {
+    jobs: usize,
+    calls: usize,
+    differences: usize,
 }
 
-// Lends the list to the index, and returns how many of its answers differ, or 1 where it is refused whole.
-fn run(image: &mut [u8], list: &[u8], expected: &[u8]) -> u32 {
-    let mut answers = [0u8; 16384];
-    let n = expected.len();
-    if 16384 < n {
-        return 1;
+impl Tally {
+    fn count(&mut self, calls: usize, differences: usize) {
+        self.calls = self.calls.saturating_add(calls);
+        self.differences = self.differences.saturating_add(differences);
     }
-    if divisor_index::divisor_index_run(image, list, &mut answers[..n]) != 0 {
-        return 1;
-    }
-    differing(&answers, expected)
-}
 
-// The length in bytes of the list at the front with its answers, 0 where there is none.
-fn list_length(s: &[u8]) -> usize
-    ensures { result ≤ length s.now }
-{
-    if s.len() < LENGTHS {
-        return 0;
-    }
-    let n = LENGTHS + 4 * words::get(s, 0) as usize + 4 * words::get(s, 1) as usize;
-    if s.len() < n {
-        return 0;
-    }
-    n
-}
-
-// The differences of a list with its lengths in front and its answers behind it.
-fn list_differences(image: &mut [u8], s: &[u8]) -> u32
-    requires { 8 ≤ length s.now }
-{
-    let a = LENGTHS + 4 * words::get(s, 0) as usize;
-    if s.len() < a {
-        return 1;
-    }
-    run(image, &s[LENGTHS..a], &s[a..])
-}
-
-// The tally with a list more. A call has one answer, so its answers are as many as its calls.
-fn list(t: Tally, image: &mut [u8], s: &[u8]) -> Tally
-    requires { 8 ≤ length s.now }
-{
-    Tally {
-        jobs: t.jobs,
-        calls: sum(t.calls, words::get(s, 1)),
-        differences: sum(t.differences, list_differences(image, s)),
-    }
-}
-
-// The tally with a difference more if there is one.
-fn differs(t: Tally, b: bool) -> Tally {
-    Tally {
-        jobs: t.jobs,
-        calls: t.calls,
-        differences: sum(t.differences, one_if(b)),
-    }
-}
-
-// The tally with all lists. What is left behind them is a difference.
-fn lists(before: Tally, image: &mut [u8], s: &[u8]) -> Tally {
-    let mut t = before;
-    let mut at: usize = 0;
-    loop {
-        let n = list_length(&s[at..]);
-        if n < LENGTHS {
-            return differs(t, at < s.len());
+    // Lends the list to the index: its answers that differ, or one difference where it is refused whole. A call has one answer.
+    fn list(&mut self, alloc: Global, image: &mut [u8], list: &List<'_>) -> Result<(), AllocError> {
+        let mut answers = vec![in alloc; 0; list.answers.len()]?;
+        let calls = list.answers.len() / 4;
+        if divisor_index::divisor_index_run(image, list.calls, answers.as_mut_slice()) != 0 {
+            self.count(calls, 1);
+            return Ok(());
         }
-        let e = at + n;
-        t = list(t, image, &s[at..e]);
-        at = e;
+        let pairs = answers.chunks_exact(4).zip(list.answers.chunks_exact(4));
+        self.count(calls, pairs.filter(|pair| pair.0 != pair.1).count());
+        Ok(())
     }
-}
 
-// The tally with the lists of a record, run on an index of n bytes.
-fn job(t: Tally, image: &mut [u8], r: &[u8], maxima: &[u8], rest: &[u8], n: usize) -> Tally
-    requires { 24 ≤ length r.now }
-{
-    if image.len() < n {
-        return differs(t, true);
-    }
-    let kind = words::get(r, 2);
-    let variables = words::get(r, 3);
-    let capacity = words::get(r, 4);
-    if divisor_index::divisor_index_open(kind, variables, capacity, maxima, image) != 0 {
-        return differs(t, true);
-    }
-    let ran = lists(t, image, rest);
-    differs(ran, checksum(&image[..n]) != words::get(r, 5))
-}
-
-// The tally with one record more.
-fn counted(t: Tally, image: &mut [u8], r: &[u8]) -> Tally
-    requires { 24 ≤ length r.now }
-{
-    let e = HEAD + 4 * words::get(r, 3) as usize;
-    let more = Tally {
-        jobs: sum(t.jobs, 1),
-        calls: t.calls,
-        differences: t.differences,
-    };
-    if r.len() < e {
-        return differs(more, true);
-    }
-    let maxima = &r[HEAD..e];
-    let kind = words::get(r, 2);
-    let variables = words::get(r, 3);
-    let capacity = words::get(r, 4);
-    let n = divisor_index::divisor_index_length(kind, variables, capacity, maxima);
-    job(more, image, r, maxima, &r[e..], n as usize)
-}
-
-// The same, if the record is of this mode.
-fn counted_if(t: Tally, image: &mut [u8], r: &[u8], mode: u32) -> Tally
-    requires { 24 ≤ length r.now }
-{
-    if words::get(r, 1) != mode {
-        return t;
-    }
-    counted(t, image, r)
-}
-
-// The length in bytes of the record at the front, 0 where there is none.
-fn record(s: &[u8]) -> usize
-    ensures { result ≤ length s.now }
-{
-    if s.len() < HEAD {
-        return 0;
-    }
-    let n = 4 * words::get(s, 0) as usize;
-    if s.len() < n {
-        return 0;
-    }
-    n
-}
-
-fn replay(image: &mut [u8], s: &[u8], mode: u32) -> Tally {
-    let mut t = Tally {
-        jobs: 0,
-        calls: 0,
-        differences: 0,
-    };
-    let mut at: usize = 0;
-    loop {
-        let n = record(&s[at..]);
-        if n < HEAD {
-            return t;
+    // Runs all lists of a record on an index. What is left behind them is a difference, and so is another image.
+    fn job(&mut self, alloc: Global, record: &[u8]) -> Result<(), AllocError> {
+        self.jobs = self.jobs.saturating_add(1);
+        let Some(job) = Job::read(record) else {
+            self.count(0, 1);
+            return Ok(());
+        };
+        let Some(mut image) = job.opened(alloc)? else {
+            self.count(0, 1);
+            return Ok(());
+        };
+        let mut rest = job.lists;
+        while let Some((list, behind)) = split_list(rest) {
+            self.list(alloc, image.as_mut_slice(), &list)?;
+            rest = behind;
         }
-        let e = at + n;
-        t = counted_if(t, image, &s[at..e], mode);
-        at = e;
+        self.count(0, usize::from(!rest.is_empty()));
+        self.count(0, usize::from(checksum(image.as_slice()) != job.checksum));
+        Ok(())
     }
 }
 
-// How many bytes are left where no further record stands.
-fn unread(s: &[u8]) -> usize {
-    let mut at: usize = 0;
-    loop {
-        let n = record(&s[at..]);
-        if n < HEAD {
-            return s.len() - at;
+fn line(
+    rt: &impl Print,
+    alloc: Global,
+    records: &[&[u8]],
+    name: &str,
+    mode: u32,
+) -> io::Result<()> {
+    let mut tally = Tally::default();
+    for record in records {
+        if word_at(record, 1) == Some(mode) {
+            tally.job(alloc, record)?;
         }
-        at += n;
     }
-}
-
-fn write_line(rt: &impl Print, name: &[u8], t: Tally) -> io::Result<()> {
-    rt.write_all(name)?;
     println!(rt;
-        ": {} jobs, {} calls, {} differences",
-        t.jobs, t.calls, t.differences
+        "{name}: {} jobs, {} calls, {} differences",
+        tally.jobs, tally.calls, tally.differences
     )
 }
 
-fn line(rt: &impl Print, name: &[u8], s: &[u8], mode: u32) -> io::Result<()> {
-    let mut image = [0u8; 262144];
-    write_line(rt, name, replay(&mut image, s, mode))
-}
-
-fn lines(rt: &impl Print, s: &[u8]) -> io::Result<()> {
-    line(rt, b"small", s, 0)?;
-    line(rt, b"splits", s, 1)?;
-    line(rt, b"rising", s, 2)?;
-    line(rt, b"falling", s, 3)?;
-    line(rt, b"crowding", s, 4)?;
-    line(rt, b"equal ratios", s, 5)?;
-    line(rt, b"repeats", s, 6)?;
-    line(rt, b"low queries", s, 7)?;
-    line(rt, b"masks", s, 8)?;
-    line(rt, b"odd averages", s, 9)?;
-    line(rt, b"many variables", s, 10)?;
-    line(rt, b"tall powers", s, 11)?;
-    line(rt, b"malformed", s, 12)?;
-    line(rt, b"capacity", s, 13)
-}
-
 fn main(rt: HostRuntime) -> io::Result<()> {
-    let mut buf = [0u8; 163840];
-    let n = program_io::read_full(&mut rt.stdin(), &mut buf)?;
-    lines(&rt, &buf[..n])?;
-    println!(rt; "{} bytes unread", unread(&buf[..n]))
+    let mut input = vec![in rt.alloc(); 0; 163840]?;
+    let n = program_io::read_full(&mut rt.stdin(), input.as_mut_slice())?;
+    input.truncate(n);
+    let (records, rest) = program_io::records(rt.alloc(), input.as_slice(), HEAD)?;
+    for (mode, name) in (0..).zip(MODES) {
+        line(&rt, rt.alloc(), records.as_slice(), name, mode)?;
+    }
+    println!(rt; "{} bytes unread", rest.len())
 }

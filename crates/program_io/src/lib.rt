@@ -43,7 +43,7 @@ pub fn word_at(s: &[u8], i: usize) -> Option<u32>
 
 /// Splits the first word off the front. Where that has no four bytes it stays as it is.
 pub fn split_off_word(rest: &mut &[u8]) -> Option<u32>
-    ensures { MatchOption result ((length rest.old.now < 4) × (rest.new.now ≡ rest.old.now)) (λ w. (w ≡ get_or (words rest.old.now) 0 0) × (rest.new.now ≡ drop 4 rest.old.now)) }
+    ensures { MatchOption result ((length rest.old.now < 4) × (rest.new.now ≡ rest.old.now)) (λ w. (w ≡ get_or (words rest.old.now) 0 0) × ((rest.new.now ≡ drop 4 rest.old.now) × (length rest.new.now + 4 ≡ length rest.old.now))) }
 {
     let (_, behind) = rest.split_at_checked(4)?;
     let word = words::get(rest, 0);

@@ -31,6 +31,7 @@ fn below(reader: &mut impl Read, image: &[u8], frames: usize) -> io::Result<bool
     }
 }
 
+// The image stands on the stack and not on the heap, since the frames are counted with it there.
 fn main(rt: HostRuntime) -> io::Result<()> {
     let mut image = [0u8; 327680];
     let mut reader = rt.stdin();
