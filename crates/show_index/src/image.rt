@@ -3,7 +3,6 @@ ghost use Rattle.std.specs.Prelude.{◌+◌, ◌≤◌};
 ghost use Rattle.index_image.specs.Shape as at;
 
 use crate::monomials::{self, Monomial, Ratio, Signature};
-use index_image::head::Head;
 use index_image::{Shape, fields};
 use std::{fmt, io};
 
@@ -47,8 +46,8 @@ impl fmt::Display for Split {
 impl<'a> Image<'a> {
     pub fn read(bytes: &'a [u8]) -> Option<Image<'a>> {
         match index_image::head::read(bytes) {
-            Head::Image(shape) => Some(Image { bytes, shape }),
-            Head::Bad => None,
+            Some(shape) => Some(Image { bytes, shape }),
+            None => None,
         }
     }
 

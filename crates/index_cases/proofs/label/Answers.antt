@@ -1,5 +1,6 @@
-use Rattle.index_sound.proofs.Steps.{head-is}
+use Rattle.index_image.specs.Head.{HeadIs}
 use Rattle.index_cases.proofs.label.Goals as goal
 
 pub label_at-requires : goal.label_at-requires
-label_at-requires c = (head-is _ _ _ _ c.in-Image.is c.read.ensures).range
+unfolding HeadIs
+label_at-requires c = (rw c.in-Some.is at c.read.ensures).range
