@@ -24,16 +24,11 @@ use query_words as query;
 use query_words::Search;
 
 // Whether lms are to divide, or else signature monomials.
+#[tactic(auto, unfolding(crate::specs::Posed::lm_divides))]
 fn by_lm(search: Search) -> bool
     ensures { result ≡ lm_divides search }
 {
-    match search {
-        Search::Contained => true,
-        Search::Reducer => true,
-        Search::High => true,
-        Search::Low => false,
-        Search::Singular => false,
-    }
+    matches!(search, Search::Contained | Search::Reducer | Search::High)
 }
 
 // Writes the words of a query: what is searched for, the monomial m to be divided, and the range of labels that count.
