@@ -1,12 +1,13 @@
 -- What a reader reads of a list is its calls. Assumes nothing.
-use mathlib.Core.Path.{◌≡◌, refl, ap}
+use mathlib.Core.Path.{◌≡◌, refl, sym, ap}
 use mathlib.Core.Bool.{Bool, true, false, cond}
 use mathlib.Core.List.{List, [], ◌∷◌}
 use mathlib.Core.Option.{some, none}
-use Prim.Native.Nat.{ℕ, ◌-◌, ◌*◌, ◌≤◌, ◌<◌}
+use Prim.Native.Nat.{ℕ, ◌+◌, ◌*◌, ◌/◌, ◌≤◌, ◌<◌}
 use native.Mathlib.Omega.{arith}
 use lib.Dec.{eqb}
-use lib.ListN.{length, get_or, take, drop, length-take}
+use lib.ListN.{length, get_or, drop, length-take, length-drop}
+use lib.Seq.{drop-cons, drop-drop}
 use Rattle.words.specs.Kinds.{kind, payload}
 use Rattle.words.specs.Words.{words}
 use Rattle.words.proofs.Laws.{length-words, words-drop}
@@ -26,22 +27,18 @@ read-behind (w ∷ ws) = go (eqb (kind w) 6) refl (read-behind ws)
     go true e r = refl
     go false e r = r
 
-pub read-none : (bs : List ℕ) → length bs < 4 → read (words bs) ≡ []
+pub read-none : (bs : List ℕ) (i : ℕ) → length bs / 4 ≤ i → read (drop i (words bs)) ≡ []
 unfolding read
-read-none bs h = go (words bs) (omega (arith, length-words bs))
+read-none bs i h = go (drop i (words bs)) (omega (arith, length-drop i (words bs), length-words bs))
   where
     go : (ws : List ℕ) → length ws ≡ 0 → read ws ≡ []
     go [] e = refl
     go (w ∷ ws) e = absurd (omega arith)
 
-pub read-first : (bs : List ℕ) → 4 ≤ length bs
-    → read (words bs) ≡ record { number = payload (get_or (words bs) 0 0); body = body_of (words (drop 4 bs)) } ∷ calls (words (drop 4 bs))
+pub read-first : (ws : List ℕ) (i : ℕ) → i < length ws
+    → read (drop i ws) ≡ record { number = payload (get_or ws i 0); body = body_of (drop (i + 1) ws) } ∷ calls (drop (i + 1) ws)
 unfolding read
-read-first bs h = rw (words-drop bs 1) (go (words bs) (omega (arith, length-words bs)))
-  where
-    go : (ws : List ℕ) → 0 < length ws → read ws ≡ record { number = payload (get_or ws 0 0); body = body_of (drop 1 ws) } ∷ calls (drop 1 ws)
-    go [] e = absurd (omega arith)
-    go (w ∷ ws) e = refl
+read-first ws i h = rw (drop-cons i ws 0 h) refl
 
 pub read-list : (bs : List ℕ) → IsList bs → read (words bs) ≡ calls (words bs)
 unfolding read calls listed
@@ -57,11 +54,12 @@ read-list bs l = go (words bs) l.are
         first false e = absurd (let z : ◌≡◌ {A = ℕ} 0 1 = cc in omega arith)
 
 -- one call read, and what is left behind its body b
-pub read-next : (bs R b : List ℕ) (n : ℕ) → 4 ≤ length bs → R ≡ drop 4 bs → n ≡ payload (get_or (words bs) 0 0) → Body R b
-    → read (words bs) ≡ record { number = n; body = words b } ∷ read (words (take (length R - length b) (drop (length b) R)))
-read-next bs R b n h eR en B =
+pub read-next : (bs R b : List ℕ) (i n : ℕ) → i < length bs / 4 → R ≡ drop (4 * (i + 1)) bs → n ≡ payload (get_or (words bs) i 0) → Body R b
+    → read (drop i (words bs)) ≡ record { number = n; body = words b } ∷ read (drop (i + 1 + length b / 4) (words bs))
+read-next bs R b i n h eR en B =
     let k = length (body_of (words R)) in
     let most : 4 * k ≤ length R = omega (arith, body-most (words R), length-words R) in
-    let long : length b ≡ 4 * k = omega (arith, ap length B.front, length-take (4 * k) R) in
-    let rest : words (take (length R - length b) (drop (length b) R)) ≡ drop k (words R) = rw (rest_of (length b) R, long) (words-drop R k) in
-    rw (rest, B.words-are, read-behind (words R), en, eR) (read-first bs h)
+    let long : length b / 4 ≡ k = omega (arith, ap length B.front, length-take (4 * k) R) in
+    let back : words R ≡ drop (i + 1) (words bs) = rw eR (words-drop bs (i + 1)) in
+    let rest : drop (i + 1 + length b / 4) (words bs) ≡ drop k (words R) = rw (long, back) (sym (drop-drop k (i + 1) (words bs))) in
+    rw (rest, B.words-are, read-behind (words R), en, back) (read-first (words bs) i (omega (arith, length-words bs)))

@@ -1,44 +1,44 @@
-// The reader that walks a list from call to call.
+// The word reader: a lent call list and a place in it, which is a call's or the end.
 #![tactic(auto)]
 
 ghost use Rattle.std.specs.Prelude.{◌≡◌};
 ghost use Rattle.std.specs.Iterator.{YieldsFirstBy, item_count};
-ghost use Rattle.words.specs.Words.{words};
 ghost use Rattle.call_list.specs.Bodies.{call_of};
-ghost use Rattle.word_reader.specs.Reading.{read};
+ghost use Rattle.word_reader.specs.Reading.{calls_left};
 
 use call_list::Call;
 
-// What is left of a list: it begins with the word of the next call.
+// A list, and the word of it at which the next call begins.
 #[derive(Drop)]
 pub struct Reader<'a> {
-    pub rest: &'a [u8],
+    pub list: &'a [u8],
+    pub at: usize,
 }
 
 impl<'a> Reader<'a> {
     // A reader of the calls of the list.
     pub fn new(list: &'a [u8]) -> Reader<'a>
-        ensures { result.rest ≡ list.entry }
+        ensures { (result.list ≡ list.entry) × (result.at ≡ 0) }
     {
-        Reader { rest: list }
+        Reader { list, at: 0 }
     }
 }
 
 impl<'a> Iterator for Reader<'a> {
     type Item = Call<'a>;
 
-    ghost next_gives = { YieldsFirstBy call_of (λ s. read (words s.rest.now)) };
+    ghost next_gives = { YieldsFirstBy call_of calls_left };
 
-    ghost remaining = { item_count (λ s. read (words s.rest.now)) };
+    ghost remaining = { item_count calls_left };
 
     fn next(&mut self) -> Option<Call<'a>> {
-        if self.rest.len() < 4 {
+        let at = self.at;
+        if self.list.len() / 4 <= at {
             return None;
         }
-        let number = words::payload(words::get(self.rest, 0));
-        let behind = &self.rest[4..];
-        let body = call_list::body(behind);
-        self.rest = &behind[body.len()..];
+        let number = words::payload(words::get(self.list, at));
+        let body = call_list::body(&self.list[4 * (at + 1)..]);
+        self.at = at + 1 + body.len() / 4;
         Some(Call { number, body })
     }
 }
