@@ -1,12 +1,16 @@
 -- What the doors reply, question by question. Assumes nothing.
 use mathlib.Core.Path.{◌≡◌, refl, sym, ap, ◌∙◌}
-use mathlib.Core.Bool.{Bool, true, false, ◌&&◌}
+use mathlib.Core.Bool.{Bool, true, false, cond, ◌&&◌}
 use mathlib.Core.List.{List}
 use Prim.Native.Nat.{ℕ, ◌*◌, ◌/◌, ◌≤◌, ◌<◌}
 use native.Mathlib.Omega.{arith}
 use lib.Dec.{leb}
 use lib.ListN.{length}
 use borrow.Author.Tests.{leb-true, lt-leb, le-leb, lt-ltb, le-ltb}
+use Rattle.std.specs.Prelude.{Result, Ok, Err, IsErrAnd}
+use Rattle.refusals.specs.Numbers.{told, number}
+use Rattle.refusals.specs.declared.Refusal.{Refusal}
+use Rattle.refusals.specs.declared.Refusal.TheVariants.{Sizes as BadSizes}
 use Rattle.words.specs.Words.{words, paste_w}
 use Rattle.monomial.specs.Sizes.{Sizes, sizes_fit}
 use Rattle.monomial.proofs.Canon.{both_true}
@@ -26,32 +30,44 @@ use Rattle.listing.specs.Listed.{Root, Each}
 use Rattle.index_replies.proofs.Inserts.{shaped}
 use Rattle.index_opening.specs.Kinds.{index_kind}
 use Rattle.index_run.specs.Ran.{Ran}
-use Rattle.divisor_index.specs.Doors.{opening_good, length_number, open_number, open_bytes, RunIs, ListingIs}
+use Rattle.divisor_index.specs.Doors.{opening_good, length_of, length_number, open_number, open_bytes, RunIs, ListingIs}
 use Rattle.index_run.proofs.Running.{list-calls}
 
--- ---- question 1
-module _ (k m c : ℕ) (xs : List ℕ) where
-  pub bad_kind : 1 < k → false ≡ opening_good k m c xs
-  unfolding opening_good
-  bad_kind h = rw (lt-leb k 1 h)
-
-  both : (a b : Bool) → b ≡ false → false ≡ (a && b)
-  both true b e = sym e
-  both false b e = refl
-
-  pub bad-sizes : sizes_fit m c ≡ false → false ≡ opening_good k m c xs
-  unfolding opening_good
-  bad-sizes e = both (leb k 1) _ (rw e)
-
-  pub good-is : (r : Bool) → k ≤ 1 → sizes_fit m c ≡ true → r ≡ maxima_lent m xs → r ≡ opening_good k m c xs
-  unfolding opening_good
-  good-is r a b e = e ∙ rw (le-leb k 1 a, b)
-
 -- ---- opening
+pub told-one : (r : Result Unit Refusal) (e : Refusal) → IsErrAnd r (λ x. x ≡ e) → e ≡ BadSizes → told r ≡ 1
+unfolding told number
+told-one (Ok u) e h q = absurd h
+told-one (Err x) e h q = ap number (h ∙ q)
+
 module _ (k m c : ℕ) (xs : List ℕ) where
-  pub length-refused : opening_good k m c xs ≡ false → 1 ≡ length_number k m c xs
-  unfolding length_number
+  pub length-refused : opening_good k m c xs ≡ false → Err BadSizes ≡ length_of k m c xs
+  unfolding length_of
   length-refused e = rw e
+
+  pub length-good : opening_good k m c xs ≡ true → (n : ℕ) → n ≡ bytes k m c → Ok n ≡ length_of k m c xs
+  unfolding length_of
+  length-good e n q = rw (e, q)
+
+  -- what a length says of question 1
+  pub length-err : (r : Refusal) → Err r ≡ length_of k m c xs → (r ≡ BadSizes) × (opening_good k m c xs ≡ false)
+  unfolding length_of
+  length-err r e = go (opening_good k m c xs) refl e
+    where
+      go : (t : Bool) → opening_good k m c xs ≡ t → Err r ≡ cond t (Ok (bytes k m c)) (Err BadSizes) → (r ≡ BadSizes) × (opening_good k m c xs ≡ false)
+      go true q e = absurd cc
+      go false q e = (cc, q)
+
+  pub length-ok : (n : ℕ) → Ok n ≡ length_of k m c xs → (n ≡ bytes k m c) × (opening_good k m c xs ≡ true)
+  unfolding length_of
+  length-ok n e = go (opening_good k m c xs) refl e
+    where
+      go : (t : Bool) → opening_good k m c xs ≡ t → Ok n ≡ cond t (Ok (bytes k m c)) (Err BadSizes) → (n ≡ bytes k m c) × (opening_good k m c xs ≡ true)
+      go true q e = (cc, q)
+      go false q e = absurd cc
+
+  pub length-one : opening_good k m c xs ≡ false → 1 ≡ length_number k m c xs
+  unfolding length_number
+  length-one e = rw e
 
   pub open-one : (bs : List ℕ) → opening_good k m c xs ≡ false → (1 ≡ open_number k m c xs bs) × (bs ≡ open_bytes k m c xs bs)
   unfolding open_number open_bytes

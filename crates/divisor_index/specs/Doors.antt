@@ -1,5 +1,7 @@
 -- What the doors answer and leave, for all bytes lent, question by question as document 01 has them. Assumes nothing.
-use Rattle.std.specs.Prelude.{◌≡◌, Bool, cond, ◌&&◌, List, ℕ, ◌*◌, ◌≤◌, ◌<◌, leb, ltb, length}
+use Rattle.std.specs.Prelude.{◌≡◌, Result, Ok, Err, Bool, cond, ◌&&◌, List, ℕ, ◌*◌, ◌≤◌, ◌<◌, leb, ltb, length}
+use Rattle.refusals.specs.declared.Refusal.{Refusal}
+use Rattle.refusals.specs.declared.Refusal.TheVariants.{Sizes}
 use Rattle.words.specs.Words.{words, paste_w}
 use Rattle.monomial.specs.Sizes.{sizes_fit}
 use Rattle.divmask.specs.Tracker.{maxima_lent}
@@ -17,6 +19,10 @@ unfoldable pub opening_good : (kind variables capacity : ℕ) (maxima : List ℕ
 opening_good k m c xs = leb k 1 && (sizes_fit m c && maxima_lent m xs)
 
 -- the length call has it alone
+unfoldable pub length_of : (kind variables capacity : ℕ) (maxima : List ℕ) → Result ℕ Refusal
+length_of k m c xs = cond (opening_good k m c xs) (Ok (bytes k m c)) (Err Sizes)
+
+-- as C is told
 unfoldable pub length_number : (kind variables capacity : ℕ) (maxima : List ℕ) → ℕ
 length_number k m c xs = cond (opening_good k m c xs) (bytes k m c) 1
 

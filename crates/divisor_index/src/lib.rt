@@ -3,21 +3,91 @@
 #![tactic(auto)]
 
 ghost use Rattle.std.specs.Prelude.{◌≡◌};
-ghost use Rattle.divisor_index.specs.Doors.{opening_good, length_number, open_number, open_bytes, RunIs, ListingIs};
+ghost use Rattle.refusals.specs.Numbers.{told};
+ghost use Rattle.divisor_index.specs.Doors.{opening_good, length_of, length_number, open_number, open_bytes, RunIs, ListingIs};
 
 use index_image::Shape;
+use refusals::Refusal;
 
 // Question 1.
+#[tactic(auto, unfolding(crate::specs::Doors::opening_good))]
 fn opening_good(kind: u32, variables: u32, capacity: u32, maxima: &[u8]) -> bool
     ensures { result ≡ opening_good kind variables capacity maxima.now }
 {
-    if 1 < kind {
-        return false;
+    kind <= 1
+        && monomial::sizes::sizes_fit(variables as usize, capacity as usize)
+        && divmask::tracker::maxima_good(maxima, variables)
+}
+
+// The length in bytes of the image of an index.
+pub fn length(kind: u32, variables: u32, capacity: u32, maxima: &[u8]) -> Result<usize, Refusal>
+    ensures { result ≡ length_of kind variables capacity maxima.now }
+{
+    if !opening_good(kind, variables, capacity, maxima) {
+        return Err(Refusal::Sizes);
     }
-    if !monomial::sizes::sizes_fit(variables as usize, capacity as usize) {
-        return false;
+    Ok(index_image::length(kind as usize, variables as usize, capacity as usize))
+}
+
+// Opens an index that holds nothing.
+pub fn open(
+    kind: u32,
+    variables: u32,
+    capacity: u32,
+    maxima: &[u8],
+    image: &mut [u8],
+) -> Result<(), Refusal>
+    ensures value { told result ≡ open_number kind variables capacity maxima.now image.old }
+    ensures image_after { image.new ≡ open_bytes kind variables capacity maxima.now image.old }
+{
+    let n = length(kind, variables, capacity, maxima)?;
+    if image.len() < n {
+        return Err(Refusal::ShortImage);
     }
-    divmask::tracker::maxima_good(maxima, variables)
+    let s = Shape {
+        kind: kind as usize,
+        variables: variables as usize,
+        capacity: capacity as usize,
+        entries: 0,
+        nodes: 1,
+    };
+    index_opening::open_tables(image, s, maxima);
+    Ok(())
+}
+
+// Runs a list of calls and writes one answer word a call.
+pub fn run(image: &mut [u8], list: &[u8], answers: &mut [u8]) -> Result<(), Refusal>
+    ensures { RunIs image.old list.now answers.old image.new answers.new (told result) }
+{
+    if !index_sound::sound(image) {
+        return Err(Refusal::Unsound);
+    }
+    if !call_list::is_list(list) {
+        return Err(Refusal::NoList);
+    }
+    if answers.len() / 4 < call_list::count(list) {
+        return Err(Refusal::ShortBuffer);
+    }
+    index_run::run(image, list, answers);
+    Ok(())
+}
+
+// Lists the monomials of a monomial index.
+pub fn list(image: &[u8], answers: &mut [u8]) -> Result<(), Refusal>
+    ensures { ListingIs image.now answers.old answers.new (told result) }
+{
+    if !index_sound::sound(image) {
+        return Err(Refusal::Unsound);
+    }
+    let s = indices::shape(image);
+    if s.kind != 0 {
+        return Err(Refusal::NotServed);
+    }
+    if answers.len() / 4 < listing::listing_words(image, s) {
+        return Err(Refusal::ShortBuffer);
+    }
+    listing::to_vec(image, s, answers);
+    Ok(())
 }
 
 // The length in bytes of the image of an index, or 1.
@@ -30,10 +100,10 @@ pub extern "C" fn divisor_index_length(
 ) -> u32
     ensures { result ≡ length_number kind variables capacity maxima.now }
 {
-    if !opening_good(kind, variables, capacity, maxima) {
-        return 1;
+    match length(kind, variables, capacity, maxima) {
+        Ok(n) => n as u32,
+        Err(e) => refusals::number(e),
     }
-    index_image::length(kind as usize, variables as usize, capacity as usize) as u32
 }
 
 // Opens an index that holds nothing: 0, 1 or 2.
@@ -48,21 +118,7 @@ pub extern "C" fn divisor_index_open(
     ensures value { result ≡ open_number kind variables capacity maxima.now image.old }
     ensures image_after { image.new ≡ open_bytes kind variables capacity maxima.now image.old }
 {
-    if !opening_good(kind, variables, capacity, maxima) {
-        return 1;
-    }
-    let s = Shape {
-        kind: kind as usize,
-        variables: variables as usize,
-        capacity: capacity as usize,
-        entries: 0,
-        nodes: 1,
-    };
-    if image.len() < index_image::length(s.kind, s.variables, s.capacity) {
-        return 2;
-    }
-    index_opening::open_tables(image, s, maxima);
-    0
+    refusals::told(open(kind, variables, capacity, maxima, image))
 }
 
 // Runs a list of calls and writes one answer word a call: 0, 3, 4 or 5.
@@ -70,17 +126,7 @@ pub extern "C" fn divisor_index_open(
 pub extern "C" fn divisor_index_run(image: &mut [u8], list: &[u8], answers: &mut [u8]) -> u32
     ensures { RunIs image.old list.now answers.old image.new answers.new result }
 {
-    if !index_sound::sound(image) {
-        return 3;
-    }
-    if !call_list::is_list(list) {
-        return 4;
-    }
-    if answers.len() / 4 < call_list::count(list) {
-        return 5;
-    }
-    index_run::run(image, list, answers);
-    0
+    refusals::told(run(image, list, answers))
 }
 
 // Lists the monomials of a monomial index: 0, 3, 6 or 5.
@@ -88,16 +134,5 @@ pub extern "C" fn divisor_index_run(image: &mut [u8], list: &[u8], answers: &mut
 pub extern "C" fn divisor_index_list(image: &[u8], answers: &mut [u8]) -> u32
     ensures { ListingIs image.now answers.old answers.new result }
 {
-    if !index_sound::sound(image) {
-        return 3;
-    }
-    let s = indices::shape(image);
-    if s.kind != 0 {
-        return 6;
-    }
-    if answers.len() / 4 < listing::listing_words(image, s) {
-        return 5;
-    }
-    listing::to_vec(image, s, answers);
-    0
+    refusals::told(list(image, answers))
 }

@@ -1,16 +1,15 @@
-use Rattle.divisor_index.proofs.Replying.{length-refused, length-small, length-is, one-kind, sizes}
-use mathlib.Core.Path.{sym, ◌∙◌}
+use Rattle.refusals.specs.Numbers.{number}
+use Rattle.divisor_index.proofs.Replying.{length-ok, length-err, length-small, length-one, length-is}
+use mathlib.Core.Path.{ap, ◌∙◌}
 use native.Mathlib.Omega.{arith}
 use Rattle.divisor_index.proofs.divisor_index_length.Goals as goal
 
-pub returns-then-not-opening_good : goal.returns-then-not-opening_good
-returns-then-not-opening_good c = length-refused _ _ _ _ (sym c.opening_good.ensures ∙ c.if-not-opening_good.true)
-
-pub length-requires : goal.length-requires
-length-requires c = (one-kind _ _ _ _ (sym c.opening_good.ensures ∙ c.if-not-opening_good.false), sizes _ _ _ _ (sym c.opening_good.ensures ∙ c.if-not-opening_good.false))
-
 pub overflow_cast-result : goal.overflow_cast-result
-overflow_cast-result c = omega (arith, c.length.ensures.0, length-small _ _ _ _ (sym c.opening_good.ensures ∙ c.if-not-opening_good.false))
+overflow_cast-result c = let q = length-ok _ _ _ _ _ c.in-Ok.ensures in omega (arith, q.0, length-small _ _ _ _ q.1)
 
-pub returns : goal.returns
-returns c = length-is _ _ _ _ (sym c.opening_good.ensures ∙ c.if-not-opening_good.false) _ c.length.ensures.0
+pub returns-in-Ok : goal.returns-in-Ok
+returns-in-Ok c = let q = length-ok _ _ _ _ _ c.in-Ok.ensures in length-is _ _ _ _ q.1 _ q.0
+
+pub returns-in-Err : goal.returns-in-Err
+unfolding number
+returns-in-Err c = let q = length-err _ _ _ _ _ c.in-Err.ensures in c.number.ensures ∙ ap number q.0 ∙ length-one _ _ _ _ q.1
