@@ -4,9 +4,11 @@
 ghost use Rattle.std.specs.Prelude.{◌≡◌, true, List, ◌↔◌, ℕ, ◌≤◌, ◌<◌, eqb, length};
 ghost use Rattle.words.specs.Kinds.{kind};
 ghost use Rattle.words.specs.Words.{words};
+ghost use Rattle.monomial.specs.Monomial.{number};
 ghost use Rattle.index_theory.specs.Calls.{body_of, calls};
 ghost use Rattle.call_list.specs.Bodies.{IsList, Body, Leads, Begins, Single, Paired, Tripled};
 
+use monomial::Kind;
 use refusals::Refusal;
 
 // A call: its number, and its body.
@@ -20,7 +22,7 @@ pub struct Call<'a> {
 fn is_call(w: u32) -> bool
     ensures { result ≡ eqb (kind w) 6 }
 {
-    words::kind(w) == 6
+    words::kind(w) == words::CALL
 }
 
 // Question 4: a whole number of words, empty or starting with kind 6.
@@ -70,16 +72,15 @@ fn index(body: &[u8]) -> Result<(u32, &[u8]), Refusal>
         return Err(Refusal::BadWords);
     }
     let w = words::get(body, 0);
-    if words::kind(w) != 3 {
+    if words::kind(w) != words::INDEX {
         return Err(Refusal::BadWords);
     }
     Ok((words::payload(w), &body[4..]))
 }
 
-// The monomial (kind 1) or ratio (kind 2) that a body begins with, and what stands behind it.
-fn part(kind: u32, body: &[u8], variables: u32) -> Result<(&[u8], &[u8]), Refusal>
-    requires { (1 ≤ kind) × (kind ≤ 2) }
-    ensures { Begins kind variables (words body.now) result }
+// The monomial or ratio that a body begins with, and what stands behind it.
+fn part(kind: Kind, body: &[u8], variables: u32) -> Result<(&[u8], &[u8]), Refusal>
+    ensures { Begins (number kind) variables (words body.now) result }
 {
     let x = monomial::canonical_at(body, 0, kind, variables);
     if x.len() == 0 {
@@ -92,7 +93,7 @@ fn part(kind: u32, body: &[u8], variables: u32) -> Result<(&[u8], &[u8]), Refusa
 pub fn single(body: &[u8], variables: u32) -> Result<&[u8], Refusal>
     ensures { Single variables (words body.now) result }
 {
-    let (m, rest) = part(1, body, variables)?;
+    let (m, rest) = part(Kind::Monomial, body, variables)?;
     if 4 <= rest.len() {
         return Err(Refusal::BadWords);
     }
@@ -108,10 +109,9 @@ pub fn pair(body: &[u8], variables: u32) -> Result<(u32, &[u8]), Refusal>
     Ok((index, monomial))
 }
 
-// The index, the monomial (kind 1) or ratio (kind 2) behind it and the monomial behind that which a body is.
-pub fn triple(kind: u32, body: &[u8], variables: u32) -> Result<(u32, &[u8], &[u8]), Refusal>
-    requires { (1 ≤ kind) × (kind ≤ 2) }
-    ensures { Tripled kind variables (words body.now) result }
+// The index, the monomial or ratio behind it and the monomial behind that which a body is.
+pub fn triple(kind: Kind, body: &[u8], variables: u32) -> Result<(u32, &[u8], &[u8]), Refusal>
+    ensures { Tripled (number kind) variables (words body.now) result }
 {
     let (index, rest) = index(body)?;
     let (x, rest) = part(kind, rest, variables)?;

@@ -3,10 +3,11 @@ use mathlib.Core.Path.{◌≡◌, refl, sym, ap, ◌∙◌}
 use mathlib.Core.Bool.{Bool, true, false, cond}
 use mathlib.Core.Option.{none, some}
 use mathlib.Core.List.{List, [], ◌∷◌, ◌++◌, append_assoc, append-nil}
-use Prim.Native.Nat.{ℕ, ◌+◌, ◌*◌, ◌≤◌, ◌<◌}
+use Prim.Native.Nat.{ℕ, ◌+◌, ◌-◌, ◌*◌, ◌≤◌, ◌<◌}
 use native.Mathlib.Omega.{arith}
 use lib.Dec.{eqb}
-use lib.ListN.{length, length-append}
+use lib.ListN.{length, take, drop, length-append, length-take, length-drop}
+use borrow.Rule.Slice.PartMut.{put_mid}
 use Rattle.std.specs.Prelude.{Result}
 use Rattle.refusals.specs.declared.Refusal.{Refusal}
 use Rattle.refusals.specs.declared.Refusal.TheVariants.{Sizes, ShortImage, Unsound, NoList, ShortBuffer, NotServed, BadWords, Full, TooLarge, NoLabel}
@@ -14,7 +15,7 @@ use Rattle.refusals.specs.Numbers.{number}
 use Rattle.words.specs.Kinds.{kind}
 use Rattle.words.specs.Words.{words, put_w, paste_w}
 use Rattle.words.specs.Tables.{zeros}
-use Rattle.words.proofs.Laws.{Bytes, length-put_w, paste_w-nil, paste_w-snoc}
+use Rattle.words.proofs.Laws.{Bytes, length-put_w, paste_w-nil, paste_w-part, paste_w-snoc, put_w-paste}
 use Rattle.words.proofs.Tables.{length-zeros, paste-again}
 use Rattle.index_theory.specs.State.{State, Valid}
 use Rattle.index_theory.specs.Calls.{Call, calls, listed, step, after, answers}
@@ -68,6 +69,15 @@ list-calls L l = go (words L) l.are
         first : (t : Bool) → cond t (some (calls (w ∷ ws))) none ≡ some l.calls → l.calls ≡ calls (w ∷ ws)
         first true e = cc
         first false e = absurd (let z : ◌≡◌ {A = ℕ} 0 1 = cc in omega arith)
+
+-- ---- a word written behind the first n: `&mut out[4 * n..]` was lent and came back
+pub put_behind : (out ys : List ℕ) (n k w : ℕ) → 4 * n + 4 ≤ length out → k ≡ length out - 4 * n → ys ≡ put_w (take k (drop (4 * n) out)) 0 w
+    → put_mid (4 * n) k out ys ≡ put_w out n w
+put_behind out ys n k w h ek ey =
+    let lent = take k (drop (4 * n) out) in
+    let room : 4 * 0 + 4 ≤ length lent = omega (arith, length-take k (drop (4 * n) out), length-drop (4 * n) out) in
+    let e : n + 0 ≡ n = omega arith in
+    ap (put_mid (4 * n) k out) (ey ∙ put_w-paste lent 0 w room) ∙ paste_w-part out n k 0 (w ∷ []) (omega arith) (omega arith) ∙ rw e (sym (put_w-paste out n w h))
 
 -- ---- a reply's word
 pub number_small : (e : Refusal) → number e < 268435456

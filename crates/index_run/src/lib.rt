@@ -33,6 +33,6 @@ pub fn run(image: &mut [u8], list: &[u8], out: &mut [u8])
     let mut q = [0u8; 368];
     for (i, call) in Reader::new(list).enumerate() {
         let reply = indices::call(image, &mut q, call);
-        words::put(out, i, word(reply));
+        words::put(&mut out[4 * i..], 0, word(reply));
     }
 }

@@ -14,6 +14,7 @@ ghost use Rattle.index_replies.specs.Replied.{Replied};
 
 use call_list::Call;
 use index_image::Shape;
+use monomial::Kind;
 use query_words as query;
 use refusals::Refusal;
 
@@ -147,15 +148,15 @@ pub fn call(image: &mut [u8], s: Shape, q: &mut [u8], call: Call<'_>) -> Result<
     let v = s.variables as u32;
     match call.number {
         2 => {
-            let (index, sign, lm) = call_list::triple(1, call.body, v)?;
+            let (index, sign, lm) = call_list::triple(Kind::Monomial, call.body, v)?;
             insert(image, s, index, sign, lm)
         }
         3 => {
-            let (index, ratio, m) = call_list::triple(2, call.body, v)?;
+            let (index, ratio, m) = call_list::triple(Kind::Ratio, call.body, v)?;
             Ok(find_a_reducer(image, s, q, index, ratio, m))
         }
         4 => {
-            let (index, ratio, m) = call_list::triple(2, call.body, v)?;
+            let (index, ratio, m) = call_list::triple(Kind::Ratio, call.body, v)?;
             Ok(find_high_base_divisor(image, s, q, index, ratio, m))
         }
         5 => {
@@ -163,7 +164,7 @@ pub fn call(image: &mut [u8], s: Shape, q: &mut [u8], call: Call<'_>) -> Result<
             Ok(find_low_base_divisor(image, s, q, index, sign))
         }
         6 => {
-            let (index, sign, lm) = call_list::triple(1, call.body, v)?;
+            let (index, sign, lm) = call_list::triple(Kind::Monomial, call.body, v)?;
             Ok(test_singular_criterion(image, s, q, index, sign, lm))
         }
         _ => Err(Refusal::NotServed),

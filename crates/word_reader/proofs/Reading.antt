@@ -1,9 +1,9 @@
 -- What a reader reads of a list is its calls. Assumes nothing.
-use mathlib.Core.Path.{◌≡◌, refl, sym, ap}
+use mathlib.Core.Path.{◌≡◌, refl, sym, ap, ◌∙◌}
 use mathlib.Core.Bool.{Bool, true, false, cond}
 use mathlib.Core.List.{List, [], ◌∷◌}
 use mathlib.Core.Option.{some, none}
-use Prim.Native.Nat.{ℕ, ◌+◌, ◌*◌, ◌/◌, ◌≤◌, ◌<◌}
+use Prim.Native.Nat.{ℕ, suc, ◌+◌, ◌*◌, ◌/◌, ◌≤◌, ◌<◌}
 use native.Mathlib.Omega.{arith}
 use lib.Dec.{eqb}
 use lib.ListN.{length, get_or, drop, length-take, length-drop}
@@ -13,7 +13,7 @@ use Rattle.words.specs.Words.{words}
 use Rattle.words.proofs.Laws.{length-words, words-drop}
 use Rattle.index_theory.specs.Calls.{body_of, calls, listed}
 use Rattle.call_list.specs.Bodies.{IsList, Body}
-use Rattle.call_list.proofs.Parting.{rest_of, body-most}
+use Rattle.call_list.proofs.Parting.{body-most}
 use Rattle.word_reader.specs.Reading.{read}
 
 -- behind a body stands the next call, or the end
@@ -38,7 +38,7 @@ read-none bs i h = go (drop i (words bs)) (omega (arith, length-drop i (words bs
 pub read-first : (ws : List ℕ) (i : ℕ) → i < length ws
     → read (drop i ws) ≡ record { number = payload (get_or ws i 0); body = body_of (drop (i + 1) ws) } ∷ calls (drop (i + 1) ws)
 unfolding read
-read-first ws i h = rw (drop-cons i ws 0 h) refl
+read-first ws i h = let e : suc i ≡ i + 1 = omega arith in rw (drop-cons ws i 0 h, e) refl
 
 pub read-list : (bs : List ℕ) → IsList bs → read (words bs) ≡ calls (words bs)
 unfolding read calls listed
@@ -61,5 +61,5 @@ read-next bs R b i n h eR en B =
     let most : 4 * k ≤ length R = omega (arith, body-most (words R), length-words R) in
     let long : length b / 4 ≡ k = omega (arith, ap length B.front, length-take (4 * k) R) in
     let back : words R ≡ drop (i + 1) (words bs) = rw eR (words-drop bs (i + 1)) in
-    let rest : drop (i + 1 + length b / 4) (words bs) ≡ drop k (words R) = rw (long, back) (sym (drop-drop k (i + 1) (words bs))) in
+    let rest : drop (i + 1 + length b / 4) (words bs) ≡ drop k (words R) = rw long (sym (drop-drop k (i + 1) (words bs)) ∙ ap (drop k) (sym back)) in
     rw (rest, B.words-are, read-behind (words R), en, back) (read-first (words bs) i (omega (arith, length-words bs)))

@@ -1,3 +1,4 @@
+use Rattle.monomial.proofs.Canon.{number-some}
 use Rattle.call_list.proofs.Parting.{rest_of, begins-none, begins, found-inside}
 use mathlib.Core.Path.{refl}
 use Rattle.call_list.proofs.part.Goals as goal
@@ -12,4 +13,4 @@ pub slice_bounds-result-start : goal.slice_bounds-result-start
 slice_bounds-result-start c = found-inside _ _ _ _ c.canonical_at-x.ensures
 
 pub returns : goal.returns
-returns c = begins _ _ _ _ c.canonical_at-x.ensures c.requires.0 c.if-x-eq0.false _ _ refl (rest_of _ c.args.body.now)
+returns c = begins _ _ _ _ c.canonical_at-x.ensures (number-some c.args.kind) c.if-x-eq0.false _ _ refl (rest_of _ c.args.body.now)
