@@ -14,7 +14,9 @@ use Rattle.words.proofs.Laws.{length-words, words-drop}
 use Rattle.index_theory.specs.Calls.{body_of, calls, listed}
 use Rattle.call_list.specs.Bodies.{IsList, Body}
 use Rattle.call_list.proofs.Parting.{body-most}
+use Rattle.word_reader.specs.Places.{call_at, call_end}
 use Rattle.word_reader.specs.Reading.{read}
+use Rattle.word_reader.proofs.Places.{end-of-call}
 
 -- behind a body stands the next call, or the end
 pub read-behind : (ws : List ℕ) → read (drop (length (body_of ws)) ws) ≡ calls ws
@@ -53,13 +55,22 @@ read-list bs l = go (words bs) l.are
         first true e = refl
         first false e = absurd (let z : ◌≡◌ {A = ℕ} 0 1 = cc in omega arith)
 
--- one call read, and what is left behind its body b
+-- a call is read, and what is left stands behind it
+pub read-call : (W : List ℕ) (i : ℕ) → i < length W → read (drop i W) ≡ call_at W i ∷ read (drop (call_end W i) W)
+read-call W i h =
+    let k = length (body_of (drop (i + 1) W)) in
+    let back : drop (call_end W i) W ≡ drop k (drop (i + 1) W) = ap (λ j. drop j W) (end-of-call W i h) ∙ sym (drop-drop k (i + 1) W) in
+    rw (back, read-behind (drop (i + 1) W)) (read-first W i h)
+
+-- the same by the bytes R behind the call's first word and its body b
 pub read-next : (bs R b : List ℕ) (i n : ℕ) → i < length bs / 4 → R ≡ drop (4 * (i + 1)) bs → n ≡ payload (get_or (words bs) i 0) → Body R b
     → read (drop i (words bs)) ≡ record { number = n; body = words b } ∷ read (drop (i + 1 + length b / 4) (words bs))
 read-next bs R b i n h eR en B =
     let k = length (body_of (words R)) in
     let most : 4 * k ≤ length R = omega (arith, body-most (words R), length-words R) in
-    let long : length b / 4 ≡ k = omega (arith, ap length B.front, length-take (4 * k) R) in
     let back : words R ≡ drop (i + 1) (words bs) = rw eR (words-drop bs (i + 1)) in
-    let rest : drop (i + 1 + length b / 4) (words bs) ≡ drop k (words R) = rw long (sym (drop-drop k (i + 1) (words bs)) ∙ ap (drop k) (sym back)) in
-    rw (rest, B.words-are, read-behind (words R), en, back) (read-first (words bs) i (omega (arith, length-words bs)))
+    let l : i < length (words bs) = omega (arith, length-words bs) in
+    let long : length b / 4 ≡ length (body_of (drop (i + 1) (words bs))) =
+    omega (arith, ap length B.front, length-take (4 * k) R, ap (λ W. length (body_of W)) back) in
+    let past : i + 1 + length b / 4 ≡ call_end (words bs) i = rw long (sym (end-of-call (words bs) i l)) in
+    rw (past, en, B.words-are, back) (read-call (words bs) i l)
