@@ -83,10 +83,12 @@ def main():
         os.mkdir(n)
         subprocess.run(f"git ls-files crates crates.txt | tar -c -T - 2>/dev/null | tar -x -C {n}", shell=True, check=True)
         r = contracts.compare(d, n)
+        # a program's functions are its own affair
+        ours = lambda name: not os.path.exists(os.path.join(n, "crates", name.split(" ")[0], "src", "main.rt"))
         signs = {x[0]: x for x in r["signatures changed"]}
         clauses = {x[0]: x for x in r["contracts changed"]}
         rows = []
-        for name in sorted(set(signs) | set(clauses)):
+        for name in filter(ours, sorted(set(signs) | set(clauses))):
             old, new = [], []
             if name in signs:
                 old.append("fn" + signs[name][1])
@@ -100,10 +102,10 @@ def main():
             if old or new:
                 rows.append(("`" + name + "`", old, new))
         show("Functions", rows)
-        show("Functions that are not found again", [(f"`{x}`", [], []) for x in r["functions not found again"]])
-        show("Types", beside(types(d), types(n)))
+        show("Functions that are not found again", [(f"`{x}`", [], []) for x in r["functions not found again"] if ours(x)])
+        show("Types", [x for x in beside(types(d), types(n)) if ours(x[0].strip("`"))])
         ghosts = r["ghost items and constants"]
-        show("Ghost items and constants", [("`" + " ".join(x[:-2]) + "`", x[-2], x[-1]) for x in ghosts["changed"]] + [("`" + " ".join(x) + "`, gone", [], []) for x in ghosts["gone"]])
+        show("Ghost items and constants", [x for x in [("`" + " ".join(x[:-2]) + "`", x[-2], x[-1]) for x in ghosts["changed"]] + [("`" + " ".join(x) + "`, gone", [], []) for x in ghosts["gone"]] if ours(x[0].strip("`"))])
         specs = [contracts.read(x)[3] for x in (d, n)]
         show("Definitions of specs/", beside(*specs))
         show("Theorems and lemmas of proofs/", beside(theorems(d), theorems(n)))
