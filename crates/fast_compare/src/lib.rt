@@ -132,7 +132,8 @@ fn compare_position(map: &[u8], position: usize, index: u32, ratio: &[u8], t: To
     compare(map, row, index, ratio, t)
 }
 
-// Halves 0..n by the order of its numbers, which rises, up to one that is Equal, or to where one would stand.
+// Halves 0..n by the order of its numbers, which rises, up to one that is Equal, or to where one would stand. A loop by hand: no index runs
+// through the range, it closes in from both ends.
 pub fn halve<F: Fn(usize) -> Ordering>(n: usize, order: F) -> Result<usize, usize>
     requires { (p : ℕ) → p < n → F.pre order p }
     ensures { Halved (F.post order) n result }

@@ -10,7 +10,8 @@ ghost use Rattle.monomial.specs.Sizes.{Sizes};
 ghost use Rattle.index_image.specs.Shape as at;
 ghost use Rattle.index_image.specs.Size.{IsLength};
 
-// The numbers of an image's header. They say where its tables begin, in words.
+// The numbers of an image's header. They say where its tables begin, in words. The kind, 0 of a monomial index and 1 of a ratio index, is
+// a number too, since what an entry has once or twice is counted with it.
 #[derive(Clone, Copy, Debug, PartialEq, Eq)]
 pub struct Shape {
     pub kind: usize,

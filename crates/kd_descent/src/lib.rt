@@ -25,8 +25,8 @@ pub enum Way {
     On { rows: usize, places: usize },
 }
 
-// Not shared with `index_image::stored`: there the gcd replaces the monomial that it is made of, here it goes to a row with its mask.
-// Writes the gcd of the row at word `at` and another entry's lm, and its mask.
+// Writes the gcd of the row at word `at` and another entry's lm, and its mask. Not shared with `index_image::stored`, where the gcd
+// replaces the monomial that it is made of.
 fn make_gcd(image: &mut [u8], s: Shape, at: usize, lm: &[u8])
     requires in_range { shape.InRange s }
     requires s_in_bounds { 4 * shape.size s ≤ length image.old }

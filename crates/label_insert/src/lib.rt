@@ -12,7 +12,7 @@ ghost use Rattle.fast_compare.specs.Layout.{encode, Is, Sound, Gave};
 
 use fast_compare::{Comparer, Unlabelled};
 
-// 1 + the label of the lower neighbour of a value with p values below it; 0 where it has none.
+// The least label above that of the lower neighbour of a value with p values below it; where it has none 0, the least label of all.
 fn lowest(map: &[u8], p: usize) -> u64
     requires sound { Sound map.now }
     requires p_bound { p ≤ get_or (words map.now) 3 0 }

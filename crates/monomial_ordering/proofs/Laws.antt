@@ -46,7 +46,7 @@ revlex-same (suc n) p q e v h =
       | no z ↦ revlex-same n p q b.0 v (omega arith)
     ]
 
--- two nat_cmp as equal exactly where they are the same words
+-- two compare as equal exactly where they are the same words
 pub order-equal : (k m : ℕ) (a b : List ℕ) → 0 < k → Canonical k m a → Canonical k m b → (order k a b ≡ Equal) ↔ (a ≡ b)
 unfolding order grevlex
 order-equal k m a b pos ca cb = (to, from)

@@ -7,7 +7,7 @@ use Rattle.words.specs.Kinds.{power, upper_half}
 use Rattle.monomial.specs.Monomial.{pow}
 use Rattle.monomial_ordering.specs.declared.Total.{Total}
 
--- the sum of the powers of the variables below n. A ratio's powers each have 32,768 added, so totals nat_cmp the same.
+-- the sum of the powers of the variables below n. A ratio's powers each have 32,768 added, so totals compare the same.
 unfoldable pub total : ℕ → (ℕ → ℕ) → ℕ
 total zero p = 0
 total (suc n) p = p n + total n p
