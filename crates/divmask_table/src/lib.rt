@@ -2,7 +2,7 @@
 #![tactic(auto)]
 
 ghost use Rattle.std.specs.Prelude.{◌≡◌, ◌+◌, ◌*◌, ◌/◌, ◌%◌, ◌<◌, ◌≤◌, length};
-ghost use Rattle.words.specs.Words.{words, put_w};
+ghost use Rattle.words.specs.Words.{words};
 ghost use Rattle.divmask_table.specs.Table.{both, Tabled, Judged};
 ghost use Rattle.divmask.specs.Tracker.{Maxima};
 
@@ -25,15 +25,6 @@ fn bits_at(maxima: &[u8], variables: u32, v: u32, power: u32) -> u64
     mask + 4294967296 * vector
 }
 
-// Writes x as words i and i + 1, the lower half first.
-fn put_pair(table: &mut [u8], i: usize, x: u64)
-    requires { 4 * i + 8 ≤ length table.old }
-    ensures { table.new ≡ put_w (put_w table.old i (x % 4294967296)) (i + 1) (x / 4294967296) }
-{
-    words::put(table, i, (x % 4294967296) as u32);
-    words::put(table, i + 1, (x / 4294967296) as u32);
-}
-
 // Writes the bits of each variable's powers 1 to 16.
 fn fill(maxima: &[u8], variables: u32, table: &mut [u8])
     requires maxima { Maxima variables (words maxima.now) }
@@ -43,7 +34,7 @@ fn fill(maxima: &[u8], variables: u32, table: &mut [u8])
 {
     for k in 0..16 * variables {
         let x = bits_at(maxima, variables, k / 16, k % 16 + 1);
-        put_pair(table, 2 * k as usize, x);
+        words::pairs::put(table, 2 * k as usize, x);
     }
 }
 

@@ -1,7 +1,9 @@
 -- The checks pass exactly for the image of a valid map; that image is one, and its bytes hold one state. Assumes nothing.
 use mathlib.Core.Path.{◌≡◌, refl, sym, ap, ◌∙◌}
 use mathlib.Core.List.{List, [], ◌∷◌}
-use mathlib.Core.Logic.{◌↔◌}
+use mathlib.Core.Logic.{◌↔◌, ∥∥₁_elim}
+use mathlib.Core.HLevel.{is_prop→PathP}
+use Rattle.std.proofs.Props.{props}
 use Prim.Native.Nat.{ℕ, ◌+◌, ◌-◌, ◌*◌, ◌/◌, ◌^◌, ◌≤◌, ◌<◌}
 use native.Mathlib.Omega.{arith}
 use lib.ListN.{length, get_or, drop}
@@ -14,7 +16,7 @@ use Rattle.words.proofs.Tables.{part-mid, Small, small-append, small-nil, small-
 use Rattle.words.proofs.Lists.{listed, length-listed}
 use Rattle.fast_compare.specs.Labels.{sorted, Labelled}
 use Rattle.fast_compare.specs.Map.{Value, cmp, Good, Row, State, row, value, label, Valid}
-use Rattle.fast_compare.specs.Layout.{row_words, encode, size, row_at, order_at, Is, SoundFor, value_at, TablesOk, HeadOk}
+use Rattle.fast_compare.specs.Layout.{row_words, encode, size, row_at, order_at, Is, Sound, SoundFor, value_at, TablesOk, HeadOk}
 use Rattle.fast_compare.proofs.Ranks.{sorted-ranked, sorted_ext, ranked-unique}
 use Rattle.fast_compare.proofs.Maps.{cmp-lawful}
 use Rattle.fast_compare.proofs.Images.{canon-small, of_row, four, together, ranked, encode-length, header, row_is, tables, found-ranked, found-distinct, found-labelled, row_listed, length-row}
@@ -211,3 +213,16 @@ module _ (st : State) (val : Valid st) where
 
 pub sound-long : (bs : List ℕ) (st : State) → Is st bs → 16 ≤ length bs
 sound-long bs st i = omega (arith, i.room)
+
+-- soundness is a proposition, since the state is unique
+is-prop : (st : State) (bs : List ℕ) → IsProp (Is st bs)
+is-prop st bs = hlevel props
+
+pub sound-prop : (bs : List ℕ) → IsProp (Sound bs)
+sound-prop bs a b =
+    let p = state-unique bs a.state b.state a.is b.is in
+    λ i. record { state = p i; is = is_prop→PathP (λ j. Is (p j) bs) (λ j. is-prop (p j) bs) a.is b.is i }
+
+-- so a map that is known to be sound somehow gives its state
+pub sound-known : {bs : List ℕ} → ∥ Sound bs ∥₁ → Sound bs
+sound-known {bs} s = ∥∥₁_elim s (sound-prop bs) (λ x. x)

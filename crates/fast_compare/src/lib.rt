@@ -52,86 +52,6 @@ pub fn length(variables: usize, capacity: usize) -> usize
     4 * (4 + capacity * (variables + 3) + capacity)
 }
 
-// The number of rows of a sound map.
-pub fn count(map: &[u8]) -> usize
-    requires { Sound map.now }
-    ensures value { result ≡ get_or (words map.now) 3 0 }
-    ensures value_2 { (st : State) → Is st map.now → result ≡ length st.rows }
-{
-    words::get(map, 3) as usize
-}
-
-// The number of the row with `position` values below its own.
-pub fn row_at(map: &[u8], position: usize) -> usize
-    requires sound { Sound map.now }
-    requires position_bound { position < get_or (words map.now) 3 0 }
-    ensures { (st : State) → Is st map.now → (result < length st.rows) × (result ≡ get_or (sorted cmp (value st.rows) (length st.rows)) position 0) }
-{
-    let variables = words::get(map, 1) as usize;
-    let capacity = words::get(map, 2) as usize;
-    words::get(map, 4 + capacity * (variables + 3) + position) as usize
-}
-
-// The label of a row.
-pub fn label(map: &[u8], row: usize) -> u32
-    requires sound { Sound map.now }
-    requires row_bound { row < get_or (words map.now) 3 0 }
-    ensures { (st : State) → Is st map.now → result ≡ Map.label st.rows row }
-{
-    let variables = words::get(map, 1) as usize;
-    words::get(map, 4 + row * (variables + 3) + (variables + 2))
-}
-
-// The label of the row with `position` values below its own.
-pub fn label_at(map: &[u8], position: usize) -> u32
-    requires sound { Sound map.now }
-    requires position_bound { position < get_or (words map.now) 3 0 }
-    ensures { (st : State) → Is st map.now → result ≡ Map.label st.rows (get_or (sorted cmp (value st.rows) (length st.rows)) position 0) }
-{
-    let row = row_at(map, position);
-    label(map, row)
-}
-
-// The signature index of a row.
-pub fn index_of(map: &[u8], row: usize) -> u32
-    requires sound { Sound map.now }
-    requires row_bound { row < get_or (words map.now) 3 0 }
-    ensures { (st : State) → Is st map.now → result ≡ (value st.rows row).index }
-{
-    let variables = words::get(map, 1) as usize;
-    words::payload(words::get(map, 4 + row * (variables + 3)))
-}
-
-// The value of a row, compared with another, whose ratio has the total t. Rows of another index need no total.
-pub fn compare(map: &[u8], row: usize, index: u32, ratio: &[u8], t: Total) -> Ordering
-    requires sound { Sound map.now }
-    requires row_bound { row < get_or (words map.now) 3 0 }
-    requires canonical { Canonical 2 4096 (words ratio.now) }
-    requires total_of { TotalOf 2 (words ratio.now) t }
-    ensures { (st : State) → Is st map.now → result ≡ cmp (value st.rows row) (value_of index (words ratio.now)) }
-{
-    let variables = words::get(map, 1) as usize;
-    let at = 4 + row * (variables + 3);
-    let i = words::payload(words::get(map, at));
-    if i != index {
-        return i.cmp(&index);
-    }
-    let s = rows::total_at(map, at);
-    rows::compare_at(map, at, s, index, ratio, t)
-}
-
-// The same for the row with `position` values below its own.
-fn compare_position(map: &[u8], position: usize, index: u32, ratio: &[u8], t: Total) -> Ordering
-    requires sound { Sound map.now }
-    requires position_bound { position < get_or (words map.now) 3 0 }
-    requires canonical { Canonical 2 4096 (words ratio.now) }
-    requires total_of { TotalOf 2 (words ratio.now) t }
-    ensures { (st : State) → Is st map.now → result ≡ cmp (value st.rows (get_or (sorted cmp (value st.rows) (length st.rows)) position 0)) (value_of index (words ratio.now)) }
-{
-    let row = row_at(map, position);
-    compare(map, row, index, ratio, t)
-}
-
 // Halves 0..n by the order of its numbers, which rises, up to one that is Equal, or to where one would stand. A loop by hand: no index runs
 // through the range, it closes in from both ends.
 pub fn halve<F: Fn(usize) -> Ordering>(n: usize, order: F) -> Result<usize, usize>
@@ -157,14 +77,95 @@ pub fn halve<F: Fn(usize) -> Ordering>(n: usize, order: F) -> Result<usize, usiz
     Err(lo)
 }
 
-// The place of a value: how many values lie below it; Ok where it is known.
-pub fn search(map: &[u8], index: u32, ratio: &[u8]) -> Result<usize, usize>
-    requires sound { Sound map.now }
-    requires canonical { Canonical 2 4096 (words ratio.now) }
-    ensures { (st : State) → Is st map.now → result ≡ place st.rows (value_of index (words ratio.now)) }
-{
-    let t = monomial_ordering::total_of(ratio, Kind::Ratio);
-    halve(count(map), |p| compare_position(map, p, index, ratio, t))
+// The bytes of a sound map, which is only read.
+#[derive(Clone, Copy)]
+pub struct ComparerMap<'a> {
+    pub bytes: &'a [u8],
+    pub ghost sound: { ∥ Sound bytes.now ∥₁ },
+}
+
+impl<'a> ComparerMap<'a> {
+    // The number of rows of a sound map.
+    pub fn count(&self) -> usize
+        ensures value { result ≡ get_or (words self.now.bytes.now) 3 0 }
+        ensures value_2 { (st : State) → Is st self.now.bytes.now → result ≡ length st.rows }
+    {
+        words::get(self.bytes, 3) as usize
+    }
+
+    // The number of the row with `position` values below its own.
+    pub fn row_at(&self, position: usize) -> usize
+        requires position_bound { position < get_or (words self.now.bytes.now) 3 0 }
+        ensures { (st : State) → Is st self.now.bytes.now → (result < length st.rows) × (result ≡ get_or (sorted cmp (value st.rows) (length st.rows)) position 0) }
+    {
+        let variables = words::get(self.bytes, 1) as usize;
+        let capacity = words::get(self.bytes, 2) as usize;
+        words::get(self.bytes, 4 + capacity * (variables + 3) + position) as usize
+    }
+
+    // The label of a row.
+    pub fn label(&self, row: usize) -> u32
+        requires row_bound { row < get_or (words self.now.bytes.now) 3 0 }
+        ensures { (st : State) → Is st self.now.bytes.now → result ≡ Map.label st.rows row }
+    {
+        let variables = words::get(self.bytes, 1) as usize;
+        words::get(self.bytes, 4 + row * (variables + 3) + (variables + 2))
+    }
+
+    // The label of the row with `position` values below its own.
+    pub fn label_at(&self, position: usize) -> u32
+        requires position_bound { position < get_or (words self.now.bytes.now) 3 0 }
+        ensures { (st : State) → Is st self.now.bytes.now → result ≡ Map.label st.rows (get_or (sorted cmp (value st.rows) (length st.rows)) position 0) }
+    {
+        let row = self.row_at(position);
+        self.label(row)
+    }
+
+    // The signature index of a row.
+    pub fn index_of(&self, row: usize) -> u32
+        requires row_bound { row < get_or (words self.now.bytes.now) 3 0 }
+        ensures { (st : State) → Is st self.now.bytes.now → result ≡ (value st.rows row).index }
+    {
+        let variables = words::get(self.bytes, 1) as usize;
+        words::payload(words::get(self.bytes, 4 + row * (variables + 3)))
+    }
+
+    // The value of a row, compared with another, whose ratio has the total t. Rows of another index need no total.
+    pub fn compare(&self, row: usize, index: u32, ratio: &[u8], t: Total) -> Ordering
+        requires row_bound { row < get_or (words self.now.bytes.now) 3 0 }
+        requires canonical { Canonical 2 4096 (words ratio.now) }
+        requires total_of { TotalOf 2 (words ratio.now) t }
+        ensures { (st : State) → Is st self.now.bytes.now → result ≡ cmp (value st.rows row) (value_of index (words ratio.now)) }
+    {
+        let variables = words::get(self.bytes, 1) as usize;
+        let at = 4 + row * (variables + 3);
+        let i = words::payload(words::get(self.bytes, at));
+        if i != index {
+            return i.cmp(&index);
+        }
+        let s = rows::total_at(self.bytes, at);
+        rows::compare_at(self.bytes, at, s, index, ratio, t)
+    }
+
+    // The same for the row with `position` values below its own.
+    fn compare_position(&self, position: usize, index: u32, ratio: &[u8], t: Total) -> Ordering
+        requires position_bound { position < get_or (words self.now.bytes.now) 3 0 }
+        requires canonical { Canonical 2 4096 (words ratio.now) }
+        requires total_of { TotalOf 2 (words ratio.now) t }
+        ensures { (st : State) → Is st self.now.bytes.now → result ≡ cmp (value st.rows (get_or (sorted cmp (value st.rows) (length st.rows)) position 0)) (value_of index (words ratio.now)) }
+    {
+        let row = self.row_at(position);
+        self.compare(row, index, ratio, t)
+    }
+
+    // The place of a value: how many values lie below it; Ok where it is known.
+    pub fn search(&self, index: u32, ratio: &[u8]) -> Result<usize, usize>
+        requires canonical { Canonical 2 4096 (words ratio.now) }
+        ensures { (st : State) → Is st self.now.bytes.now → result ≡ place st.rows (value_of index (words ratio.now)) }
+    {
+        let t = monomial_ordering::total_of(ratio, Kind::Ratio);
+        halve(self.count(), |p| self.compare_position(p, index, ratio, t))
+    }
 }
 
 // Writes an empty map: every byte of its length.

@@ -3,12 +3,15 @@
 
 pub mod fields;
 pub mod head;
+pub mod image;
 pub mod stored;
 
-ghost use Rattle.std.specs.Prelude.{◌≡◌, ◌≤◌};
+ghost use Rattle.std.specs.Prelude.{◌≡◌, ◌+◌, ◌*◌, ◌≤◌};
 ghost use Rattle.monomial.specs.Sizes.{Sizes};
 ghost use Rattle.index_image.specs.Shape as at;
 ghost use Rattle.index_image.specs.Size.{IsLength};
+
+use std::ops::Range;
 
 // The numbers of an image's header. They say where its tables begin, in words. The kind, 0 of a monomial index and 1 of a ratio index, is
 // a number too, since what an entry has once or twice is counted with it.
@@ -61,6 +64,24 @@ impl Shape {
             * (fields::LABELS
                 + self.capacity * (self.variables + fields::LABEL_ROW)
                 + self.capacity)
+    }
+
+    // The bytes of the map: the maxima that the masks were made from.
+    pub fn map(self) -> Range<usize>
+        requires { at.InRange self }
+        ensures { (result.start ≡ 4 * at.map_at self.variables) × (result.end ≡ 4 * (at.map_at self.variables + self.variables)) }
+    {
+        let a = 4 * (fields::HEADER + self.variables);
+        a..a + 4 * self.variables
+    }
+
+    // The bytes of the label map of a ratio index.
+    pub fn labels(self) -> Range<usize>
+        requires { at.InRange self }
+        ensures { (result.start ≡ 4 * at.labels_at self) × (result.end ≡ 4 * (at.labels_at self + at.labels_size self)) }
+    {
+        let a = 4 * self.labels_at();
+        a..a + 4 * self.labels_size()
     }
 
     // Node k, in preorder.

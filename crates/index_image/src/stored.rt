@@ -1,5 +1,5 @@
 // What the stored entries say: their monomials, their labels, and the gcd of some of them.
-ghost use Rattle.std.specs.Prelude.{◌≡◌, ◌+◌, ◌*◌, ◌<◌, ◌≤◌, length, drop};
+ghost use Rattle.std.specs.Prelude.{◌≡◌, ◌+◌, ◌*◌, ◌<◌, ◌≤◌, length, get_or, drop};
 ghost use Rattle.words.specs.Words.{words, paste_w};
 ghost use Rattle.words.specs.Tables.{part};
 ghost use Rattle.monomial.specs.Monomial.{Canonical, Starts, pow, first, front};
@@ -9,10 +9,10 @@ ghost use Rattle.divmask.specs.Mask.{mask, vector};
 ghost use Rattle.divmask.specs.Tracker.{Maxima};
 ghost use Rattle.index_image.specs.Layout.{gcd_of};
 ghost use Rattle.index_image.specs.Shape as shape;
-ghost use Rattle.index_image.specs.Walk.{Ready};
 ghost use Rattle.index_image.specs.Walk as entry;
 ghost use Rattle.index_image.specs.Rows as row;
 
+use crate::image::{Image, ReadyImage};
 use crate::{Shape, fields};
 
 // The part of the image that is the canonical monomial at word g, which is known to stand there.
@@ -33,42 +33,42 @@ pub fn monomial_from(image: &[u8], s: Shape, g: usize) -> &[u8]
     &image[a..]
 }
 
-// The label of the ratio of the entry at place e.
-pub fn label_in(image: &[u8], s: Shape, e: usize) -> u64
-    requires in_range { shape.InRange s }
-    requires s_in_bounds { 4 * shape.size s ≤ length image.now }
-    requires kind_value { (s.kind ≡ 1) × (e < s.capacity) }
-    requires e_bound { entry.row_in (words image.now) s e < s.capacity }
-    ensures { result ≡ entry.label (words image.now) s e }
-{
-    let m = s.variables;
-    let r = words::get(image, s.entry_at(e) + (2 * m + fields::ROW)) as usize;
-    words::get(
-        image,
-        s.labels_at() + (fields::LABELS + r * (m + fields::LABEL_ROW) + (m + fields::LABEL)),
-    ) as u64
-}
+impl<'a> Image<'a> {
+    // The label in a row of the label map.
+    pub fn row_label(&self, row: usize) -> u64
+        requires { (self.now.shape.kind ≡ 1) × (row < self.now.shape.capacity) }
+        ensures { result ≡ get_or (words self.now.bytes.now) (shape.label_at self.now.shape row) 0 }
+    {
+        let m = self.shape.variables;
+        let at = fields::LABELS + row * (m + fields::LABEL_ROW) + (m + fields::LABEL);
+        u64::from(words::get(self.bytes, self.shape.labels_at() + at))
+    }
 
-// The map of the image: the maxima that its masks were made from.
-pub fn map_of(image: &[u8], s: Shape) -> &[u8]
-    requires in_range { shape.InRange s }
-    requires s_in_bounds { 4 * shape.size s ≤ length image.now }
-    ensures { row.Taken result.now (entry.map_maxima (words image.now) s) }
-{
-    let a = 4 * (fields::HEADER + s.variables);
-    let b = a + 4 * s.variables;
-    &image[a..b]
-}
+    // The label of the ratio of the entry at place e.
+    pub fn label(&self, e: usize) -> u64
+        requires kind_value { (self.now.shape.kind ≡ 1) × (e < self.now.shape.capacity) }
+        requires e_bound { entry.row_in (words self.now.bytes.now) self.now.shape e < self.now.shape.capacity }
+        ensures { result ≡ entry.label (words self.now.bytes.now) self.now.shape e }
+    {
+        let at = self.shape.entry_at(e) + (2 * self.shape.variables + fields::ROW);
+        self.row_label(words::get(self.bytes, at) as usize)
+    }
 
-// Mask and short exponent vector of a monomial, by the map of the image.
-pub fn masks_of(image: &[u8], s: Shape, monomial: &[u8]) -> u64
-    requires in_range { shape.InRange s }
-    requires s_in_bounds { 4 * shape.size s ≤ length image.now }
-    requires maxima { Maxima s.variables (entry.map_maxima (words image.now) s) }
-    requires canonical { Canonical 1 s.variables (words monomial.now) }
-    ensures { result ≡ mask s.variables (entry.map_maxima (words image.now) s) (pow 1 (words monomial.now)) + 4294967296 * vector s.variables (pow 1 (words monomial.now)) }
-{
-    divmask::pairs::map(map_of(image, s), s.variables as u32, monomial)
+    // The map of the image: the maxima that its masks were made from.
+    pub fn map(&self) -> &'a [u8]
+        ensures { row.Taken result.now (entry.map_maxima (words self.now.bytes.now) self.now.shape) }
+    {
+        &self.bytes[self.shape.map()]
+    }
+
+    // Mask and short exponent vector of a monomial, by the map of the image.
+    pub fn masks_of(&self, monomial: &[u8]) -> u64
+        requires maxima { Maxima self.now.shape.variables (entry.map_maxima (words self.now.bytes.now) self.now.shape) }
+        requires canonical { Canonical 1 self.now.shape.variables (words monomial.now) }
+        ensures { result ≡ mask self.now.shape.variables (entry.map_maxima (words self.now.bytes.now) self.now.shape) (pow 1 (words monomial.now)) + 4294967296 * vector self.now.shape.variables (pow 1 (words monomial.now)) }
+    {
+        divmask::pairs::map(self.map(), self.shape.variables as u32, monomial)
+    }
 }
 
 // Replaces the monomial in the first n words by its gcd with the one that another slice begins with, and returns its length in words.
@@ -106,26 +106,36 @@ fn meet(acc: &mut [u8], n: usize, other: &[u8]) -> usize
     make_gcd(acc, n, other)
 }
 
-// Writes the gcd of the c entries from place lo on, and returns its length in words, as `monomial::gcd` does: a slice of `acc`
-// would be no plainer, since the gcd grows in place there, and the next step needs its length. Of none it is one.
-pub fn gcd_of(image: &[u8], s: Shape, lo: usize, c: usize, acc: &mut [u8]) -> usize
-    requires ready { Ready (words image.now) s }
-    requires c_bound { lo + c ≤ s.entries }
-    requires acc_len { length acc.old ≡ 260 }
-    ensures { (result ≤ 65) × (part (words acc.new) 0 result ≡ gcd_of (entry.power (words image.now) s) (row.entries_from (words image.now) s lo c)) }
-{
-    if c == 0 {
-        words::put(acc, 0, 0);
-        return 1;
+impl<'a> ReadyImage<'a> {
+    // The label of the ratio of the entry at place e.
+    pub fn label(&self, e: usize) -> u64
+        requires { (self.now.shape.kind ≡ 1) × (e < self.now.shape.entries) }
+        ensures { result ≡ entry.label (words self.now.bytes.now) self.now.shape e }
+    {
+        self.image().label(e)
     }
-    let p = s.permutation_at() + lo;
-    let e = words::get(image, p) as usize;
-    let first = monomial_in(image, s, s.entry_at(e));
-    words::runs::paste(acc, 0, first);
-    let mut n = first.len() / 4;
-    for i in 1..c {
-        let e = words::get(image, p + i) as usize;
-        n = meet(acc, n, monomial_from(image, s, s.entry_at(e)));
+
+    // Writes the gcd of the c entries from place lo on, and returns its length in words, as `monomial::gcd` does: a slice of `acc`
+    // would be no plainer, since the gcd grows in place there, and the next step needs its length. Of none it is one.
+    pub fn gcd_of(&self, lo: usize, c: usize, acc: &mut [u8]) -> usize
+        requires c_bound { lo + c ≤ self.now.shape.entries }
+        requires acc_len { length acc.old ≡ 260 }
+        ensures { (result ≤ 65) × (part (words acc.new) 0 result ≡ gcd_of (entry.power (words self.now.bytes.now) self.now.shape) (row.entries_from (words self.now.bytes.now) self.now.shape lo c)) }
+    {
+        if c == 0 {
+            words::put(acc, 0, 0);
+            return 1;
+        }
+        let s = self.shape;
+        let p = s.permutation_at() + lo;
+        let e = words::get(self.bytes, p) as usize;
+        let first = monomial_in(self.bytes, s, s.entry_at(e));
+        words::runs::paste(acc, 0, first);
+        let mut n = first.len() / 4;
+        for i in 1..c {
+            let e = words::get(self.bytes, p + i) as usize;
+            n = meet(acc, n, monomial_from(self.bytes, s, s.entry_at(e)));
+        }
+        n
     }
-    n
 }

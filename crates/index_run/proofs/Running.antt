@@ -10,7 +10,6 @@ use lib.ListN.{length, take, drop, length-append, length-take, length-drop}
 use borrow.Rule.Slice.PartMut.{put_mid}
 use Rattle.std.specs.Prelude.{Result}
 use Rattle.refusals.specs.declared.Refusal.{Refusal}
-use Rattle.refusals.specs.declared.Refusal.TheVariants.{Sizes, ShortImage, Unsound, NoList, ShortBuffer, NotServed, BadWords, Full, TooLarge, NoLabel}
 use Rattle.refusals.specs.Numbers.{number}
 use Rattle.words.specs.Kinds.{kind}
 use Rattle.words.specs.Words.{words, put_w, paste_w}
@@ -78,20 +77,6 @@ put_behind out ys n k w h ek ey =
     let room : 4 * 0 + 4 ≤ length lent = omega (arith, length-take k (drop (4 * n) out), length-drop (4 * n) out) in
     let e : n + 0 ≡ n = omega arith in
     ap (put_mid (4 * n) k out) (ey ∙ put_w-paste lent 0 w room) ∙ paste_w-part out n k 0 (w ∷ []) (omega arith) (omega arith) ∙ rw e (sym (put_w-paste out n w h))
-
--- ---- a reply's word
-pub number_small : (e : Refusal) → number e < 268435456
-unfolding number
-number_small Sizes = omega arith
-number_small ShortImage = omega arith
-number_small Unsound = omega arith
-number_small NoList = omega arith
-number_small ShortBuffer = omega arith
-number_small NotServed = omega arith
-number_small BadWords = omega arith
-number_small Full = omega arith
-number_small TooLarge = omega arith
-number_small NoLabel = omega arith
 
 -- ---- some of the calls cs have been served: n, and those that are left are still to come
 pub record Running (cs : List Call) (bs₀ out₀ bs out : List ℕ) (left : List Call) (n : ℕ) : Type 0 where

@@ -16,18 +16,18 @@ bits_at-x-requires c = record { maxima = c.requires.maxima; v_lt_variables = (om
 pub overflow_mul-k : goal.overflow_mul-k
 overflow_mul-k c = omega (arith, c.requires.maxima.few)
 
-pub put_pair-requires : goal.put_pair-requires
-put_pair-requires c = omega (arith, c.loop-k.invariant.0, c.requires.maxima.few)
+pub put-requires : goal.put-requires
+put-requires c = omega (arith, c.loop-k.invariant.0, c.requires.maxima.few)
 
 pub loop-k-preserved : goal.loop-k-preserved
 loop-k-preserved c =
     let loop = c.loop-k in
     let x = c.bits_at-x in
-    let put = c.put_pair in
+    let put = c.put in
     let l = ap length put.ensures ∙ length-put_w (put_w loop.table (2 * loop.k) (x.result % 4294967296)) (2 * loop.k + 1)
     (x.result / 4294967296) ∙ length-put_w loop.table (2 * loop.k) (x.result % 4294967296) in (
       l ∙ loop.invariant.0,
-      fill_more _ _ loop.table put.new.table loop.k x.result (omega (arith, loop.invariant.0, c.requires.maxima.few))
+      fill_more _ _ loop.table put.new.s loop.k x.result (omega (arith, loop.invariant.0, c.requires.maxima.few))
           (omega arith) x.ensures put.ensures loop.invariant.1,
     )
 

@@ -1,5 +1,5 @@
 use native.Mathlib.Omega.{arith}
-use Rattle.index_run.proofs.Running.{number_small}
+use Rattle.refusals.proofs.Small.{number_small}
 use Rattle.index_run.proofs.word.Goals as goal
 
 pub refusal_word-requires : goal.refusal_word-requires

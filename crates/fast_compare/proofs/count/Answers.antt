@@ -1,6 +1,0 @@
-use mathlib.Core.Path.{◌∙◌}
-use Rattle.fast_compare.proofs.Exact.{count_of}
-use Rattle.fast_compare.proofs.count.Goals as goal
-
-pub returns : goal.returns
-returns c = record { value = c.get.ensures; value_2 = λ st i. c.get.ensures ∙ count_of c.args.map.now st i }

@@ -1,8 +1,0 @@
-use Prim.Native.Nat.{◌+◌}
-use Rattle.words.specs.Words.{words}
-use Rattle.index_image.specs.Shape as at
-use Rattle.index_image.proofs.Reading.{Folding}
-use Rattle.index_image.proofs.stored.gcd_of.Given as goal
-
-abbrev pub invariant-loop-i : goal.invariant-loop-i
-invariant-loop-i l = Folding (words l.image) l.s (at.permutation_at l.s + l.lo) l.c l.acc l.n l.i

@@ -1,0 +1,2 @@
+-- `Small`: how large the number of a refusal is.
+pub mod Small
