@@ -9,7 +9,7 @@ ghost use Rattle.divisor_index.specs.Doors.{opening_good, length_of, length_numb
 use index_image::Shape;
 use refusals::Refusal;
 
-// Question 1.
+// Question 1. The kind is a number here and below, since C gives it as one, and any can be given.
 #[tactic(auto, unfolding(crate::specs::Doors::opening_good))]
 fn opening_good(kind: u32, variables: u32, capacity: u32, maxima: &[u8]) -> bool
     ensures { result ≡ opening_good kind variables capacity maxima.now }

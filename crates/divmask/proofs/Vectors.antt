@@ -2,7 +2,7 @@
 use mathlib.Core.Path.{◌≡◌, refl, sym, ap, ◌∙◌}
 use mathlib.Core.Bool.{cond}
 use mathlib.Core.List.{List, [], ◌∷◌, ◌++◌}
-use Prim.Native.Nat.{ℕ, zero, suc, min, max, ◌+◌, ◌-◌, ◌*◌, ◌/◌, ◌%◌, ◌^◌, ◌≤◌, ◌<◌}
+use Prim.Native.Nat.{ℕ, zero, suc, min, max, ◌+◌, ◌-◌, ◌*◌, ◌%◌, ◌^◌, ◌≤◌, ◌<◌}
 use native.Mathlib.Omega.{arith}
 use native.Mathlib.Nat.{one-mul, zero-mul, mul-add, pow-suc, zero-min, add-mul-div_right, div-eq_of_lt}
 use native.Mathlib.Decide.{ℕ_discrete, dec_le}
@@ -10,14 +10,14 @@ use lib.Dec.{ltb}
 use lib.ListN.{length, get_or, get_or-append}
 use lib.Seq.{get_or-append_seam}
 use borrow.Author.Tests.{lt-ltb, le-ltb}
-use Rattle.words.specs.Kinds.{kind, ident, power}
+use Rattle.words.specs.Kinds.{kind}
 use Rattle.words.specs.Tables.{table}
 use Rattle.words.proofs.Tables.{length-table}
 use Rattle.monomial.specs.Monomial.{pow}
 use Rattle.monomial.specs.Operations.{Divides}
 use Rattle.divmask.specs.Mask.{bits, first_bit, cutoff, parts, bit_counts, vector, bit, Within}
 use Rattle.divmask.proofs.Parts.{parts-zero, parts-suc, ones}
-use Rattle.divmask.proofs.Masks.{mask-bit, mask-small, mask-divides, Mapping, mapped, step, bits_are, Stepped, stepped}
+use Rattle.divmask.proofs.Masks.{mask-bit, mask-small, mask-divides, Mapping, mapped}
 
 -- ---- the fixed maxima
 single : (n : ℕ) (f : ℕ → ℕ) (i : ℕ) → i < n → get_or (table n (λ v. f v ∷ [])) i 0 ≡ f i
@@ -79,11 +79,3 @@ module _ {m : ℕ} {A : List ℕ} {i sum : ℕ} (s : Mapping m (bit_counts m) A 
   pub vector-mapped : kind w ≡ 0 → sum ≡ vector m (pow 1 A)
   unfolding vector
   vector-mapped h = mapped s e h
-
-  pub short-stepped : (kind w ≡ 0 → ⊥) → {v p b f t : ℕ} → v ≡ ident w → p ≡ power w → b ≡ 32 / m + cond (ltb v (32 % m)) 1 0
-      → f ≡ parts b (max 1 b) p b → t ≡ v * (32 / m) + min v (32 % m) → Stepped m (bit_counts m) A i sum t f
-  short-stepped h {v} {p} {b} {f} {t} ev ep eb ef et =
-      let k = step s e h in
-      let is = bits_are m v b eb in
-      let c : max 1 b ≡ get_or (bit_counts m) v 0 = ap (max 1) is ∙ sym (count_at m v (omega (arith, k.known))) in
-      stepped s e h ev ep c eb ef et

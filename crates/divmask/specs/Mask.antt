@@ -45,6 +45,10 @@ bit_counts m = table m (λ v. max 1 (bits m v) ∷ [])
 unfoldable pub vector : ℕ → (ℕ → ℕ) → ℕ
 vector m p = mask m (bit_counts m) p
 
+-- what variable v adds to a mask at power q, and in the upper half what it adds to the short exponent vector
+unfoldable pub both : ℕ → List ℕ → ℕ → ℕ → ℕ
+both m xs v q = field m xs v q * 2 ^ first_bit m v + 4294967296 * (field m (bit_counts m) v q * 2 ^ first_bit m v)
+
 -- bit i of a mask
 unfoldable pub bit : ℕ → ℕ → ℕ
 bit a i = a / 2 ^ i % 2

@@ -47,22 +47,31 @@ pub fn field(bits: u32, maximum: u32, power: u32) -> u64
     (1u64 << (least / maximum)) - 1
 }
 
-// The mask of the monomial at the front of a slice.
-pub fn map(maxima: &[u8], variables: u32, monomial: &[u8]) -> u32
-    requires maxima { Maxima variables (words maxima.now) }
-    requires starts { Starts 1 variables (words monomial.now) }
-    ensures { result ≡ mask variables (words maxima.now) (pow 1 (first 1 (words monomial.now))) }
-{
-    let whole = 32 / variables;
-    let extra = 32 % variables;
-    let mut mask: u64 = 0;
-    for w in variables_of(monomial) {
-        let v = words::id(w);
-        let x = words::get(maxima, v as usize);
-        let f = field(bits_of(whole, extra, v), x, words::power(w));
-        mask += f << first_bit(whole, extra, v);
+// How the masks of monomials are made: by the maxima of their variables, one word each.
+#[derive(Clone, Copy)]
+pub struct DivMap<'a> {
+    pub maxima: &'a [u8],
+    pub variables: u32,
+    pub ghost lent: { Maxima variables (words maxima.now) },
+}
+
+impl DivMap<'_> {
+    // The mask of the monomial at the front of a slice.
+    pub fn map(&self, monomial: &[u8]) -> u32
+        requires { Starts 1 self.now.variables (words monomial.now) }
+        ensures { result ≡ mask self.now.variables (words self.now.maxima.now) (pow 1 (first 1 (words monomial.now))) }
+    {
+        let whole = 32 / self.variables;
+        let extra = 32 % self.variables;
+        let mut mask: u64 = 0;
+        for w in variables_of(monomial) {
+            let v = words::id(w);
+            let x = words::get(self.maxima, v as usize);
+            let f = field(bits_of(whole, extra, v), x, words::power(w));
+            mask += f << first_bit(whole, extra, v);
+        }
+        mask as u32
     }
-    mask as u32
 }
 
 // The mask test.

@@ -1,10 +1,10 @@
 // A mask and a short exponent vector side by side, tested as one number of 64 bits: one branch rules an entry out by either.
-ghost use Rattle.std.specs.Prelude.{◌≡◌, ◌&&◌, ◌+◌, ◌*◌, ◌/◌, ◌%◌, ◌≤◌, max};
+ghost use Rattle.std.specs.Prelude.{◌≡◌, ◌&&◌, ◌+◌, ◌*◌, ◌/◌, ◌%◌, ◌<◌, ◌≤◌, max};
 ghost use Rattle.words.specs.Words.{words};
 ghost use Rattle.monomial.specs.Monomial.{Starts, first, pow};
-ghost use Rattle.divmask.specs.Mask.{parts, mask, vector, within};
-ghost use Rattle.divmask.specs.Tracker.{Maxima};
+ghost use Rattle.divmask.specs.Mask.{parts, mask, vector, both, within};
 
+use crate::DivMap;
 use monomial::variables::variables_of;
 
 // Whether both halves of a are within those of b.
@@ -22,25 +22,31 @@ pub fn short_field(bits: u32, power: u32) -> u64
     (1u64 << power.min(bits)) - 1
 }
 
-// The mask of the monomial at the front of a slice, and in the upper half its short exponent vector.
-// Its walk is that of `divmask::map` with a second sum: one walk for both would make vectors where none is wanted, or take a closure and laws of its sums.
-pub fn map(maxima: &[u8], variables: u32, monomial: &[u8]) -> u64
-    requires maxima { Maxima variables (words maxima.now) }
-    requires starts { Starts 1 variables (words monomial.now) }
-    ensures { result ≡ mask variables (words maxima.now) (pow 1 (first 1 (words monomial.now))) + 4294967296 * vector variables (pow 1 (first 1 (words monomial.now))) }
-{
-    let whole = 32 / variables;
-    let extra = 32 % variables;
-    let mut mask: u64 = 0;
-    let mut vector: u64 = 0;
-    for w in variables_of(monomial) {
-        let v = words::id(w);
-        let p = words::power(w);
-        let x = words::get(maxima, v as usize);
+impl DivMap<'_> {
+    // The bits that variable v sets in a mask by its power, and in the upper half those in the short exponent vector.
+    pub fn bits_at(&self, v: u32, power: u32) -> u64
+        requires { (v < self.now.variables) × ((1 ≤ power) × (power ≤ 32767)) }
+        ensures { result ≡ both self.now.variables (words self.now.maxima.now) v power }
+    {
+        let whole = 32 / self.variables;
+        let extra = 32 % self.variables;
+        let x = words::get(self.maxima, v as usize);
         let b = crate::bits_of(whole, extra, v);
         let t = crate::first_bit(whole, extra, v);
-        mask += crate::field(b, x, p) << t;
-        vector += short_field(b, p) << t;
+        let mask = crate::field(b, x, power) << t;
+        let vector = short_field(b, power) << t;
+        mask + 4294967296 * vector
     }
-    mask + 4294967296 * vector
+
+    // The mask of the monomial at the front of a slice, and in the upper half its short exponent vector.
+    pub fn map_pair(&self, monomial: &[u8]) -> u64
+        requires { Starts 1 self.now.variables (words monomial.now) }
+        ensures { result ≡ mask self.now.variables (words self.now.maxima.now) (pow 1 (first 1 (words monomial.now))) + 4294967296 * vector self.now.variables (pow 1 (first 1 (words monomial.now))) }
+    {
+        let mut masks: u64 = 0;
+        for w in variables_of(monomial) {
+            masks += self.bits_at(words::id(w), words::power(w));
+        }
+        masks
+    }
 }

@@ -1,13 +1,9 @@
 -- A table of the bits that small powers set. Assumes nothing.
-use Rattle.std.specs.Prelude.{◌≡◌, ℕ, ◌+◌, ◌-◌, ◌*◌, ◌^◌, ◌<◌, ◌≤◌, List, drop, ◌≢◌, slice_index, Option, MatchOption}
+use Rattle.std.specs.Prelude.{◌≡◌, ℕ, ◌+◌, ◌-◌, ◌*◌, ◌<◌, ◌≤◌, List, drop, ◌≢◌, slice_index, Option, MatchOption}
 use Rattle.words.specs.Tables.{part}
 use Rattle.monomial.specs.Monomial.{front, pow}
-use Rattle.divmask.specs.Mask.{first_bit, field, bit_counts, mask, vector}
+use Rattle.divmask.specs.Mask.{mask, vector, both}
 use Rattle.divmask_table.specs.declared.Slot.{Slot}
-
--- what variable v adds to a mask at power q, and in the upper half what it adds to the short exponent vector
-unfoldable pub both : ℕ → List ℕ → ℕ → ℕ → ℕ
-both m xs v q = field m xs v q * 2 ^ first_bit m v + 4294967296 * (field m (bit_counts m) v q * 2 ^ first_bit m v)
 
 -- the k-th pair of words, the first in the lower half
 abbrev pub pair_at : List ℕ → ℕ → ℕ

@@ -7,7 +7,7 @@ ghost use Rattle.divmask.specs.Mask.{tested};
 ghost use Rattle.refusals.specs.Numbers.{told};
 ghost use Rattle.divmask_work.specs.Doors as spec;
 
-use divmask::{DivMaskTestResult, tracker};
+use divmask::{DivMap, DivMaskTestResult, tracker};
 use monomial::Kind;
 use refusals::Refusal;
 
@@ -29,7 +29,8 @@ fn mask(variables: u32, maxima: &[u8], monomial: &[u8], out: &mut [u8]) -> Resul
         Refusal::BadWords,
     )?;
     ask(out.len() >= 4, Refusal::ShortBuffer)?;
-    words::put(out, 0, divmask::map(maxima, variables, monomial));
+    let map = DivMap { maxima, variables };
+    words::put(out, 0, map.map(monomial));
     Ok(())
 }
 

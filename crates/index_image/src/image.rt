@@ -34,6 +34,7 @@ pub struct SoundImage<'a> {
     pub ghost head: { head.HeadOk (words bytes.now) (length bytes.now) shape },
 }
 
+// Both forget what else is known, each of its own facts: one function of both would need a trait with the same two clauses.
 impl<'a> ReadyImage<'a> {
     pub fn image(&self) -> Image<'a>
         ensures { (result.bytes.now ≡ self.now.bytes.now) × (result.shape ≡ self.now.shape) }

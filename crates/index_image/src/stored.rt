@@ -14,6 +14,7 @@ ghost use Rattle.index_image.specs.Rows as row;
 
 use crate::image::{Image, ReadyImage};
 use crate::{Shape, fields};
+use divmask::DivMap;
 
 // The part of the image that is the canonical monomial at word g, which is known to stand there.
 pub fn monomial_in(image: &[u8], s: Shape, g: usize) -> &[u8]
@@ -61,13 +62,15 @@ impl<'a> Image<'a> {
         &self.bytes[self.shape.map()]
     }
 
-    // Mask and short exponent vector of a monomial, by the map of the image.
-    pub fn masks_of(&self, monomial: &[u8]) -> u64
-        requires maxima { Maxima self.now.shape.variables (entry.map_maxima (words self.now.bytes.now) self.now.shape) }
-        requires canonical { Canonical 1 self.now.shape.variables (words monomial.now) }
-        ensures { result ≡ mask self.now.shape.variables (entry.map_maxima (words self.now.bytes.now) self.now.shape) (pow 1 (words monomial.now)) + 4294967296 * vector self.now.shape.variables (pow 1 (words monomial.now)) }
+    // How its masks are made.
+    pub fn div_map(&self) -> DivMap<'a>
+        requires { Maxima self.now.shape.variables (entry.map_maxima (words self.now.bytes.now) self.now.shape) }
+        ensures { (result.variables ≡ self.now.shape.variables) × (words result.maxima.now ≡ entry.map_maxima (words self.now.bytes.now) self.now.shape) }
     {
-        divmask::pairs::map(self.map(), self.shape.variables as u32, monomial)
+        DivMap {
+            maxima: self.map(),
+            variables: self.shape.variables as u32,
+        }
     }
 }
 
@@ -107,6 +110,13 @@ fn meet(acc: &mut [u8], n: usize, other: &[u8]) -> usize
 }
 
 impl<'a> ReadyImage<'a> {
+    // How the masks of the image are made.
+    pub fn div_map(&self) -> DivMap<'a>
+        ensures { (result.variables ≡ self.now.shape.variables) × (words result.maxima.now ≡ entry.map_maxima (words self.now.bytes.now) self.now.shape) }
+    {
+        self.image().div_map()
+    }
+
     // The label of the ratio of the entry at place e.
     pub fn label(&self, e: usize) -> u64
         requires { (self.now.shape.kind ≡ 1) × (e < self.now.shape.entries) }

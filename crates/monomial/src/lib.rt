@@ -33,7 +33,7 @@ impl Kind {
         }
     }
 
-    /// What a word holds for the power 0.
+    /// What a word holds for the power 0: an offset, and no second numbering of the kinds.
     pub fn bias(self) -> u32
         ensures { result ≡ bias (number self) }
     {

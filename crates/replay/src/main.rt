@@ -14,7 +14,7 @@ fn line(rt: &impl Print, w: u64) -> io::Result<()> {
 fn lines(rt: &impl Print, answers: &[u8]) -> io::Result<()> {
     let n = answers.len() / 4;
     for i in 0..n {
-        line(rt, words::get(answers, i) as u64)?;
+        line(rt, u64::from(words::get(answers, i)))?;
     }
     Ok(())
 }
@@ -26,7 +26,7 @@ fn replay(rt: &impl Print, image: &mut [u8], list: &[u8]) -> io::Result<()>
     let mut answers = [0u8; 16384];
     let r = divisor_index::divisor_index_run(image, list, &mut answers);
     if r != 0 {
-        return line(rt, 0x50000000 + r as u64);
+        return line(rt, 0x50000000 + u64::from(r));
     }
     let n = 4 * call_list::count(list);
     lines(rt, &answers[..n])

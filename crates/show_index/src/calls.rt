@@ -1,7 +1,6 @@
 // Calls of a ratio index: written into a list, and shown with their answers.
-ghost use Rattle.std.specs.Prelude.{◌<◌};
-
 use crate::monomials::{Monomial, Ratio, Signature};
+use monomial::Kind;
 use std::alloc::{AllocError, Global};
 use std::{array, fmt};
 
@@ -87,19 +86,13 @@ fn over(m: Powers, n: Powers) -> Monomial {
     Monomial(array::from_fn(|i| u32::from(m[i].saturating_sub(n[i]))))
 }
 
-// Adds the words of the variables whose powers are not `none`, and the end word.
-fn write_powers(
-    list: &mut Vec<u32>,
-    kind: u32,
-    none: u16,
-    powers: [u16; 4],
-) -> Result<(), AllocError>
-    requires { kind < 16 }
-{
+// Adds the words of the variables whose powers are not those of an absent one, and the end word.
+fn write_powers(list: &mut Vec<u32>, kind: Kind, powers: [u16; 4]) -> Result<(), AllocError> {
     let mut n = 0;
     for (i, power) in powers.iter().enumerate() {
-        if *power != none {
-            list.push(words::var_word(kind, (3 - i) as u32, u32::from(*power)))?;
+        let power = u32::from(*power);
+        if power != kind.bias() {
+            list.push(words::var_word(kind.number(), (3 - i) as u32, power))?;
             n += 1;
         }
     }
@@ -108,13 +101,13 @@ fn write_powers(
 }
 
 fn write_monomial(list: &mut Vec<u32>, m: Powers) -> Result<(), AllocError> {
-    write_powers(list, 1, 0, m.map(u16::from))
+    write_powers(list, Kind::Monomial, m.map(u16::from))
 }
 
 // A ratio's powers have 32,768 more.
 fn write_ratio(list: &mut Vec<u32>, m: Powers, n: Powers) -> Result<(), AllocError> {
     let powers = array::from_fn(|i| 32768 + u16::from(m[i]) - u16::from(n[i]));
-    write_powers(list, 2, 32768, powers)
+    write_powers(list, Kind::Ratio, powers)
 }
 
 /// The list of these calls.
@@ -143,7 +136,7 @@ impl Answer {
     /// The answer word of the call.
     pub fn read(call: Call, word: u32) -> Answer {
         let payload = words::payload(word);
-        if words::kind(word) == 5 {
+        if words::kind(word) == words::REFUSAL {
             return Answer::Refused(payload);
         }
         match call.question {

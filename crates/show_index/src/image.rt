@@ -45,10 +45,8 @@ impl fmt::Display for Split {
 
 impl<'a> Image<'a> {
     pub fn read(bytes: &'a [u8]) -> Option<Image<'a>> {
-        match index_image::head::read(bytes) {
-            Some(shape) => Some(Image { bytes, shape }),
-            None => None,
-        }
+        let shape = index_image::head::read(bytes)?;
+        Some(Image { bytes, shape })
     }
 
     // Word i, or 0 where there is none.

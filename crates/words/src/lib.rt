@@ -8,7 +8,8 @@ ghost use Rattle.std.specs.Prelude.{◌≡◌, ◌+◌, ◌*◌, ◌<◌, ◌≤
 ghost use Rattle.words.specs.Words.{words, put_w};
 ghost use Rattle.words.specs.Kinds as kinds;
 
-// The kinds of words, in the top 4 bits; a variable's word of a monomial, and of a ratio.
+// The kinds of words, in the top 4 bits; a variable's word of a monomial, and of a ratio. They are numbers and no enum: they stand in bytes
+// that C writes, where any of the 16 can be.
 pub const END: u32 = 0;
 
 pub const VARIABLE: u32 = 1;

@@ -40,14 +40,15 @@ returns-in_err-ask-3 c =
     let e = refused-by _ _ _ a.1 c.from_residual-in_err-ask-3.ensures.1 in
     record { value = rw (e, yes, canonical, a.0) refl; out_after = rw (yes, canonical, a.0) refl }
 
+pub invariant_of-map : goal.invariant_of-map
+invariant_of-map c =
+    let yes = sym c.maxima_good.ensures ∙ asked-yes _ _ _ (sym c.ask.ensures ∙ c.in_ok-ask.was) in
+    record { lent = ((lent-maxima c.args.variables c.args.maxima.now).0 yes).1 }
+
 pub map-requires : goal.map-requires
 map-requires c =
-    let yes = sym c.maxima_good.ensures ∙ asked-yes _ _ _ (sym c.ask.ensures ∙ c.in_ok-ask.was) in
     let canonical = sym c.is_canonical.ensures ∙ asked-yes _ _ _ (sym c.ask-2.ensures ∙ c.in_ok-ask-2.was) in
-    record {
-      maxima = ((lent-maxima c.args.variables c.args.maxima.now).0 yes).1;
-      starts = starts-whole ((lent-canonical 1 c.args.variables c.args.monomial.now).0 canonical).1;
-    }
+    starts-whole ((lent-canonical 1 c.args.variables c.args.monomial.now).0 canonical).1
 
 pub put-requires : goal.put-requires
 put-requires c =
