@@ -15,14 +15,14 @@ use index_image::{Shape, fields, stored};
 use monomial::Kind;
 use std::ops::Range;
 
-// The bounds of a branch's sides: on the less side variable `variable` is below `power` and labels are below `less`,
-// on the other side labels are from `other` on.
-#[derive(Clone, Copy)]
+// The bounds of a branch's sides: on the less side variable `variable` is below `power` and labels are among `less`,
+// on the other side labels are among `other`.
+#[derive(Drop)]
 pub struct Limits {
     pub variable: usize,
     pub power: u32,
-    pub less: u64,
-    pub other: u64,
+    pub less: Range<u64>,
+    pub other: Range<u64>,
 }
 
 // Whether the row at word `at` has a branch's dimension and key, and entries for two sides. It takes bytes and numbers, and no `Image`, which would
@@ -45,11 +45,11 @@ pub fn key_ok(image: &[u8], s: Shape, at: usize) -> bool
 }
 
 // The bounds of the two sides of the branch at word `at`.
-pub fn sides(image: &ReadyImage<'_>, hi: &[u8], labels: &Range<u64>, at: usize) -> Limits
+pub fn sides(image: &ReadyImage<'_>, hi: &[u8], labels: Range<u64>, at: usize) -> Limits
     requires uppers { Uppers image.now.shape.variables hi.now }
     requires at_in_bounds { 4 * shape.skip_at at ≤ length image.now.bytes.now }
     requires key_in { KeyIn (words image.now.bytes.now) image.now.shape at }
-    ensures { Cut (words image.now.bytes.now) image.now.shape (words hi.now) labels.now.start labels.now.end at result }
+    ensures { Cut (words image.now.bytes.now) image.now.shape (words hi.now) labels.start labels.end at result }
 {
     let kind = image.shape.kind;
     let tag = words::get(image.bytes, at) as usize;
@@ -59,16 +59,16 @@ pub fn sides(image: &ReadyImage<'_>, hi: &[u8], labels: &Range<u64>, at: usize) 
         return Limits {
             variable: 0,
             power: words::get(hi, 0),
-            less: l.min(labels.end),
-            other: l.max(labels.start),
+            less: labels.start..l.min(labels.end),
+            other: l.max(labels.start)..labels.end,
         };
     }
     let v = tag - 1 - kind;
     Limits {
         variable: v,
         power: key.min(words::get(hi, v)),
-        less: labels.end,
-        other: labels.start,
+        less: labels.start..labels.end,
+        other: labels,
     }
 }
 

@@ -14,7 +14,7 @@ returns-then-tag-kind c =
     let if1 = c.if-tag-kind in
     let label-in = c.label-l in
     let get3 = c.get in
-    cut-ratio (words c.args.image.now.bytes.now) c.args.image.now.shape (words c.args.hi.now) c.args.labels.now.start c.args.labels.now.end
+    cut-ratio (words c.args.image.now.bytes.now) c.args.image.now.shape (words c.args.hi.now) c.args.labels.start c.args.labels.end
     c.args.at c.args.image.now.ready.range (omega (arith, length-words c.args.hi.now, c.requires.uppers.one_each))
     c.requires.uppers.some c.requires.key_in get.result get.ensures if1.true get2.result label-in.result
     get3.result c.min.result c.max.result get2.ensures label-in.ensures get3.ensures (omega (arith, get3.type_inv))
@@ -25,7 +25,7 @@ returns c =
     let get = c.get-tag in
     let get2 = c.get-key in
     let if1 = c.if-tag-kind in
-    cut-variable (words c.args.image.now.bytes.now) c.args.image.now.shape (words c.args.hi.now) c.args.labels.now.start c.args.labels.now.end
+    cut-variable (words c.args.image.now.bytes.now) c.args.image.now.shape (words c.args.hi.now) c.args.labels.start c.args.labels.end
     c.args.at c.args.image.now.ready.range (omega (arith, length-words c.args.hi.now, c.requires.uppers.one_each))
     c.requires.uppers.some c.requires.key_in get.result get.ensures if1.false get2.result c.min-2.result
     get2.ensures (omega (arith, get2.type_inv)) (rw c.get-2.ensures at c.min-2.ensures)

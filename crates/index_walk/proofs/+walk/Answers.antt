@@ -85,11 +85,11 @@ count_same c r = c.count_at-all.ensures ∙ sym r.count
 
 -- the other side was walked
 other : {t : ℕ} (c : After-walk t) → c.put.new.s ≡ c.args.hi.now → c.count_at-all.result ≡ c.get-c.result
-    → Walked (words c.args.image.now.bytes.now) c.args.image.now.shape (words c.args.hi.now) c.sides-b.result.other c.args.labels.end (c.args.k + 1 + c.in_ok-t.t) (c.args.lo + c.count_behind-ca.result) (c.get-c.result - c.count_behind-ca.result) c.walk.result
+    → Walked (words c.args.image.now.bytes.now) c.args.image.now.shape (words c.args.hi.now) c.sides-b.result.other.start c.sides-b.result.other.end (c.args.k + 1 + c.in_ok-t.t) (c.args.lo + c.count_behind-ca.result) (c.get-c.result - c.count_behind-ca.result) c.walk.result
 other c k n = rw k at (rw n at c.walk.ensures.walked)
 
 two : {t : ℕ} (c : In_ok-w t) (l : Less c.args.image.now.ready (words c.args.hi.now) c.args.labels.start c.args.labels.end c.args.k c.args.lo c.args.avail c.get-c.result c.get.result c.sides-b.result c.walk-less.result)
-    (o : Walked (words c.args.image.now.bytes.now) c.args.image.now.shape (words c.args.hi.now) c.sides-b.result.other c.args.labels.end (c.args.k + 1 + c.in_ok-t.t) (c.args.lo + c.count_behind-ca.result) (c.get-c.result - c.count_behind-ca.result) c.walk.result)
+    (o : Walked (words c.args.image.now.bytes.now) c.args.image.now.shape (words c.args.hi.now) c.sides-b.result.other.start c.sides-b.result.other.end (c.args.k + 1 + c.in_ok-t.t) (c.args.lo + c.count_behind-ca.result) (c.get-c.result - c.count_behind-ca.result) c.walk.result)
     → Two c.args.image.now.ready l c.in_ok-t.was c.count_behind-ca.ensures o c.in_ok-w.was
 two c l o = two_is c.args.image.now.ready l c.in_ok-t.was c.count_behind-ca.ensures o c.in_ok-w.was
 
