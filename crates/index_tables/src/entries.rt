@@ -1,7 +1,6 @@
 // The door's checks of the entries: canonical slots with their masks, ratios that the label map has, and unused rows that are 0.
 ghost use Rattle.std.specs.Prelude.{◌≡◌, true, cond, ◌↔◌, ℕ, ◌+◌, ◌*◌, ◌≤◌, ◌<◌, eqb, length};
 ghost use Rattle.words.specs.Words.{words};
-ghost use Rattle.words.specs.Tables.{part};
 ghost use Rattle.words.specs.Kinds.{var_word};
 ghost use Rattle.monomial.specs.Monomial.{Starts, first};
 ghost use Rattle.monomial.specs.Operations.{result_words};
