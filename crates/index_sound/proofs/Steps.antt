@@ -1,32 +1,28 @@
 -- What the answers of the door's checks come to, one law for each. Assumes nothing.
-use mathlib.Core.Path.{◌≡◌, refl, sym, ap, ◌∙◌}
+use mathlib.Core.Path.{◌≡◌, sym, ap, ◌∙◌}
 use mathlib.Core.Bool.{Bool, true, false}
 use mathlib.Core.List.{List}
-use mathlib.Core.Logic.{◌↔◌, inl, inr}
+use mathlib.Core.Logic.{◌↔◌}
 use Prim.Native.Nat.{ℕ, ◌+◌, ◌-◌, ◌*◌, ◌^◌, ◌≤◌, ◌<◌}
 use native.Mathlib.Omega.{arith}
 use native.Mathlib.Decide.{ℕ_discrete}
 use lib.Dec.{eqb}
-use lib.ListN.{length, get_or, take, drop, length-take, length-drop}
+use lib.ListN.{length, get_or}
 use lib.Seq.{get_or-set_same, get_or-set_other}
-use Rattle.words.proofs.Answers.{refuse, test, last}
 use Rattle.words.specs.Words.{words, put_w}
 use Rattle.words.specs.Tables.{part, zeros}
 use Rattle.words.proofs.Laws.{Bytes, length-words, words-put_w, words_small}
 use Rattle.words.proofs.Tables.{never, split_rows}
 use Rattle.divmask.specs.Tracker.{Maxima, maxima_lent}
 use Rattle.divmask.proofs.Growth.{lent-maxima}
-use Rattle.fast_compare.specs.Layout as labels
 use Rattle.kd_theory.specs.Tree.{Tree, inorder, count, nodes}
 use Rattle.index_image.specs.Shape as at
-use Rattle.index_image.specs.Layout.{Sound}
 use Rattle.index_image.specs.Head.{HeadOk, HeadIs}
 use Rattle.index_image.specs.Walk.{power, label, map_maxima, Ready}
 use Rattle.leaf_rows.specs.Leaves.{Bounded}
 use Rattle.index_walk.specs.Walked.{Walked}
 use Rattle.index_image.specs.Door.{rows_in, Tables, EntriesOk}
-use Rattle.index_image.specs.Marks.{name_at, Named}
-use Rattle.leaf_rows.specs.Leaves.{Uppers}
+use Rattle.index_image.specs.Marks.{name_at}
 use Rattle.index_image.specs.declared.Shape.{Shape}
 use Rattle.std.specs.Prelude.{Option, Some, None}
 use Rattle.std.specs.Option.{option_eq}
@@ -34,33 +30,16 @@ use borrow.Author.Tests.{eqb-true, eq-eqb}
 use Rattle.index_image.proofs.Bounds.{width_small, size_small, nodes-small, ratio-width, entry-inside}
 use Rattle.index_image.proofs.Gcds.{power_small, image-powers}
 use Rattle.index_image.proofs.Places.{node-fits}
-use Rattle.index_image.proofs.Slots.{range-words}
 use Rattle.index_image.proofs.Trees.{tree-head}
-use Rattle.index_sound.specs.Checks.{MaximaOk, LabelsOk, RowsNamed, PermutationOk, NodesOk, Root, Rooted, Judged}
+use Rattle.index_sound.specs.Checks.{MaximaOk, LabelsOk, PermutationOk, NodesOk, Root, Rooted}
 use Rattle.index_image.proofs.Labels.{map_of, rows-count, row-at}
-
--- what is asked of a ratio index holds in a monomial index
-pub monomial-holds : {P : Type 0} (s : Shape) → s.kind ≡ 0 → (true ≡ true) ↔ (s.kind ≡ 1 → P)
-monomial-holds s z = (λ (h : true ≡ true) k. absurd (omega arith), λ f. refl)
 
 pub is-ratio : (s : Shape) → at.InRange s → (s.kind ≡ 0 → ⊥) → s.kind ≡ 1
 is-ratio s R h = omega (arith, R.kind-to)
 
 -- ---- maxima
-pub maxima-is : (bs : List ℕ) (i m : ℕ) (r : Bool) → 4 * (i + m) ≤ length bs → r ≡ maxima_lent m (take (4 * i + 4 * m - 4 * i) (drop (4 * i) bs))
-    → (r ≡ true) ↔ Maxima m (part (words bs) i m)
-maxima-is bs i m r h er =
-    let lent = take (4 * i + 4 * m - 4 * i) (drop (4 * i) bs) in
-    let el : length lent ≡ 4 * m = simp (length-take, length-drop) (omega arith) in
-    let e = rw (range-words bs i m) at (lent-maxima m lent) in
-    (λ (z : r ≡ true). (e.0 (sym er ∙ z)).1, λ x. er ∙ e.1 (el, x))
-
--- ---- the label map
-pub labels-is : (bs : List ℕ) (s : Shape) (a n : ℕ) (r : Bool) → s.kind ≡ 1 → a ≡ at.labels_at s → n ≡ at.labels_size s
-    → (r ≡ true) ↔ labels.SoundFor s.variables s.capacity (take (4 * a + 4 * n - 4 * a) (drop (4 * a) bs)) → (r ≡ true) ↔ LabelsOk bs s
-labels-is bs s a n r k ea en e =
-    let el : 4 * a + 4 * n - 4 * a ≡ 4 * n = omega arith in
-    last r (rw (el, ea, en) at e) (λ x q. x) (λ f. f k)
+pub maxima-is : (m : ℕ) (lent ws : List ℕ) (r : Bool) → words lent ≡ ws → length lent ≡ 4 * m → r ≡ maxima_lent m lent → (r ≡ true) ↔ Maxima m ws
+maxima-is m lent ws r w l e = let g = rw w at (lent-maxima m lent) in (λ (z : r ≡ true). (g.0 (sym e ∙ z)).1, λ x. e ∙ g.1 (l, x))
 
 -- ---- names of places
 -- n words, w words apart from word `at` on, can be marked: their numbers are small, they are there, and they name places
@@ -92,17 +71,7 @@ module _ (bs : List ℕ) (s : Shape) (R : at.InRange s) (room : 4 * at.size s �
     rows = λ k i h. omega (arith, ((e.each i h).ratio k).row, t.few k);
   }
 
-  -- the permutation, and the rows that entries name
-  pub places-can : (p : ℕ) → p ≡ at.permutation_at s → ((i : ℕ) → i < s.entries → get_or (words bs) (p + i) 0 < s.entries)
-      → CanMark bs p 1 s.entries s.entries
-  places-can p e small = (
-    (omega (arith, R.few, R.cap-to), (omega arith, (omega (arith, size_small s R), omega (arith, R.few, R.cap-to)))),
-    (
-      λ i h. omega (arith, R.few),
-      λ i h. let ei : i * 1 ≡ i = omega arith in rw ei (omega (arith, small i h, R.few, R.cap-to)),
-    ),
-  )
-
+  -- the rows that entries name
   pub rows-can : s.kind ≡ 1 → Tables (words bs) s → EntriesOk (words bs) s
       → (e w rows : ℕ) → e ≡ at.entry_at s 0 → w ≡ at.entry_width s → rows ≡ rows_in (words bs) s → CanMark bs (at.row_from s.variables e) w s.entries rows
   rows-can k t es e w rows ee ew er = (
@@ -115,11 +84,6 @@ module _ (bs : List ℕ) (s : Shape) (R : at.InRange s) (room : 4 * at.size s �
     ),
   )
 
--- each row of the label map is named
-pub rows_is : (W : List ℕ) (s : Shape) (e w rows : ℕ) (r : Bool) → s.kind ≡ 1 → e ≡ at.entry_at s 0 → w ≡ at.entry_width s → rows ≡ rows_in W s
-    → (r ≡ true) ↔ ((j : ℕ) → j < rows → Named W (at.row_from s.variables e) w s.entries j) → (r ≡ true) ↔ RowsNamed W s
-rows_is W s e w rows r k ee ew er h = last r (rw (ee, ew, er) at h) (λ x q. x) (λ f. f k)
-
 -- ---- the bounds at the root are above everything
 -- one bound more
 pub bound-more : (h h' : List ℕ) (i : ℕ) → 4 * i + 4 ≤ length h → h' ≡ put_w h i 32768
@@ -130,10 +94,6 @@ bound-more h h' i l e below v b =
       | yes z ↦ rw (z, get_or-set_same (words h) i 32768 0 (omega (arith, length-words h)))
       | no z ↦ get_or-set_other (words h) i v 32768 0 z ∙ below v (omega arith)
     ])
-
-pub uppers-of : (m : ℕ) (h h' : List ℕ) → length h ≡ 4 * m → length h' ≡ length h
-    → ((v : ℕ) → 4 * v + 4 ≤ length h → get_or (words h') v 0 ≡ 32768) → Uppers m h'
-uppers-of m h h' e e' high = record { one_each = e' ∙ e; some = λ v l. omega (arith, high v (omega arith)) }
 
 module _ (bs : List ℕ) (s : Shape) (by : Bytes bs) (H : List ℕ) (high : (v : ℕ) → v < s.variables → get_or H v 0 ≡ 32768) where
   -- a label is a word
@@ -215,10 +175,3 @@ nodes-rest bs s R =
 pub head-is : (W : List ℕ) (len : ℕ) (h : Option Shape) (s : Shape) → h ≡ Some s → HeadIs W len h → HeadOk W len s
 unfolding HeadIs
 head-is W len h s e x = rw e at x
-
--- ---- question 3
-pub judged-sound : (bs : List ℕ) (t : Bool) → (t ≡ true) ↔ Sound bs → t ≡ true → Judged bs 0
-judged-sound bs t e y = record { number = inl refl; sound = (λ z. e.0 y, λ x. refl) }
-
-pub judged-unsound : (bs : List ℕ) (t : Bool) → (t ≡ true) ↔ Sound bs → t ≡ false → Judged bs 3
-judged-unsound bs t e n = record { number = inr refl; sound = (λ z. absurd (omega arith), λ x. never (sym n ∙ e.1 x)) }

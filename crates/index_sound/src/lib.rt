@@ -5,79 +5,61 @@
 ghost use Rattle.std.specs.Prelude.{◌≡◌, true, ◌↔◌, ℕ, ◌+◌, ◌*◌, ◌≤◌, ◌<◌, length, get_or, Ok, IfErr};
 ghost use Rattle.words.specs.Words.{words};
 ghost use Rattle.refusals.specs.declared.Refusal.TheVariants.{Unsound};
-ghost use Rattle.words.specs.Tables.{part};
-ghost use Rattle.divmask.specs.Tracker.{Maxima};
-ghost use Rattle.index_image.specs.Shape as at;
 ghost use Rattle.index_image.specs.Layout.{Sound};
-ghost use Rattle.index_image.specs.Head.{HeadOk};
 ghost use Rattle.index_image.specs.Walk.{Ready};
 ghost use Rattle.index_image.specs.Door.{Tables, EntriesOk};
 ghost use Rattle.index_sound.specs.Checks as check;
 
+use divmask::tracker::maxima_good;
+use index_image::image::{Image, ReadyImage};
 use index_image::{Shape, fields};
 use refusals::Refusal;
 
-// Whether one maximum a variable stands from word i on.
-fn maxima_at(image: &[u8], variables: usize, i: usize) -> bool
-    requires { (variables ≤ 64) × (4 * (i + variables) ≤ length image.now) }
-    ensures { (result ≡ true) ↔ Maxima variables (part (words image.now) i variables) }
-{
-    let a = 4 * i;
-    let b = a + 4 * variables;
-    divmask::tracker::maxima_good(&image[a..b], variables as u32)
-}
-
 // Whether the maxima pass question 1, the present ones and those of the map.
-fn maxima_ok(image: &[u8], s: Shape) -> bool
-    requires in_range { at.InRange s }
-    requires s_in_bounds { 4 * at.size s ≤ length image.now }
-    ensures { (result ≡ true) ↔ check.MaximaOk (words image.now) s }
+fn maxima_ok(image: &Image<'_>) -> bool
+    ensures { (result ≡ true) ↔ check.MaximaOk (words image.now.bytes.now) image.now.shape }
 {
-    let m = s.variables;
-    maxima_at(image, m, fields::HEADER) && maxima_at(image, m, fields::HEADER + m)
+    let m = image.shape.variables;
+    let a = 4 * fields::HEADER;
+    let b = a + 4 * m;
+    let present = &image.bytes[a..b];
+    maxima_good(present, m as u32) && maxima_good(image.map(), m as u32)
 }
 
 // Whether a ratio index has a sound label map.
-fn labels_ok(image: &[u8], s: Shape) -> bool
-    requires in_range { at.InRange s }
-    requires s_in_bounds { 4 * at.size s ≤ length image.now }
-    ensures { (result ≡ true) ↔ check.LabelsOk image.now s }
+fn labels_ok(image: &Image<'_>) -> bool
+    ensures { (result ≡ true) ↔ check.LabelsOk image.now.bytes.now image.now.shape }
 {
-    if s.kind == 0 {
-        return true;
-    }
-    let a = 4 * s.labels_at();
-    let b = a + 4 * s.labels_size();
-    label_sound::sound_for(&image[a..b], s.variables, s.capacity)
+    let s = image.shape;
+    s.kind == 0 || label_sound::sound_for(&image.bytes[s.labels()], s.variables, s.capacity)
 }
 
 // Whether the permutation names each entry.
-fn permutation_ok(image: &[u8], s: Shape) -> bool
-    requires in_range { at.InRange s }
-    requires s_in_bounds { 4 * at.size s ≤ length image.now }
-    ensures { (result ≡ true) ↔ check.PermutationOk (words image.now) s }
+fn permutation_ok(image: &Image<'_>) -> bool
+    ensures { (result ≡ true) ↔ check.PermutationOk (words image.now.bytes.now) image.now.shape }
 {
-    let p = s.permutation_at();
-    let n = s.entries;
-    index_tables::marks::in_range(image, p, n)
-        && index_tables::marks::all_named(image, p, 1, n, n)
-        && words::runs::is_blank(image, p + n, s.capacity - n)
+    let bytes = image.bytes;
+    let p = image.shape.permutation_at();
+    let n = image.shape.entries;
+    label_sound::numbers_ok(bytes, p, n)
+        && index_tables::marks::all_named(bytes, p, 1, n, n)
+        && words::runs::is_blank(bytes, p + n, image.shape.capacity - n)
 }
 
 // Whether each row of the label map is the ratio of an entry.
-fn rows_named(image: &[u8], s: Shape) -> bool
-    requires in_range { at.InRange s }
-    requires s_in_bounds { 4 * at.size s ≤ length image.now }
-    requires tables { Tables (words image.now) s }
-    requires entries_ok { EntriesOk (words image.now) s }
-    ensures { (result ≡ true) ↔ check.RowsNamed (words image.now) s }
+fn rows_named(image: &Image<'_>) -> bool
+    requires tables { Tables (words image.now.bytes.now) image.now.shape }
+    requires entries_ok { EntriesOk (words image.now.bytes.now) image.now.shape }
+    ensures { (result ≡ true) ↔ check.RowsNamed (words image.now.bytes.now) image.now.shape }
 {
+    let s = image.shape;
+    // Not `||`: what follows needs three numbers, which a monomial index has no use for.
     if s.kind == 0 {
         return true;
     }
     let e = s.entry_at(0) + (2 * s.variables + fields::ROW);
-    let rows = words::get(image, s.labels_at() + fields::ROWS) as usize;
-    index_tables::marks::all_named(image, e, s.entry_width(), s.entries, rows)
+    let rows = words::get(image.bytes, s.labels_at() + fields::ROWS) as usize;
+    index_tables::marks::all_named(image.bytes, e, s.entry_width(), s.entries, rows)
 }
 
 // Writes a bound above every power into each word.
@@ -91,52 +73,55 @@ fn unbounded(hi: &mut [u8])
 }
 
 // The number of rows of the tree of at most all entries at the first node row; none where there is no such tree.
-// `hi` has a word a variable, for the bounds that go down the tree.
-fn walk_from_root(image: &[u8], s: Shape, hi: &mut [u8]) -> Option<usize>
-    requires ready { Ready (words image.now) s }
-    requires hi_len { length hi.old ≡ 4 * s.variables }
-    ensures { check.Rooted (words image.now) s result }
+// `hi` has a word a variable, for the bounds that go down the tree. The bytes come beside their shape: that a word of them, as a label is,
+// lies below 2^32 is known of a parameter's bytes, and not of a field's.
+fn walk_from_root(bytes: &[u8], shape: Shape, hi: &mut [u8]) -> Option<usize>
+    requires ready { Ready (words bytes.now) shape }
+    requires hi_len { length hi.old ≡ 4 * shape.variables }
+    ensures { check.Rooted (words bytes.now) shape result }
 {
+    let image = ReadyImage { bytes, shape };
     unbounded(hi);
-    if s.nodes == 1 {
-        return index_walk::one_row(image, s, hi);
+    if shape.nodes == 1 {
+        return index_walk::one_row(&image, hi);
     }
-    index_walk::walk(image, s, hi, 0, 4294967296, 0, 0, s.entries)
+    index_walk::walk(&image, hi, 0..4294967296, 0, 0, shape.entries)
 }
 
-fn tree_rows(image: &[u8], s: Shape) -> Option<usize>
-    requires { Ready (words image.now) s }
-    ensures { check.Rooted (words image.now) s result }
+fn tree_rows(image: &ReadyImage<'_>) -> Option<usize>
+    ensures { check.Rooted (words image.now.bytes.now) image.now.shape result }
 {
+    // A word for each of 64 variables: there is no heap, so the length is fixed.
     let mut hi = [0u8; 256];
-    let e = 4 * s.variables;
-    walk_from_root(image, s, &mut hi[..e])
+    let e = 4 * image.shape.variables;
+    walk_from_root(image.bytes, image.shape, &mut hi[..e])
 }
 
 // Whether the node rows are those of one tree of all entries, and zeros behind them.
-fn nodes_ok(image: &[u8], s: Shape) -> bool
-    requires { Ready (words image.now) s }
-    ensures { (result ≡ true) ↔ check.NodesOk (words image.now) s }
+fn nodes_ok(image: &ReadyImage<'_>) -> bool
+    ensures { (result ≡ true) ↔ check.NodesOk (words image.now.bytes.now) image.now.shape }
 {
+    let s = image.shape;
     let rest = (2 * s.capacity - 1 - s.nodes) * (s.variables + fields::NODE);
-    words::get(image, s.node_at(0) + fields::COUNT) as usize == s.entries
-        && words::runs::is_blank(image, s.node_at(s.nodes), rest)
-        && tree_rows(image, s) == Some(s.nodes)
+    words::get(image.bytes, s.node_at(0) + fields::COUNT) as usize == s.entries
+        && words::runs::is_blank(image.bytes, s.node_at(s.nodes), rest)
+        && tree_rows(image) == Some(s.nodes)
 }
 
 // Whether the tables hold an index, which the header's numbers say where to find.
 #[tactic(auto, using(crate::proofs::Steps::tables_of, crate::proofs::Steps::ready_of))]
-fn tables_ok(image: &[u8], s: Shape) -> bool
-    requires in_range { at.InRange s }
-    requires s_in_bounds { 4 * at.size s ≤ length image.now }
-    ensures { (result ≡ true) ↔ check.TablesOk image.now s }
+fn tables_ok(image: &Image<'_>) -> bool
+    ensures { (result ≡ true) ↔ check.TablesOk image.now.bytes.now image.now.shape }
 {
-    maxima_ok(image, s)
-        && labels_ok(image, s)
-        && index_tables::entries::entries_ok(image, s)
-        && permutation_ok(image, s)
-        && rows_named(image, s)
-        && nodes_ok(image, s)
+    maxima_ok(image)
+        && labels_ok(image)
+        && index_tables::entries::entries_ok(image)
+        && permutation_ok(image)
+        && rows_named(image)
+        && nodes_ok(&ReadyImage {
+            bytes: image.bytes,
+            shape: image.shape,
+        })
 }
 
 // Whether the bytes begin with the image of a valid index.
@@ -144,7 +129,10 @@ pub fn sound(image: &[u8]) -> bool
     ensures { (result ≡ true) ↔ Sound image.now }
 {
     match index_image::head::read(image) {
-        Some(s) => tables_ok(image, s),
+        Some(shape) => tables_ok(&Image {
+            bytes: image,
+            shape,
+        }),
         None => false,
     }
 }

@@ -1,7 +1,6 @@
 // The door's checks of the entries: canonical slots with their masks, ratios that the label map has, and unused rows that are 0.
 ghost use Rattle.std.specs.Prelude.{◌≡◌, true, cond, ◌↔◌, ℕ, ◌+◌, ◌*◌, ◌≤◌, ◌<◌, eqb, length};
 ghost use Rattle.words.specs.Words.{words};
-ghost use Rattle.words.specs.Tables.{part};
 ghost use Rattle.words.specs.Kinds.{var_word};
 ghost use Rattle.monomial.specs.Monomial.{Starts, first};
 ghost use Rattle.monomial.specs.Operations.{result_words};
@@ -12,7 +11,8 @@ ghost use Rattle.index_image.specs.Shape as at;
 ghost use Rattle.index_image.specs.Walk.{lm_in, row_in, map_maxima};
 
 use divmask_table::Masks;
-use index_image::{Shape, fields};
+use index_image::fields;
+use index_image::image::Image;
 
 // Whether a canonical monomial stands in the slot at word i, zeros behind it, and then its mask and short exponent vector.
 pub fn masked_slot(image: &[u8], masks: &Masks<'_>, i: usize) -> bool
@@ -75,99 +75,105 @@ fn is_ratio(a: &[u8], b: &[u8], c: &[u8]) -> bool
 }
 
 // Whether the label map's row that entry i names has the entry's ratio.
-fn has_ratio(image: &[u8], s: Shape, i: usize) -> bool
-    requires in_range { at.InRange s }
-    requires s_in_bounds { 4 * at.size s ≤ length image.now }
-    requires kind_value { (s.kind ≡ 1) × (i < s.entries) }
-    requires ratio_ready { door.RatioReady (words image.now) s i }
-    ensures { (result ≡ true) ↔ (door.row_value (words image.now) s (row_in (words image.now) s i) ≡ quotient_of (door.index_in (words image.now) s i) (door.sign_in (words image.now) s i) (lm_in (words image.now) s i)) }
+fn has_ratio(image: &Image<'_>, i: usize) -> bool
+    requires kind_value { (image.now.shape.kind ≡ 1) × (i < image.now.shape.entries) }
+    requires ratio_ready { door.RatioReady (words image.now.bytes.now) image.now.shape i }
+    ensures { (result ≡ true) ↔ (door.row_value (words image.now.bytes.now) image.now.shape (row_in (words image.now.bytes.now) image.now.shape i) ≡ quotient_of (door.index_in (words image.now.bytes.now) image.now.shape i) (door.sign_in (words image.now.bytes.now) image.now.shape i) (lm_in (words image.now.bytes.now) image.now.shape i)) }
 {
+    let s = image.shape;
+    let bytes = image.bytes;
     let m = s.variables;
     let e = s.entry_at(i);
-    let row = words::get(image, e + (2 * m + fields::ROW)) as usize;
+    let row = words::get(bytes, e + (2 * m + fields::ROW)) as usize;
     let r = s.labels_at() + (fields::LABELS + row * (m + fields::LABEL_ROW));
     let x = 4 * (e + (m + fields::SIGN));
     let y = 4 * e;
     let z = 4 * (r + fields::RATIO);
-    words::get(image, e + (m + fields::INDEX)) == words::get(image, r)
-        && is_ratio(&image[x..], &image[y..], &image[z..])
+    words::get(bytes, e + (m + fields::INDEX)) == words::get(bytes, r)
+        && is_ratio(&bytes[x..], &bytes[y..], &bytes[z..])
 }
 
-// Whether the entry at place i of a ratio index has an index, a signature monomial and a ratio.
-fn ratio_ok(image: &[u8], s: Shape, masks: &Masks<'_>, i: usize) -> bool
-    requires in_range { at.InRange s }
-    requires s_in_bounds { 4 * at.size s ≤ length image.now }
-    requires kind_value { (s.kind ≡ 1) × (i < s.entries) }
-    requires tables { door.Tables (words image.now) s }
-    requires masked_slot { door.MaskedSlot (words image.now) s.variables (map_maxima (words image.now) s) (at.lm_at s i) }
-    requires variables { masks.now.variables ≡ s.variables }
-    requires maxima { words masks.now.maxima.now ≡ map_maxima (words image.now) s }
-    ensures { (result ≡ true) ↔ door.RatioOk (words image.now) s i }
-{
-    let m = s.variables;
-    let e = s.entry_at(i);
-    let sign = e + (m + fields::SIGN);
-    words::kind(words::get(image, e + (m + fields::INDEX))) == 3
-        && masked_slot(image, masks, sign)
-        && words::get(image, e + (2 * m + fields::ROW))
-            < words::get(image, s.labels_at() + fields::ROWS)
-        && has_ratio(image, s, i)
+// An image whose entries are looked at: the tables before them are known to be good, and the masks are made by its map.
+#[derive(Clone, Copy)]
+struct Judging<'a> {
+    image: Image<'a>,
+    masks: Masks<'a>,
+    ghost tables: { door.Tables (words image.bytes.now) image.shape },
+    ghost variables: { masks.variables ≡ image.shape.variables },
+    ghost maxima: { words masks.maxima.now ≡ map_maxima (words image.bytes.now) image.shape },
 }
 
-// Whether the entry at place i is one.
-fn entry_ok(image: &[u8], s: Shape, masks: &Masks<'_>, i: usize) -> bool
-    requires in_range { at.InRange s }
-    requires s_in_bounds { 4 * at.size s ≤ length image.now }
-    requires i_lt_entries { i < s.entries }
-    requires tables { door.Tables (words image.now) s }
-    requires variables { masks.now.variables ≡ s.variables }
-    requires maxima { words masks.now.maxima.now ≡ map_maxima (words image.now) s }
-    ensures { (result ≡ true) ↔ door.EntryOk (words image.now) s i }
-{
-    masked_slot(image, masks, s.entry_at(i)) && (s.kind == 0 || ratio_ok(image, s, masks, i))
-}
+impl Judging<'_> {
+    // Whether the entry at place i of a ratio index has an index, a signature monomial and a ratio.
+    fn ratio_ok(&self, i: usize) -> bool
+        requires kind_value { (self.now.image.shape.kind ≡ 1) × (i < self.now.image.shape.entries) }
+        requires masked_slot { door.MaskedSlot (words self.now.image.bytes.now) self.now.image.shape.variables (map_maxima (words self.now.image.bytes.now) self.now.image.shape) (at.lm_at self.now.image.shape i) }
+        ensures { (result ≡ true) ↔ door.RatioOk (words self.now.image.bytes.now) self.now.image.shape i }
+    {
+        let s = self.image.shape;
+        let bytes = self.image.bytes;
+        let m = s.variables;
+        let e = s.entry_at(i);
+        words::kind(words::get(bytes, e + (m + fields::INDEX))) == words::INDEX
+            && masked_slot(bytes, &self.masks, e + (m + fields::SIGN))
+            && words::get(bytes, e + (2 * m + fields::ROW))
+                < words::get(bytes, s.labels_at() + fields::ROWS)
+            && has_ratio(&self.image, i)
+    }
 
-// Whether each place below the number of entries has an entry.
-fn all_entries(image: &[u8], s: Shape, masks: &Masks<'_>) -> bool
-    requires in_range { at.InRange s }
-    requires s_in_bounds { 4 * at.size s ≤ length image.now }
-    requires tables { door.Tables (words image.now) s }
-    requires variables { masks.now.variables ≡ s.variables }
-    requires maxima { words masks.now.maxima.now ≡ map_maxima (words image.now) s }
-    ensures { (result ≡ true) ↔ ((i : ℕ) → i < s.entries → door.EntryOk (words image.now) s i) }
-{
-    for i in 0..s.entries {
-        if !entry_ok(image, s, masks, i) {
-            return false;
+    // Whether the entry at place i is one.
+    fn entry_ok(&self, i: usize) -> bool
+        requires { i < self.now.image.shape.entries }
+        ensures { (result ≡ true) ↔ door.EntryOk (words self.now.image.bytes.now) self.now.image.shape i }
+    {
+        let s = self.image.shape;
+        masked_slot(self.image.bytes, &self.masks, s.entry_at(i))
+            && (s.kind == 0 || self.ratio_ok(i))
+    }
+
+    // Whether each place below the number of entries has an entry.
+    fn all_entries(&self) -> bool
+        ensures { (result ≡ true) ↔ ((i : ℕ) → i < self.now.image.shape.entries → door.EntryOk (words self.now.image.bytes.now) self.now.image.shape i) }
+    {
+        for i in 0..self.image.shape.entries {
+            if !self.entry_ok(i) {
+                return false;
+            }
         }
+        true
     }
-    true
 }
 
-// Whether the entries are sound, and the rows behind them 0.
-pub fn entries_ok(image: &[u8], s: Shape) -> bool
-    requires in_range { at.InRange s }
-    requires s_in_bounds { 4 * at.size s ≤ length image.now }
-    requires tables { door.Tables (words image.now) s }
-    ensures { (result ≡ true) ↔ door.EntriesOk (words image.now) s }
+// Whether each place below the number of entries has an entry, by masks that are made for all of them.
+fn each_ok(image: &Image<'_>) -> bool
+    requires { door.Tables (words image.now.bytes.now) image.now.shape }
+    ensures { (result ≡ true) ↔ ((i : ℕ) → i < image.now.shape.entries → door.EntryOk (words image.now.bytes.now) image.now.shape i) }
 {
-    let n = s.entries;
-    let c = s.capacity;
-    let rest = (c - n) * s.entry_width();
-    if !words::runs::is_blank(image, s.entry_at(n), rest) {
-        return false;
-    }
-    let a = 4 * (fields::HEADER + s.variables);
-    let b = a + 4 * s.variables;
-    let maxima = &image[a..b];
-    let variables = s.variables as u32;
+    let maxima = image.map();
+    let variables = image.shape.variables as u32;
+    // The largest table, of 64 variables: there is no heap, so its length is fixed.
     let mut table = [0u8; 8192];
-    let limit = divmask_table::prepare(maxima, variables, n, &mut table);
+    let limit = divmask_table::prepare(maxima, variables, image.shape.entries, &mut table);
     let masks = Masks {
         maxima,
         variables,
         table: &table,
         limit,
     };
-    all_entries(image, s, &masks)
+    let judging = Judging {
+        image: *image,
+        masks,
+    };
+    judging.all_entries()
+}
+
+// Whether the entries are sound, and the rows behind them 0.
+pub fn entries_ok(image: &Image<'_>) -> bool
+    requires { door.Tables (words image.now.bytes.now) image.now.shape }
+    ensures { (result ≡ true) ↔ door.EntriesOk (words image.now.bytes.now) image.now.shape }
+{
+    let s = image.shape;
+    let n = s.entries;
+    let rest = (s.capacity - n) * s.entry_width();
+    words::runs::is_blank(image.bytes, s.entry_at(n), rest) && each_ok(image)
 }

@@ -1,20 +1,7 @@
-// Words that name places of a table: whether they are in range, and whether every place is named.
-ghost use Rattle.std.specs.Prelude.{◌≡◌, true, ◌↔◌, ℕ, ◌+◌, ◌*◌, ◌≤◌, ◌<◌, length, get_or, replicate};
+// Words that name places of a table: whether every place is named.
+ghost use Rattle.std.specs.Prelude.{◌≡◌, true, ◌↔◌, ℕ, ◌+◌, ◌*◌, ◌≤◌, ◌<◌, length, get_or};
 ghost use Rattle.words.specs.Words.{words};
 ghost use Rattle.index_image.specs.Marks.{name_at, Named, Marked};
-
-// Whether the n words from word `at` on are below n.
-pub fn in_range(image: &[u8], at: usize, n: usize) -> bool
-    requires { 4 * (at + n) ≤ length image.now }
-    ensures { (result ≡ true) ↔ ((i : ℕ) → i < n → get_or (words image.now) (at + i) 0 < n) }
-{
-    for i in 0..n {
-        if n <= words::get(image, at + i) as usize {
-            return false;
-        }
-    }
-    true
-}
 
 // Marks the places that n words name, w words apart.
 fn mark(image: &[u8], at: usize, w: usize, n: usize, seen: &mut [u8])
@@ -45,6 +32,7 @@ pub fn all_named(image: &[u8], at: usize, w: usize, n: usize, places: usize) -> 
     requires by_index_2 { (i : ℕ) → i < n → name_at (words image.now) at w i < 4096 }
     ensures { (result ≡ true) ↔ ((j : ℕ) → j < places → Named (words image.now) at w n j) }
 {
+    // A mark for each of 4,096 places: there is no heap, so the length is fixed.
     let mut seen = [0u8; 4096];
     mark(image, at, w, n, &mut seen);
     all_marked(&seen, places)

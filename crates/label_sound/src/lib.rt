@@ -3,112 +3,129 @@
 
 ghost use Rattle.std.specs.Prelude.{◌≡◌, true, ◌↔◌, ℕ, suc, ◌+◌, ◌*◌, ◌<◌, ◌≤◌, length, get_or};
 ghost use Rattle.words.specs.Words.{words};
-ghost use Rattle.fast_compare.specs.Layout.{size, row_at, RowOk, Rises, TablesOk, HeadOk, Sound, SoundFor};
+ghost use Rattle.fast_compare.specs.Layout.{size, row_at, order_at, RowOk, Rises, TablesOk, HeadOk, Sound, SoundFor};
 
 use fast_compare::rows;
 use monomial::Kind;
 
-// Whether the words of a row at word `at` are those of an index, a ratio and zeros.
-fn row_ok(map: &[u8], variables: usize, at: usize) -> bool
-    requires variables_bound { variables ≤ 64 }
-    requires variables_in_bounds { 4 * (at + (variables + 3)) ≤ length map.now }
-    ensures { (result ≡ true) ↔ RowOk (words map.now) variables at }
-{
-    words::kind(words::get(map, at)) == 3
-        && match monomial::canonical_words(map, at + 1, Kind::Ratio, variables as u32) {
-            Some(n) => words::runs::is_blank(map, at + 1 + n, variables + 1 - n),
-            None => false,
-        }
-}
-
-// Whether the first n rows are rows.
-fn rows_ok(map: &[u8], variables: usize, n: usize) -> bool
-    requires variables_bound { (variables ≤ 64) × (n ≤ 4096) }
-    requires n_in_bounds { 4 * row_at variables n ≤ length map.now }
-    ensures { (result ≡ true) ↔ ((i : ℕ) → i < n → RowOk (words map.now) variables (row_at variables i)) }
+// Whether the n words from word `at` on are numbers below n, as those of a permutation are.
+pub fn numbers_ok(bytes: &[u8], at: usize, n: usize) -> bool
+    requires { 4 * (at + n) ≤ length bytes.now }
+    ensures { (result ≡ true) ↔ ((k : ℕ) → k < n → get_or (words bytes.now) (at + k) 0 < n) }
 {
     for i in 0..n {
-        if !row_ok(map, variables, 4 + i * (variables + 3)) {
+        if n <= words::get(bytes, at + i) as usize {
             return false;
         }
     }
     true
 }
 
-// Whether the n words from word `at` on are row numbers below n.
-fn numbers_ok(map: &[u8], at: usize, n: usize) -> bool
-    requires { 4 * (at + n) ≤ length map.now }
-    ensures { (result ≡ true) ↔ ((k : ℕ) → k < n → get_or (words map.now) (at + k) 0 < n) }
-{
-    for i in 0..n {
-        if n <= words::get(map, at + i) as usize {
-            return false;
-        }
-    }
-    true
+// A map by the numbers of its header, which are in range and which the bytes have room for. Its tables are to be judged.
+#[derive(Clone, Copy)]
+struct Tables<'a> {
+    map: &'a [u8],
+    variables: usize,
+    capacity: usize,
+    rows: usize,
+    ghost range: { (variables ≤ 64) × ((capacity ≤ 4096) × (rows ≤ capacity)) },
+    ghost room: { 4 * size variables capacity ≤ length map.now },
 }
 
-// Whether each of the n row numbers from word `at` on has a greater value and label than the one before.
-fn rising_ok(map: &[u8], variables: usize, at: usize, n: usize) -> bool
-    requires variables_bound { (variables ≤ 64) × (n ≤ 4096) }
-    requires n_in_bounds { (4 * (at + n) ≤ length map.now) × (4 * row_at variables n ≤ length map.now) }
-    requires by_index { (i : ℕ) → i < n → RowOk (words map.now) variables (row_at variables i) }
-    requires by_index_2 { (k : ℕ) → k < n → get_or (words map.now) (at + k) 0 < n }
-    ensures { (result ≡ true) ↔ ((k : ℕ) → suc k < n → Rises (words map.now) variables (row_at variables (get_or (words map.now) (at + k) 0)) (row_at variables (get_or (words map.now) (at + suc k) 0))) }
-{
-    if n == 0 {
-        return true;
+impl Tables<'_> {
+    // The word that row i begins at; behind the last one the sorted order begins.
+    fn row_at(&self, i: usize) -> usize
+        requires { i ≤ self.now.capacity }
+        ensures { result ≡ row_at self.now.variables i }
+    {
+        4 + i * (self.variables + 3)
     }
-    let mut a = 4 + words::get(map, at) as usize * (variables + 3);
-    let mut s = rows::total_at(map, a);
-    for i in 1..n {
-        let b = 4 + words::get(map, at + i) as usize * (variables + 3);
-        let t = rows::total_at(map, b);
-        if !rows::rises(map, variables, a, s, b, t) {
-            return false;
+
+    // Whether the words of row i are those of an index, a ratio and zeros.
+    fn row_ok(&self, i: usize) -> bool
+        requires { i < self.now.rows }
+        ensures { (result ≡ true) ↔ RowOk (words self.now.map.now) self.now.variables (row_at self.now.variables i) }
+    {
+        let m = self.variables;
+        let at = self.row_at(i);
+        words::kind(words::get(self.map, at)) == words::INDEX
+            && match monomial::canonical_words(self.map, at + 1, Kind::Ratio, m as u32) {
+                Some(n) => words::runs::is_blank(self.map, at + 1 + n, m + 1 - n),
+                None => false,
+            }
+    }
+
+    // Whether the rows are rows.
+    fn rows_ok(&self) -> bool
+        ensures { (result ≡ true) ↔ ((i : ℕ) → i < self.now.rows → RowOk (words self.now.map.now) self.now.variables (row_at self.now.variables i)) }
+    {
+        for i in 0..self.rows {
+            if !self.row_ok(i) {
+                return false;
+            }
         }
-        a = b;
-        s = t;
+        true
     }
-    true
+
+    // Whether each row number of the sorted order has a greater value and label than the one before.
+    fn rising_ok(&self) -> bool
+        requires rows { (i : ℕ) → i < self.now.rows → RowOk (words self.now.map.now) self.now.variables (row_at self.now.variables i) }
+        requires numbers { (k : ℕ) → k < self.now.rows → get_or (words self.now.map.now) (order_at self.now.variables self.now.capacity + k) 0 < self.now.rows }
+        ensures { (result ≡ true) ↔ ((k : ℕ) → suc k < self.now.rows → Rises (words self.now.map.now) self.now.variables (row_at self.now.variables (get_or (words self.now.map.now) (order_at self.now.variables self.now.capacity + k) 0)) (row_at self.now.variables (get_or (words self.now.map.now) (order_at self.now.variables self.now.capacity + suc k) 0))) }
+    {
+        // There is no first number to begin with.
+        if self.rows == 0 {
+            return true;
+        }
+        let at = self.row_at(self.capacity);
+        let mut a = self.row_at(words::get(self.map, at) as usize);
+        let mut s = rows::total_at(self.map, a);
+        for i in 1..self.rows {
+            let b = self.row_at(words::get(self.map, at + i) as usize);
+            let t = rows::total_at(self.map, b);
+            if !rows::rises(self.map, self.variables, a, s, b, t) {
+                return false;
+            }
+            a = b;
+            s = t;
+        }
+        true
+    }
+
+    // Whether they hold a valid map. One comparison of neighbours in the sorted order decides the order of all.
+    fn ok(&self) -> bool
+        ensures { (result ≡ true) ↔ TablesOk (words self.now.map.now) self.now.variables self.now.capacity self.now.rows }
+    {
+        let n = self.rows;
+        let unused = self.capacity - n;
+        let order = self.row_at(self.capacity);
+        self.rows_ok()
+            && words::runs::is_blank(self.map, self.row_at(n), unused * (self.variables + 3))
+            && numbers_ok(self.map, order, n)
+            && self.rising_ok()
+            && words::runs::is_blank(self.map, order + n, unused)
+    }
 }
 
-// Whether the tables of a map of n rows hold a valid one. One comparison of neighbours in the sorted order decides the order of all.
-fn tables_ok(map: &[u8], variables: usize, capacity: usize, n: usize) -> bool
-    requires variables_bound { (variables ≤ 64) × ((capacity ≤ 4096) × (n ≤ capacity)) }
-    requires capacity_in_bounds { 4 * size variables capacity ≤ length map.now }
-    ensures { (result ≡ true) ↔ TablesOk (words map.now) variables capacity n }
+// Whether the header is that of a map of these numbers.
+fn header_ok(map: &[u8], variables: usize, capacity: usize) -> bool
+    requires { 16 ≤ length map.now }
+    ensures { (result ≡ true) ↔ ((get_or (words map.now) 0 0 ≡ 1) × ((get_or (words map.now) 1 0 ≡ variables) × ((get_or (words map.now) 2 0 ≡ capacity) × (get_or (words map.now) 3 0 ≤ capacity)))) }
 {
-    let row = variables + 3;
-    let order = 4 + capacity * row;
-    rows_ok(map, variables, n)
-        && words::runs::is_blank(map, 4 + n * row, (capacity - n) * row)
-        && numbers_ok(map, order, n)
-        && rising_ok(map, variables, order, n)
-        && words::runs::is_blank(map, order + n, capacity - n)
+    words::get(map, 0) == 1
+        && words::get(map, 1) as usize == variables
+        && words::get(map, 2) as usize == capacity
+        && words::get(map, 3) as usize <= capacity
 }
 
 // Whether a map of these numbers is one, and the header says so.
+#[tactic(auto, unfolding(monomial::specs::Sizes::sizes_fit, monomial::specs::Sizes::variables_fit))]
 fn head_ok(map: &[u8], variables: usize, capacity: usize) -> bool
     ensures { (result ≡ true) ↔ HeadOk (words map.now) variables capacity (length map.now) }
 {
-    // Not one `&&`: each join of the chain loses what the tests before it say, and the answers grow.
-    if !monomial::sizes::sizes_fit(variables, capacity) {
-        return false;
-    }
-    if map.len() < fast_compare::length(variables, capacity) {
-        return false;
-    }
-    if words::get(map, 0) != 1 {
-        return false;
-    }
-    if words::get(map, 1) as usize != variables {
-        return false;
-    }
-    if words::get(map, 2) as usize != capacity {
-        return false;
-    }
-    words::get(map, 3) as usize <= capacity
+    monomial::sizes::sizes_fit(variables, capacity)
+        && fast_compare::length(variables, capacity) <= map.len()
+        && header_ok(map, variables, capacity)
 }
 
 // Whether the bytes begin with a sound map of these variables and this capacity.
@@ -116,7 +133,13 @@ pub fn sound_for(map: &[u8], variables: usize, capacity: usize) -> bool
     ensures { (result ≡ true) ↔ SoundFor variables capacity map.now }
 {
     head_ok(map, variables, capacity)
-        && tables_ok(map, variables, capacity, words::get(map, 3) as usize)
+        && (Tables {
+            map,
+            variables,
+            capacity,
+            rows: words::get(map, 3) as usize,
+        })
+        .ok()
 }
 
 // Whether the bytes begin with a sound map.

@@ -1,7 +1,7 @@
 use native.Mathlib.Omega.{arith}
 use mathlib.Core.Path.{◌≡◌, sym, ◌∙◌}
 use mathlib.Core.List.{List}
-use Prim.Native.Nat.{ℕ, ◌+◌, ◌-◌, ◌*◌}
+use Prim.Native.Nat.{ℕ, ◌-◌, ◌*◌}
 use lib.ListN.{get_or}
 use borrow.Author.Tests.{eqb-true}
 use Rattle.words.proofs.Tables.{never}
@@ -14,11 +14,11 @@ use Rattle.index_sound.proofs.nodes_ok.Goals.{then-get-s, else-get-s}
 use Rattle.index_sound.proofs.nodes_ok.Goals as goal
 
 pub get-requires : goal.get-requires
-get-requires c = omega (arith, (nodes-rest c.args.image.now c.args.s c.requires).first, c.node_at.ensures)
+get-requires c = omega (arith, (nodes-rest c.args.image.now.bytes.now c.args.image.now.shape c.args.image.now.ready).first, c.node_at.ensures)
 
 pub is_blank-requires : goal.is_blank-requires
 is_blank-requires c =
-    omega (arith, (nodes-rest c.args.image.now c.args.s c.requires).room, c.node_at-then-get-s.ensures)
+    omega (arith, (nodes-rest c.args.image.now.bytes.now c.args.image.now.shape c.args.image.now.ready).room, c.node_at-then-get-s.ensures)
 
 -- what the two tests before the walk tell
 record Before (W : List ℕ) (s : Shape) (g : ℕ) : Type 0 where
@@ -27,11 +27,11 @@ record Before (W : List ℕ) (s : Shape) (g : ℕ) : Type 0 where
 
 pub returns-then-is_blank : goal.returns-then-is_blank
 returns-then-is_blank c =
-    let W = words c.args.image.now in
-    let j = tree_is W c.args.s c.requires c.tree_rows.result c.tree_rows.ensures in
-    let k = option_same c.tree_rows.result c.args.s.nodes in
-    let g : c.get.result ≡ get_or W (at.count_at (at.node_at c.args.s 0)) 0 = c.get.ensures ∙ rw c.node_at.ensures in
-    let b : Before W c.args.s c.get.result = elim c.if-get-s.branch [
+    let W = words c.args.image.now.bytes.now in
+    let j = tree_is W c.args.image.now.shape c.args.image.now.ready c.tree_rows.result c.tree_rows.ensures in
+    let k = option_same c.tree_rows.result c.args.image.now.shape.nodes in
+    let g : c.get.result ≡ get_or W (at.count_at (at.node_at c.args.image.now.shape 0)) 0 = c.get.ensures ∙ rw c.node_at.ensures in
+    let b : Before W c.args.image.now.shape c.get.result = elim c.if-get-s.branch [
       | then-get-s w ↦ record {
         count = w.if-get-s.true;
         rest = (rw w.node_at-then-get-s.ensures at w.is_blank.ensures).0 (sym w.value-is ∙ c.if-is_blank.true);
@@ -46,7 +46,7 @@ pub returns-else-is_blank : goal.returns-else-is_blank
 returns-else-is_blank c = (
   λ z. never (sym c.if-is_blank.false ∙ z),
   λ n.
-      let e = root_all (words c.args.image.now) c.args.s c.requires n in
+      let e = root_all (words c.args.image.now.bytes.now) c.args.image.now.shape c.args.image.now.ready n in
       elim c.if-get-s.branch [
         | then-get-s w ↦ w.value-is ∙ (rw w.node_at-then-get-s.ensures at w.is_blank.ensures).1 n.rest
         | else-get-s w ↦ absurd (w.if-get-s.false (c.get.ensures ∙ rw c.node_at.ensures e))

@@ -31,19 +31,19 @@ returns-else-rows_named c = (
       ],
 )
 
-pub entries_ok-requires-clause-tables : goal.entries_ok-requires-clause-tables
-entries_ok-requires-clause-tables c =
-    let one : MaximaOk (words c.args.image.now) c.args.s × LabelsOk c.args.image.now c.args.s = elim c.if-maxima_ok.branch [
+pub entries_ok-requires : goal.entries_ok-requires
+entries_ok-requires c =
+    let one : MaximaOk (words c.args.image.now.bytes.now) c.args.image.now.shape × LabelsOk c.args.image.now.bytes.now c.args.image.now.shape = elim c.if-maxima_ok.branch [
       | then-maxima_ok w ↦ (c.maxima_ok.ensures.0 w.if-maxima_ok.true, w.labels_ok.ensures.0 (sym w.value-is ∙ c.if-labels_ok.true))
       | else-maxima_ok w ↦ never (sym w.if-maxima_ok.false ∙ (sym w.value-is ∙ c.if-labels_ok.true))
     ] in
-    tables_of c.args.image.now c.args.s c.requires.in_range c.requires.s_in_bounds one.0 one.1
+    tables_of c.args.image.now.bytes.now c.args.image.now.shape c.args.image.now.range c.args.image.now.room one.0 one.1
 
 -- what the earlier checks tell, from the last one back
-pub nodes_ok-requires : goal.nodes_ok-requires
-nodes_ok-requires c =
-    let W = words c.args.image.now in
-    let s = c.args.s in
+pub invariant_of-nodes_ok : goal.invariant_of-nodes_ok
+invariant_of-nodes_ok c =
+    let W = words c.args.image.now.bytes.now in
+    let s = c.args.image.now.shape in
     let four : c.if-entries_ok.value ≡ true = elim c.if-permutation_ok.branch [
       | then-permutation_ok w ↦ w.if-permutation_ok.true
       | else-permutation_ok w ↦ never (sym w.if-permutation_ok.false ∙ (sym w.value-is ∙ c.if-rows_named.true))
@@ -56,9 +56,11 @@ nodes_ok-requires c =
       | then-labels_ok w ↦ (w.if-labels_ok.true, w.entries_ok.ensures.0 (sym w.value-is ∙ three.0))
       | else-labels_ok w ↦ never (sym w.if-labels_ok.false ∙ (sym w.value-is ∙ three.0))
     ] in
-    let one : MaximaOk W s × LabelsOk c.args.image.now s = elim c.if-maxima_ok.branch [
+    let one : MaximaOk W s × LabelsOk c.args.image.now.bytes.now s = elim c.if-maxima_ok.branch [
       | then-maxima_ok w ↦ (c.maxima_ok.ensures.0 w.if-maxima_ok.true, w.labels_ok.ensures.0 (sym w.value-is ∙ two.0))
       | else-maxima_ok w ↦ never (sym w.if-maxima_ok.false ∙ (sym w.value-is ∙ two.0))
     ] in
-    ready_of c.args.image.now s c.requires.in_range c.requires.s_in_bounds
-    (tables_of c.args.image.now s c.requires.in_range c.requires.s_in_bounds one.0 one.1) two.1 three.1
+    record {
+      ready = ready_of c.args.image.now.bytes.now s c.args.image.now.range c.args.image.now.room
+          (tables_of c.args.image.now.bytes.now s c.args.image.now.range c.args.image.now.room one.0 one.1) two.1 three.1;
+    }

@@ -4,4 +4,4 @@ use Rattle.words.specs.Words.{words}
 use Rattle.label_sound.proofs.numbers_ok.Given as goal
 
 abbrev pub invariant-loop-i : goal.invariant-loop-i
-invariant-loop-i l = (k : ℕ) → k < l.i → get_or (words l.map) (l.at + k) 0 < l.n
+invariant-loop-i l = (k : ℕ) → k < l.i → get_or (words l.bytes) (l.at + k) 0 < l.n

@@ -10,22 +10,22 @@ use Rattle.index_tables.proofs.entries.has_ratio.Goals.{After-get-2, After-get-r
 use Rattle.index_tables.proofs.entries.has_ratio.Goals as goal
 
 -- the words of the entry, and of the label map's row that it names, lie within the image
-entry_here : (a : Start) → Spots a.args.s a.requires.in_range a.args.i 0
+entry_here : (a : Start) → Spots a.args.image.now.shape a.args.image.now.range a.args.i 0
 entry_here a =
-    spots a.args.s a.requires.in_range a.requires.kind_value.0 a.args.i 0 (omega (arith, a.requires.kind_value.1, a.requires.in_range.few)) a.requires.in_range.cap-from
+    spots a.args.image.now.shape a.args.image.now.range a.requires.kind_value.0 a.args.i 0 (omega (arith, a.requires.kind_value.1, a.args.image.now.range.few)) a.args.image.now.range.cap-from
 
-row_here : (c : After-get-row) → Spots c.args.s c.requires.in_range c.args.i c.get-row.result
+row_here : (c : After-get-row) → Spots c.args.image.now.shape c.args.image.now.range c.args.i c.get-row.result
 row_here c =
-    spots c.args.s c.requires.in_range c.requires.kind_value.0 c.args.i c.get-row.result
-    (omega (arith, c.requires.kind_value.1, c.requires.in_range.few)) (rw (c.get-row.ensures, c.entry_at-e.ensures) c.requires.ratio_ready.row)
+    spots c.args.image.now.shape c.args.image.now.range c.requires.kind_value.0 c.args.i c.get-row.result
+    (omega (arith, c.requires.kind_value.1, c.args.image.now.range.few)) (rw (c.get-row.ensures, c.entry_at-e.ensures) c.requires.ratio_ready.row)
 
 all_read : (c : After-get-2) → let entry_at = c.entry_at-e in
-    Read c.args.image.now c.args.s c.args.i entry_at.result ((c.labels_at.result + labels.row_at c.args.s.variables c.get-row.result))
+    Read c.args.image.now.bytes.now c.args.image.now.shape c.args.i entry_at.result ((c.labels_at.result + labels.row_at c.args.image.now.shape.variables c.get-row.result))
     c.get.result c.get-2.result
 all_read c =
     let entry_at = c.entry_at-e in
     record {
-      few = c.requires.in_range.vars-to;
+      few = c.args.image.now.range.vars-to;
       ready = c.requires.ratio_ready;
       entry = entry_at.ensures;
       row = rw (c.labels_at.ensures, c.get-row.ensures, entry_at.ensures);
@@ -34,13 +34,13 @@ all_read c =
     }
 
 pub entry_at-e-requires : goal.entry_at-e-requires
-entry_at-e-requires c = record { in_range = c.requires.in_range; i_le_capacity = omega (arith, c.requires.kind_value.1, c.requires.in_range.few) }
+entry_at-e-requires c = record { in_range = c.args.image.now.range; i_le_capacity = omega (arith, c.requires.kind_value.1, c.args.image.now.range.few) }
 
 pub overflow_add-m : goal.overflow_add-m
-overflow_add-m c = omega (arith, entry_here (goal.at.overflow_add-m c).Start, c.entry_at-e.ensures, c.requires.s_in_bounds)
+overflow_add-m c = omega (arith, entry_here (goal.at.overflow_add-m c).Start, c.entry_at-e.ensures, c.args.image.now.room)
 
 pub get-row-requires : goal.get-row-requires
-get-row-requires c = omega (arith, entry_here (goal.at.get-row-requires c).Start, c.entry_at-e.ensures, c.requires.s_in_bounds)
+get-row-requires c = omega (arith, entry_here (goal.at.get-row-requires c).Start, c.entry_at-e.ensures, c.args.image.now.room)
 
 pub overflow_mul-r : goal.overflow_mul-r
 overflow_mul-r c = omega (arith, (row_here (goal.at.overflow_mul-r c).After-get-row).row_small)
@@ -49,71 +49,71 @@ pub overflow_add-r-2 : goal.overflow_add-r-2
 overflow_add-r-2 c = omega (arith, (row_here (goal.at.overflow_add-r-2 c).After-get-row).row_small)
 
 pub overflow_add-r-3 : goal.overflow_add-r-3
-overflow_add-r-3 c = omega (arith, row_here (goal.at.overflow_add-r-3 c).After-get-row, c.labels_at.ensures, c.requires.s_in_bounds)
+overflow_add-r-3 c = omega (arith, row_here (goal.at.overflow_add-r-3 c).After-get-row, c.labels_at.ensures, c.args.image.now.room)
 
 pub overflow_add-m-2 : goal.overflow_add-m-2
 overflow_add-m-2 c =
-    omega (arith, entry_here (goal.at.overflow_add-m-2 c).Start, c.entry_at-e.ensures, c.requires.s_in_bounds)
+    omega (arith, entry_here (goal.at.overflow_add-m-2 c).Start, c.entry_at-e.ensures, c.args.image.now.room)
 
 pub get-requires : goal.get-requires
 get-requires c =
-    omega (arith, entry_here (goal.at.get-requires c).Start, c.entry_at-e.ensures, c.requires.s_in_bounds)
+    omega (arith, entry_here (goal.at.get-requires c).Start, c.entry_at-e.ensures, c.args.image.now.room)
 
 pub get-requires-2 : goal.get-requires-2
 get-requires-2 c =
-    omega (arith, row_here (goal.at.get-requires-2 c).After-get-row, c.labels_at.ensures, c.requires.s_in_bounds)
+    omega (arith, row_here (goal.at.get-requires-2 c).After-get-row, c.labels_at.ensures, c.args.image.now.room)
 
 pub overflow_add-x : goal.overflow_add-x
-overflow_add-x c = omega (arith, c.requires.in_range.vars-to)
+overflow_add-x c = omega (arith, c.args.image.now.range.vars-to)
 
 pub overflow_add-x-2 : goal.overflow_add-x-2
 overflow_add-x-2 c =
-    omega (arith, entry_here (goal.at.overflow_add-x-2 c).Start, c.entry_at-e.ensures, c.requires.s_in_bounds)
+    omega (arith, entry_here (goal.at.overflow_add-x-2 c).Start, c.entry_at-e.ensures, c.args.image.now.room)
 
 pub overflow_mul-x : goal.overflow_mul-x
 overflow_mul-x c =
-    omega (arith, entry_here (goal.at.overflow_mul-x c).Start, c.entry_at-e.ensures, c.requires.s_in_bounds)
+    omega (arith, entry_here (goal.at.overflow_mul-x c).Start, c.entry_at-e.ensures, c.args.image.now.room)
 
 pub overflow_mul-y : goal.overflow_mul-y
 overflow_mul-y c =
-    omega (arith, entry_here (goal.at.overflow_mul-y c).Start, c.entry_at-e.ensures, c.requires.s_in_bounds)
+    omega (arith, entry_here (goal.at.overflow_mul-y c).Start, c.entry_at-e.ensures, c.args.image.now.room)
 
 pub overflow_add-z : goal.overflow_add-z
 overflow_add-z c =
-    omega (arith, row_here (goal.at.overflow_add-z c).After-get-row, c.labels_at.ensures, c.requires.s_in_bounds)
+    omega (arith, row_here (goal.at.overflow_add-z c).After-get-row, c.labels_at.ensures, c.args.image.now.room)
 
 pub overflow_mul-z : goal.overflow_mul-z
 overflow_mul-z c =
-    omega (arith, row_here (goal.at.overflow_mul-z c).After-get-row, c.labels_at.ensures, c.requires.s_in_bounds)
+    omega (arith, row_here (goal.at.overflow_mul-z c).After-get-row, c.labels_at.ensures, c.args.image.now.room)
 
 pub slice_bounds-is_ratio-count : goal.slice_bounds-is_ratio-count
 slice_bounds-is_ratio-count c =
-    omega (arith, entry_here (goal.at.slice_bounds-is_ratio-count c).Start, c.entry_at-e.ensures, c.requires.s_in_bounds)
+    omega (arith, entry_here (goal.at.slice_bounds-is_ratio-count c).Start, c.entry_at-e.ensures, c.args.image.now.room)
 
 pub slice_bounds-is_ratio-start : goal.slice_bounds-is_ratio-start
 slice_bounds-is_ratio-start c =
-    omega (arith, entry_here (goal.at.slice_bounds-is_ratio-start c).Start, c.entry_at-e.ensures, c.requires.s_in_bounds)
+    omega (arith, entry_here (goal.at.slice_bounds-is_ratio-start c).Start, c.entry_at-e.ensures, c.args.image.now.room)
 
 pub slice_bounds-is_ratio-count-then-get : goal.slice_bounds-is_ratio-count-then-get
 slice_bounds-is_ratio-count-then-get c =
-    omega (arith, entry_here (goal.at.slice_bounds-is_ratio-count-then-get c).Start, c.entry_at-e.ensures, c.requires.s_in_bounds)
+    omega (arith, entry_here (goal.at.slice_bounds-is_ratio-count-then-get c).Start, c.entry_at-e.ensures, c.args.image.now.room)
 
 pub slice_bounds-is_ratio-start-then-get : goal.slice_bounds-is_ratio-start-then-get
 slice_bounds-is_ratio-start-then-get c =
-    omega (arith, entry_here (goal.at.slice_bounds-is_ratio-start-then-get c).Start, c.entry_at-e.ensures, c.requires.s_in_bounds)
+    omega (arith, entry_here (goal.at.slice_bounds-is_ratio-start-then-get c).Start, c.entry_at-e.ensures, c.args.image.now.room)
 
 pub slice_bounds-is_ratio-count-then-get-2 : goal.slice_bounds-is_ratio-count-then-get-2
 slice_bounds-is_ratio-count-then-get-2 c =
-    omega (arith, row_here (goal.at.slice_bounds-is_ratio-count-then-get-2 c).After-get-row, c.labels_at.ensures, c.requires.s_in_bounds)
+    omega (arith, row_here (goal.at.slice_bounds-is_ratio-count-then-get-2 c).After-get-row, c.labels_at.ensures, c.args.image.now.room)
 
 pub slice_bounds-is_ratio-start-then-get-2 : goal.slice_bounds-is_ratio-start-then-get-2
 slice_bounds-is_ratio-start-then-get-2 c =
-    omega (arith, row_here (goal.at.slice_bounds-is_ratio-start-then-get-2 c).After-get-row, c.labels_at.ensures, c.requires.s_in_bounds)
+    omega (arith, row_here (goal.at.slice_bounds-is_ratio-start-then-get-2 c).After-get-row, c.labels_at.ensures, c.args.image.now.room)
 
 pub is_ratio-requires : goal.is_ratio-requires
 is_ratio-requires c =
     let named = rw (c.get-row.ensures, c.entry_at-e.ensures) at (row_here (goal.at.is_ratio-requires c).After-get-row) in
-    let k = asks (all_read (goal.at.is_ratio-requires c).After-get-2) (omega (arith, c.requires.s_in_bounds, named.row)) in record { starts = k.sign-starts; starts_2 = k.lm-starts; b_in_bounds = k.fits }
+    let k = asks (all_read (goal.at.is_ratio-requires c).After-get-2) (omega (arith, c.args.image.now.room, named.row)) in record { starts = k.sign-starts; starts_2 = k.lm-starts; b_in_bounds = k.fits }
 
 pub returns-else-get : goal.returns-else-get
 returns-else-get c = rw (ne_eqb c.get.result c.get-2.result c.if-get.false) (refuse (other-index (all_read (goal.at.returns-else-get c).After-get-2) c.if-get.false))

@@ -3,13 +3,10 @@ use mathlib.Core.Path.{refl, sym, ◌∙◌}
 use borrow.Author.Count.{below_more}
 use Rattle.words.proofs.Answers.{refuse}
 use Rattle.words.proofs.Tables.{never}
-use Rattle.index_tables.proofs.entries.all_entries.Goals as goal
+use Rattle.index_tables.proofs.entries.Judging.all_entries.Goals as goal
 
 pub loop-i-init : goal.loop-i-init
 loop-i-init c = λ j h. absurd (omega arith)
-
-pub entry_ok-requires : goal.entry_ok-requires
-entry_ok-requires c = record { in_range = c.requires.in_range; s_in_bounds = c.requires.s_in_bounds; i_lt_entries = c.loop-i-test.true; tables = c.requires.tables; variables = c.requires.variables; maxima = c.requires.maxima }
 
 pub returns-then-not-entry_ok : goal.returns-then-not-entry_ok
 returns-then-not-entry_ok c =
