@@ -50,7 +50,8 @@ fn settled_row(labels: &ComparerMap<'_>, n: usize, index: u32, ratio: &[u8]) -> 
     row_of(labels, index, ratio)
 }
 
-// Gives a ratio a row and a label in the label map of the image, and returns the row.
+// Gives a ratio a row and a label in the label map of the image, and returns the row. The image is written, so it is lent as bytes: a struct
+// that knows it would owe what it knows after each word.
 pub fn label_ratio(image: &mut [u8], s: Shape, index: u32, ratio: &[u8]) -> usize
     requires in_range { shape.InRange s }
     requires s_in_bounds { 4 * shape.size s ≤ length image.old }
