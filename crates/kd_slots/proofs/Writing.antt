@@ -29,19 +29,19 @@ unfolding masked
 masked-length m xs ws rest h = length-append (slot m ws) _ ∙ omega (arith, slot-length m ws h)
 
 -- a slot, its mask and its vector, the two given as one number
-pub masked-written : (im : List ℕ) (i m x : ℕ) (xs ws a b c : List ℕ) → length ws ≤ at.slot_width m → 4 * (i + at.masked_width m) ≤ length im
-    → x ≡ mask m xs (pow 1 ws) + 4294967296 * vector m (pow 1 ws) → a ≡ paste_w im i (slot m ws) → b ≡ put_w a (at.mask_at m i) (x % 4294967296) → c ≡ put_w b (at.vector_at m i) (x / 4294967296)
-    → c ≡ paste_w im i (masked m xs ws [])
+pub masked-written : (im : List ℕ) (i m x : ℕ) (xs ws a b : List ℕ) → length ws ≤ at.slot_width m → 4 * (i + at.masked_width m) ≤ length im
+    → x ≡ mask m xs (pow 1 ws) + 4294967296 * vector m (pow 1 ws) → a ≡ paste_w im i (slot m ws) → b ≡ put_w (put_w a (at.mask_at m i) (x % 4294967296)) (at.mask_at m i + 1) (x / 4294967296)
+    → b ≡ paste_w im i (masked m xs ws [])
 unfolding masked
-masked-written im i m x xs ws a b c h l ex ea eb ec =
+masked-written im i m x xs ws a b h l ex ea eb =
     let y = mask m xs (pow 1 ws) in
     let z = vector m (pow 1 ws) in
     let low : x % 4294967296 ≡ y = omega (arith, mask-small m xs (pow 1 ws)) in
     let high : x / 4294967296 ≡ z = omega (arith, mask-small m xs (pow 1 ws)) in
     let ls = slot-length m ws h in
-    let one : b ≡ paste_w im i (slot m ws ++ (y ∷ [])) = eb ∙ rw (ea, low) (paste_w-snoc im i (slot m ws) (at.mask_at m i) y (omega arith) (omega arith)) in
+    let one : put_w a (at.mask_at m i) y ≡ paste_w im i (slot m ws ++ (y ∷ [])) = rw ea (paste_w-snoc im i (slot m ws) (at.mask_at m i) y (omega arith) (omega arith)) in
     let l1 : length (slot m ws ++ (y ∷ [])) ≡ m + 2 = length-append (slot m ws) _ ∙ omega arith in
-    ec ∙ rw (one, high) (paste_w-snoc im i (slot m ws ++ (y ∷ [])) (at.vector_at m i) z (omega arith) (omega arith)) ∙ ap (paste_w im i) (append_assoc (slot m ws) (y ∷ []) (z ∷ []))
+    eb ∙ rw (low, one, high) (paste_w-snoc im i (slot m ws ++ (y ∷ [])) (at.mask_at m i + 1) z (omega arith) (omega arith)) ∙ ap (paste_w im i) (append_assoc (slot m ws) (y ∷ []) (z ∷ []))
 
 pub gcd-written : (im : List ℕ) (i m : ℕ) (xs ws a b : List ℕ) (x : ℕ) → 4 * at.gcd_at i ≤ length im → x ≡ mask m xs (pow 1 ws) → a ≡ put_w im (at.node_mask_at i) x
     → b ≡ paste_w a (at.gcd_at i) (slot m ws) → b ≡ paste_w im (at.node_mask_at i) (gcd_words m xs ws)
