@@ -16,14 +16,14 @@ use index_image::image::Image;
 
 // Whether a canonical monomial stands in the slot at word i, zeros behind it, and then its mask and short exponent vector.
 pub fn masked_slot(image: &[u8], masks: &Masks<'_>, i: usize) -> bool
-    requires i_in_bounds { 4 * (i + at.masked_width masks.now.variables) ≤ length image.now }
-    ensures { (result ≡ true) ↔ door.MaskedSlot (words image.now) masks.now.variables (words masks.now.maxima.now) i }
+    requires i_in_bounds { 4 * (i + at.masked_width masks.now.map.variables) ≤ length image.now }
+    ensures { (result ≡ true) ↔ door.MaskedSlot (words image.now) masks.now.map.variables (words masks.now.map.maxima.now) i }
 {
     let Some(found) = masks.judge(image, i) else {
         return false;
     };
     let n = found.words;
-    let m = masks.variables as usize;
+    let m = masks.map.variables as usize;
     words::runs::is_blank(image, i + n, m + fields::SLOT - n)
         && words::pairs::get(image, i + (m + fields::MASK)) == found.masks
 }
@@ -99,8 +99,8 @@ struct Judging<'a> {
     image: Image<'a>,
     masks: Masks<'a>,
     ghost tables: { door.Tables (words image.bytes.now) image.shape },
-    ghost variables: { masks.variables ≡ image.shape.variables },
-    ghost maxima: { words masks.maxima.now ≡ map_maxima (words image.bytes.now) image.shape },
+    ghost variables: { masks.map.variables ≡ image.shape.variables },
+    ghost maxima: { words masks.map.maxima.now ≡ map_maxima (words image.bytes.now) image.shape },
 }
 
 impl Judging<'_> {
@@ -149,14 +149,12 @@ fn each_ok(image: &Image<'_>) -> bool
     requires { door.Tables (words image.now.bytes.now) image.now.shape }
     ensures { (result ≡ true) ↔ ((i : ℕ) → i < image.now.shape.entries → door.EntryOk (words image.now.bytes.now) image.now.shape i) }
 {
-    let maxima = image.map();
-    let variables = image.shape.variables as u32;
+    let map = image.div_map();
     // The largest table, of 64 variables: there is no heap, so its length is fixed.
     let mut table = [0u8; 8192];
-    let limit = divmask_table::prepare(maxima, variables, image.shape.entries, &mut table);
+    let limit = divmask_table::prepare(&map, image.shape.entries, &mut table);
     let masks = Masks {
-        maxima,
-        variables,
+        map,
         table: &table,
         limit,
     };

@@ -3,9 +3,6 @@
 
 ghost use Rattle.std.specs.Prelude.{◌≡◌, [], ◌+◌, ◌*◌, ◌≤◌, ◌<◌, length};
 ghost use Rattle.words.specs.Words.{words, paste_w};
-ghost use Rattle.monomial.specs.Monomial.{Canonical, pow};
-ghost use Rattle.divmask.specs.Mask.{mask};
-ghost use Rattle.divmask.specs.Tracker.{Maxima};
 ghost use Rattle.index_image.specs.Layout.{slot, masked};
 ghost use Rattle.index_image.specs.Shape as shape;
 ghost use Rattle.index_image.specs.Walk.{map_maxima};
@@ -27,15 +24,6 @@ pub fn write_slot(image: &mut [u8], i: usize, variables: usize, monomial: &[u8])
     words::runs::clear(image, i + n, variables + fields::SLOT - n);
 }
 
-// The mask of a monomial, by the map of the image.
-pub fn mask_of(image: &Image<'_>, monomial: &[u8]) -> u32
-    requires maxima { Maxima image.now.shape.variables (map_maxima (words image.now.bytes.now) image.now.shape) }
-    requires canonical { Canonical 1 image.now.shape.variables (words monomial.now) }
-    ensures { result ≡ mask image.now.shape.variables (map_maxima (words image.now.bytes.now) image.now.shape) (pow 1 (words monomial.now)) }
-{
-    divmask::map(image.map(), image.shape.variables as u32, monomial)
-}
-
 // Writes the slot at word i, and behind it mask and short exponent vector.
 // `Mapped` is a clause: a struct that holds the `&mut` would need two, that its reference and its numbers stay, and with the map asks where each write begins.
 pub fn write_masked(image: &mut [u8], s: Shape, i: usize, monomial: &[u8])
@@ -44,11 +32,11 @@ pub fn write_masked(image: &mut [u8], s: Shape, i: usize, monomial: &[u8])
     requires inside { i + shape.masked_width s.variables ≤ shape.size s }
     ensures { image.new ≡ paste_w image.old i (masked s.variables (map_maxima (words image.old) s) (words monomial.now) []) }
 {
-    let masks = Image {
+    let now = Image {
         bytes: image,
         shape: s,
-    }
-    .masks_of(monomial);
+    };
+    let masks = now.div_map().map_pair(monomial);
     write_slot(image, i, s.variables, monomial);
     words::pairs::put(image, i + (s.variables + fields::MASK), masks);
 }
@@ -64,7 +52,7 @@ pub fn write_gcd(image: &mut [u8], s: Shape, at: usize, gcd: &[u8])
         bytes: image,
         shape: s,
     };
-    let mask = mask_of(&now, gcd);
+    let mask = now.div_map().map(gcd);
     words::put(image, at + fields::NODE_MASK, mask);
     write_slot(image, at + fields::GCD, s.variables, gcd);
 }

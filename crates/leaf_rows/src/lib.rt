@@ -82,7 +82,7 @@ pub fn node_ok(image: &ReadyImage<'_>, at: usize, gcd: &[u8]) -> bool
     requires canonical { Canonical 1 image.now.shape.variables (words gcd.now) }
     ensures { (result ≡ true) ↔ NodeOk (words image.now.bytes.now) image.now.shape at (words gcd.now) }
 {
-    let mask = divmask::map(image.image().map(), image.shape.variables as u32, gcd);
+    let mask = image.div_map().map(gcd);
     words::get(image.bytes, at + fields::NODE_MASK) == mask && gcd_ok(image, at, gcd)
 }
 

@@ -10,7 +10,7 @@ use Rattle.leaf_rows.proofs.node_ok.Goals as goal
 
 -- the mask of the gcd
 made : (c : After-get) → c.map-mask.result ≡ mask c.args.image.now.shape.variables (map_maxima (words c.args.image.now.bytes.now) c.args.image.now.shape) (pow 1 (words c.args.gcd.now))
-made c = rw (c.map.ensures.is, c.image.ensures.0, c.image.ensures.1) at c.map-mask.ensures ∙ mask-whole (map_maxima (words c.args.image.now.bytes.now) c.args.image.now.shape) c.requires.canonical
+made c = rw (c.div_map.ensures.0, c.div_map.ensures.1) at c.map-mask.ensures ∙ mask-whole (map_maxima (words c.args.image.now.bytes.now) c.args.image.now.shape) c.requires.canonical
 
 pub returns-then-get-mask : goal.returns-then-get-mask
 returns-then-get-mask c = (

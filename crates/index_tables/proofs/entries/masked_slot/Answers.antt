@@ -5,8 +5,8 @@ use Rattle.index_image.proofs.Slots.{FoundSlot, found-slot, masked-iff}
 use Rattle.index_tables.proofs.entries.masked_slot.Goals.{In-Some}
 use Rattle.index_tables.proofs.entries.masked_slot.Goals as goal
 
-found : (c : In-Some) → FoundSlot c.args.image.now c.args.masks.now.variables c.args.i c.in-Some.found.words
-found c = found-slot c.args.image.now c.args.masks.now.variables c.args.i c.in-Some.found.words c.args.masks.now.lent.few c.in-Some.ensures.words c.in-Some.ensures.some
+found : (c : In-Some) → FoundSlot c.args.image.now c.args.masks.now.map.variables c.args.i c.in-Some.found.words
+found c = found-slot c.args.image.now c.args.masks.now.map.variables c.args.i c.in-Some.found.words c.args.masks.now.map.lent.few c.in-Some.ensures.words c.in-Some.ensures.some
 
 pub overflow_add-i : goal.overflow_add-i
 overflow_add-i c = omega (arith, (found (goal.at.overflow_add-i c).In-Some).inside)
@@ -20,6 +20,6 @@ is_blank-requires c = omega (arith, (found (goal.at.is_blank-requires c).In-Some
 pub returns-then-is_blank : goal.returns-then-is_blank
 returns-then-is_blank c =
     let k = c.in-Some.ensures in
-    masked-iff (words c.args.image.now) c.args.masks.now.variables (words c.args.masks.now.maxima.now) c.args.i c.in-Some.found.words c.get.result c.in-Some.found.masks
+    masked-iff (words c.args.image.now) c.args.masks.now.map.variables (words c.args.masks.now.map.maxima.now) c.args.i c.in-Some.found.words c.get.result c.in-Some.found.masks
     k.words k.some (c.is_blank.ensures.0 c.if-is_blank.true)
     (words_small c.args.image.now (λ j. (c.type_inv.image j).fits) _) c.get.ensures k.masks
