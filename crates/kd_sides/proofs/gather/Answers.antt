@@ -10,30 +10,30 @@ loop-i-init c = gather_none _ _ _ _ _ _
 
 pub get-e-requires : goal.get-e-requires
 get-e-requires c =
-    omega (arith, place-room c.args.image.now c.args.s c.requires.ready (c.args.lo + c.args.c) c.requires.d_bound.1)
+    omega (arith, place-room c.args.image.now.bytes.now c.args.image.now.shape c.args.image.now.ready (c.args.lo + c.args.c) c.requires.d_bound.1)
 
-pub wanted-requires-clause-d_bound : goal.wanted-requires-clause-d_bound
-wanted-requires-clause-d_bound c = (
+pub wanted-requires : goal.wanted-requires
+wanted-requires c = (
   c.requires.d_bound.0,
-  (place _ _ c.requires.ready _ _ _ _ _ c.requires.d_bound.1 c.loop-i-test.true c.permutation_at.ensures c.get-e.ensures).small,
+  (place _ _ c.args.image.now.ready _ _ _ _ _ c.requires.d_bound.1 c.loop-i-test.true c.permutation_at.ensures c.get-e.ensures).small,
 )
 
 pub put-requires : goal.put-requires
 put-requires c =
-    gather-room _ _ _ _ _ _ _ _ _ _ _ c.requires.ready c.requires.d_bound.1 c.loop-i-test.true _ c.permutation_at.ensures
+    gather-room _ _ _ _ _ _ _ _ _ _ _ c.args.image.now.ready c.requires.d_bound.1 c.loop-i-test.true _ c.permutation_at.ensures
     c.get-e.ensures c.loop-i.invariant c.requires.c_in_bounds (sym c.wanted.ensures ∙ c.if-wanted.true)
 
 pub loop-i-preserved : goal.loop-i-preserved
 loop-i-preserved c = elim c.if-wanted.branch [
   | then-wanted w ↦
       rw (w.out-is, w.n-is) (
-      gather-taken _ _ _ _ _ _ _ _ _ _ _ c.requires.ready c.requires.d_bound.1 c.loop-i-test.true _ c.permutation_at.ensures
+      gather-taken _ _ _ _ _ _ _ _ _ _ _ c.args.image.now.ready c.requires.d_bound.1 c.loop-i-test.true _ c.permutation_at.ensures
       c.get-e.ensures c.loop-i.invariant c.requires.c_in_bounds _ (sym c.wanted.ensures ∙ w.if-wanted.true)
       w.put.auto.s w.put.ensures
       )
   | else-wanted w ↦
       rw (w.out-is, w.n-is) (
-      gather-left _ _ _ _ _ _ _ _ _ _ _ c.requires.ready c.requires.d_bound.1 c.loop-i-test.true _ c.permutation_at.ensures
+      gather-left _ _ _ _ _ _ _ _ _ _ _ c.args.image.now.ready c.requires.d_bound.1 c.loop-i-test.true _ c.permutation_at.ensures
       c.get-e.ensures c.loop-i.invariant c.requires.c_in_bounds (sym c.wanted.ensures ∙ w.if-wanted.false)
       )
 ]

@@ -5,4 +5,4 @@ use Rattle.kd_sides.proofs.Parting.{Gathered}
 use Rattle.kd_sides.proofs.gather.Given as goal
 
 abbrev pub invariant-loop-i : goal.invariant-loop-i
-invariant-loop-i l = Gathered (words l.image) l.s (on_side (key_in (words l.image) l.s) l.d l.x l.want) l.lo l.i l.initial.out l.out l.at l.n
+invariant-loop-i l = Gathered (words l.image.bytes.now) l.image.shape (on_side (key_in (words l.image.bytes.now) l.image.shape) l.d l.x l.want) l.lo l.i l.initial.out l.out l.at l.n
