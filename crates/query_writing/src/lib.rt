@@ -3,7 +3,7 @@
 
 pub mod limits;
 
-ghost use Rattle.std.specs.Prelude.{◌≡◌, cond, ℕ, ◌+◌, ◌*◌, ◌/◌, ◌%◌, ◌<◌, ◌≤◌, length, get_or, ◌++◌};
+ghost use Rattle.std.specs.Prelude.{◌≡◌, cond, ℕ, ◌+◌, ◌*◌, ◌/◌, ◌%◌, ◌^◌, ◌<◌, ◌≤◌, length, get_or, [], ◌∷◌, ◌++◌};
 ghost use Rattle.words.specs.Words.{paste_w};
 ghost use Rattle.index_image.specs.Shape as at;
 ghost use Rattle.query_words.specs.Asked.{slot_at};
@@ -24,6 +24,17 @@ fn put_all(q: &mut [u8], at: usize, xs: &[usize])
     }
 }
 
+// Writes three numbers from word `at` on, each in two words, which hold it whole.
+fn put_pairs(q: &mut [u8], at: usize, a: u64, b: u64, c: u64)
+    requires { 4 * (at + 6) ≤ length q.old }
+    ensures q_after { q.new ≡ paste_w q.old at (a % 4294967296 ∷ a / 4294967296 ∷ b % 4294967296 ∷ b / 4294967296 ∷ c % 4294967296 ∷ c / 4294967296 ∷ []) }
+    ensures whole { (a < 2 ^ 64) × ((b < 2 ^ 64) × (c < 2 ^ 64)) }
+{
+    words::pairs::put(q, at, a);
+    words::pairs::put(q, at + 2, b);
+    words::pairs::put(q, at + 4, c);
+}
+
 // The mask for nodes: all bits are set where none is left out by mask.
 fn node_mask(lm: bool, mask: u64) -> u64
     ensures { result ≡ cond lm mask 4294967295 }
@@ -37,19 +48,17 @@ pub fn put_masks(q: &mut [u8], search: usize, lm: bool, masks: u64)
     requires search_bound { search < 4294967296 }
     ensures { q.new ≡ paste_w q.old 66 (mask_words search lm (masks % 4294967296) (masks / 4294967296)) }
 {
-    words::pairs::put(q, query::SEARCH, search as u64);
-    words::pairs::put(q, query::MASK, masks);
-    words::pairs::put(q, query::NODE_MASK, node_mask(lm, masks % 4294967296));
+    let for_nodes = node_mask(lm, masks % 4294967296);
+    put_pairs(q, query::SEARCH, search as u64, masks, for_nodes);
 }
 
 // Writes the range of labels.
 pub fn put_range(q: &mut [u8], labels: Range<u64>, floor: u64)
     requires { 368 ≤ length q.old }
-    ensures { q.new ≡ paste_w q.old 72 (range_words labels.start labels.end floor) }
+    ensures q_after { q.new ≡ paste_w q.old 72 (range_words labels.start labels.end floor) }
+    ensures whole { (labels.start < 2 ^ 64) × ((labels.end < 2 ^ 64) × (floor < 2 ^ 64)) }
 {
-    words::pairs::put(q, query::FROM, labels.start);
-    words::pairs::put(q, query::TO, labels.end);
-    words::pairs::put(q, query::FLOOR, floor);
+    put_pairs(q, query::FROM, labels.start, labels.end, floor);
 }
 
 // Where the lm or the signature monomial of entry 0 stands.
