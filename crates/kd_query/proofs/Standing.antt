@@ -1,6 +1,8 @@
 -- The words of a query read off again, and the request that they stand for. Assumes nothing.
 use mathlib.Core.Path.{◌≡◌, refl, sym, ap, subst, ◌∙◌}
 use mathlib.Core.Bool.{Bool, cond}
+use mathlib.Core.Logic.{∥∥₁_elim}
+use Rattle.std.proofs.Props.{props}
 use mathlib.Core.List.{List, [], ◌∷◌, ◌++◌}
 use Prim.Native.Nat.{ℕ, ◌+◌, ◌*◌, ◌/◌, ◌%◌, ◌^◌, ◌≤◌, ◌<◌}
 use native.Mathlib.Omega.{arith}
@@ -20,7 +22,7 @@ use Rattle.index_theory.specs.Ranges.{dividend, by_lm, limit_of}
 use Rattle.index_theory.specs.Searches.{Query, containment, reducing, high, low, singular, kind_for}
 use Rattle.index_theory.specs.State.{ratioed, State}
 use Rattle.index_image.specs.Head.{HeadOk}
-use Rattle.index_image.specs.Layout.{Is}
+use Rattle.index_image.specs.Layout.{Is, Sound}
 use Rattle.index_image.specs.Shape as at
 use Rattle.index_image.specs.Walk.{map_maxima}
 use Rattle.index_image.specs.declared.Shape.{Shape}
@@ -159,8 +161,12 @@ module _ (bs : List ℕ) (s : Shape) (h : HeadOk (words bs) (length bs) s) (st :
   pub map_is : map_maxima (words bs) s ≡ st.map_maxima
   map_is = ap (map_maxima (words bs)) (sym (shape_is bs s h st I)) ∙ (of.pieces bs st I).map
 
-  pub map-good : Maxima s.variables (map_maxima (words bs) s)
-  map-good = rw (map_is, ← vars-is) I.valid.map-good
+  map-fits : Maxima s.variables (map_maxima (words bs) s)
+  map-fits = rw (map_is, ← vars-is) I.valid.map-good
+
+-- however the image is known to be sound
+pub map-good : (bs : List ℕ) (s : Shape) → HeadOk (words bs) (length bs) s → ∥ Sound bs ∥₁ → Maxima s.variables (map_maxima (words bs) s)
+map-good bs s h S = ∥∥₁_elim S (hlevel props) (λ z. map-fits bs s h z.state z.is)
 
 -- ---- the request
 module _ (bs ms Q₁ Q : List ℕ) (s : Shape) (h : HeadOk (words bs) (length bs) s) (can : Canonical 1 s.variables (words ms)) (x : Search) (masks from to floor : ℕ)

@@ -1,7 +1,6 @@
 -- A ratio as two bounds of labels, from its place in the label map. Assumes nothing.
 use mathlib.Core.Path.{◌≡◌, refl, sym, ap, ◌∙◌}
 use mathlib.Core.Bool.{true, false}
-use mathlib.Core.List.{List}
 use Prim.Native.Nat.{ℕ, ◌+◌, ◌≤◌, ◌<◌}
 use native.Mathlib.Decide.{dec_le}
 use native.Mathlib.Omega.{arith}
@@ -15,14 +14,11 @@ use Rattle.std.proofs.lemmas.Cmp.{nat_cmp_total}
 use Rattle.monomial_ordering.proofs.Orders.{Trichotomy, less, equal, greater, trichotomy}
 use Rattle.fast_compare.specs.Labels.{sorted}
 use Rattle.fast_compare.specs.Map as map
-use Rattle.fast_compare.specs.Layout as labels
 use Rattle.fast_compare.proofs.Kept.{known-compare, new-compare, last-compare}
 use Rattle.fast_compare.proofs.Maps.{cmp-lawful}
-use Rattle.words.specs.Words.{words}
-use Rattle.fast_compare.proofs.Exact.{count_of}
 use Rattle.fast_compare.proofs.Giving.{at_place, before-place, known-row, place-few}
 use Rattle.index_theory.specs.Entries.{above}
-use Rattle.label_ranges.specs.Ended.{Ends}
+use Rattle.label_ranges.specs.Ended.{Ends, row_of_rank, label_of_rank}
 
 greater-is : (a b : ℕ) → is_gt (nat_cmp a b) ≡ ltb b a
 greater-is a b = go (trichotomy a b)
@@ -51,7 +47,7 @@ module _ (l : map.State) (val : map.Valid l) (v : map.Value) where
   abbrev label_at : ℕ → ℕ
   label_at p = map.label l.rows (get_or (sorted map.cmp (map.value l.rows) (length l.rows)) p 0)
 
-  pub known-ends : (p x up : ℕ) → Ok p ≡ map.place l.rows v → x ≡ map.label l.rows (get_or (sorted map.cmp (map.value l.rows) (length l.rows)) p 0)
+  known-ends : (p x up : ℕ) → Ok p ≡ map.place l.rows v → x ≡ map.label l.rows (get_or (sorted map.cmp (map.value l.rows) (length l.rows)) p 0)
       → up ≡ x + 1 → Ends l v up x
   unfolding above
   known-ends p x up q ex eu = record {
@@ -61,7 +57,7 @@ module _ (l : map.State) (val : map.Valid l) (v : map.Value) where
         (label_at p) ∙ rw (← ex) refl;
   }
 
-  pub new-ends : (p x : ℕ) → Err p ≡ map.place l.rows v → p < length l.rows
+  new-ends : (p x : ℕ) → Err p ≡ map.place l.rows v → p < length l.rows
       → x ≡ map.label l.rows (get_or (sorted map.cmp (map.value l.rows) (length l.rows)) p 0) → Ends l v x x
   new-ends p x q s ex = record { up_is = λ i h. up i h; down_is = λ i h. down i h }
     where
@@ -79,7 +75,7 @@ module _ (l : map.State) (val : map.Valid l) (v : map.Value) where
           let w = map.value l.rows i in
           elim (dec_le x a) [ yes y ↦ less-not v w (c.1.1 (omega arith)) ∙ sym (le-ltb a x y) | no y ↦ less-flips w v (c.0.1 (omega arith)) ∙ sym (lt-ltb a x (omega arith)) ]
 
-  pub last-ends : (p : ℕ) → Err p ≡ map.place l.rows v → p ≡ length l.rows → Ends l v 4294967296 4294967296
+  last-ends : (p : ℕ) → Err p ≡ map.place l.rows v → p ≡ length l.rows → Ends l v 4294967296 4294967296
   last-ends p q e =
       let z : Err (length l.rows) ≡ map.place l.rows v = ap Err (sym e) ∙ q in
       record {
@@ -87,20 +83,24 @@ module _ (l : map.State) (val : map.Valid l) (v : map.Value) where
         down_is = λ i h. less-flips (map.value l.rows i) v (last-compare l val v i h z) ∙ sym (lt-ltb (map.label l.rows i) 4294967296 (omega (arith, val.labelled.small i h)));
       }
 
+-- ---- the label at a place
+pub label-known : (l : map.State) (p : ℕ) → p < length l.rows → label_of_rank l p ≡ map.label l.rows (get_or (sorted map.cmp (map.value l.rows) (length l.rows)) p 0)
+unfolding label_of_rank row_of_rank
+label-known l p h = rw (lt-ltb p (length l.rows) h) refl
+
+pub label-none : (l : map.State) (p : ℕ) → length l.rows ≤ p → label_of_rank l p ≡ 4294967296
+unfolding label_of_rank
+label-none l p h = rw (le-ltb p (length l.rows) h) refl
+
 -- ---- the places that `search` gives
-module _ (bs : List ℕ) (l : map.State) (I : labels.Is l bs) (v : map.Value) (p : ℕ) where
-  pub at-few : Ok p ≡ map.place l.rows v → p < get_or (words bs) 3 0
-  at-few q = omega (arith, (known-row l v I.valid p (at_place l v p q)).0, count_of bs l I)
+module _ (l : map.State) (val : map.Valid l) (v : map.Value) (p x : ℕ) (e : x ≡ label_of_rank l p) where
+  pub known_is : Ok p ≡ map.place l.rows v → Ends l v (x + 1) x
+  known_is q = known-ends l val v p x (x + 1) q (e ∙ label-known l p (known-row l v val p (at_place l v p q)).0) refl
 
-  pub before-few : Err p ≡ map.place l.rows v → p ≤ length l.rows
-  before-few q = place-few l v I.valid p (before-place l v p q).place_is
-
-  pub known_is : (x : ℕ) → Ok p ≡ map.place l.rows v → x ≡ map.label l.rows (get_or (sorted map.cmp (map.value l.rows) (length l.rows)) p 0) → Ends l v (x + 1) x
-  known_is x q e = known-ends l I.valid v p x (x + 1) q e refl
-
-  pub new_is : (x c : ℕ) → Err p ≡ map.place l.rows v → c ≡ length l.rows → p < c
-      → x ≡ map.label l.rows (get_or (sorted map.cmp (map.value l.rows) (length l.rows)) p 0) → Ends l v x x
-  new_is x c q ec h e = new-ends l I.valid v p x q (omega arith) e
-
-  pub last-is : (c : ℕ) → Err p ≡ map.place l.rows v → c ≡ length l.rows → c ≤ p → Ends l v 4294967296 4294967296
-  last-is c q ec h = last-ends l I.valid v p q (omega (arith, before-few q))
+  pub new_is : Err p ≡ map.place l.rows v → Ends l v x x
+  new_is q =
+      let few = place-few l v val p (before-place l v p q).place_is in
+      elim (dec_le (p + 1) (length l.rows)) [
+        | yes h ↦ new-ends l val v p x q (omega arith) (e ∙ label-known l p (omega arith))
+        | no h ↦ rw (e ∙ label-none l p (omega arith)) (last-ends l val v p q (omega arith))
+      ]

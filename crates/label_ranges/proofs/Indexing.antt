@@ -20,7 +20,8 @@ use Rattle.fast_compare.proofs.Maps.{cmp-lawful}
 use Rattle.fast_compare.proofs.Ranks.{below_top, less-place, place_of}
 use Rattle.index_theory.specs.Entries.{above}
 use Rattle.index_theory.proofs.Orders.{index-rises}
-use Rattle.label_ranges.specs.Ended.{From, row_of_rank, index_of_rank, Halved}
+use Rattle.label_ranges.specs.Ended.{From, row_of_rank, index_of_rank, label_of_rank, Halved}
+use Rattle.label_ranges.proofs.Ending.{label-known, label-none}
 
 -- ---- where the index of a row lies
 module _ (l : map.State) (p x row i : ℕ) (er : row ≡ get_or (sorted map.cmp (map.value l.rows) (length l.rows)) p 0) (ei : i ≡ (map.value l.rows row).index) where
@@ -114,7 +115,7 @@ module _ (l : map.State) (val : map.Valid l) where
     behind : (i : ℕ) → i < length l.rows → p ≤ place i → x ≤ (map.value l.rows i).index
     behind i h k = omega (arith, P.from (place i) k (within i h), ap (λ (j : ℕ). (map.value l.rows j).index) (stands i h))
 
-    pub from-label : (r : ℕ) → p < length l.rows → r ≡ map.label l.rows (get_or (sorted map.cmp (map.value l.rows) (length l.rows)) p 0) → From l x r
+    from-label : (r : ℕ) → p < length l.rows → r ≡ map.label l.rows (get_or (sorted map.cmp (map.value l.rows) (length l.rows)) p 0) → From l x r
     unfolding row_of_rank
     from-label r s e = record { is = λ i h. go i h }
       where
@@ -138,9 +139,16 @@ module _ (l : map.State) (val : map.Valid l) where
               | no k ↦ rw (le-ltb (f i).index x (behind i h (omega arith))) (sym (le-leb r (map.label l.rows i) (least i h (omega arith))))
             ]
 
-    pub from-none : length l.rows ≤ p → From l x 4294967296
+    from-none : length l.rows ≤ p → From l x 4294967296
     from-none s = record {
       is = λ i h.
           rw (lt-ltb (f i).index x (before i h (omega (arith, within i h))))
           (sym (lt-leb 4294967296 (map.label l.rows i) (omega (arith, val.labelled.small i h))));
     }
+
+    pub from_is : (r : ℕ) → r ≡ label_of_rank l p → From l x r
+    from_is r e =
+        elim (dec_lt p (length l.rows)) [
+          | yes h ↦ from-label r h (e ∙ label-known l p h)
+          | no h ↦ rw (e ∙ label-none l p (omega arith)) (from-none (omega arith))
+        ]

@@ -1,6 +1,7 @@
 -- The label map as a part of the image. Assumes nothing.
 use mathlib.Core.Path.{◌≡◌, refl, ap, subst, ◌∙◌}
 use mathlib.Core.List.{List}
+use mathlib.Core.Logic.{∥∥₁_map}
 use Prim.Native.Nat.{ℕ, ◌+◌, ◌-◌, ◌*◌}
 use native.Mathlib.Omega.{arith}
 use lib.ListN.{length, take, drop}
@@ -24,14 +25,14 @@ module _ (bs : List ℕ) (s : Shape) (h : HeadOk (words bs) (length bs) s) where
   pub kind-of : (st : State) → Is st bs → s.kind ≡ 1 → st.kind ≡ ratioed
   kind-of st I k = code-ratio st.kind (ap (λ (y : Shape). y.kind) (shape_is st I) ∙ k)
 
-  module _ (k : s.kind ≡ 1) (x y : ℕ) (ex : x ≡ at.labels_at s) (ey : y ≡ at.labels_size s) where
-    part-is : take (4 * x + 4 * y - 4 * x) (drop (4 * x) bs) ≡ label_bytes bs s
-    part-is = let z : 4 * x + 4 * y - 4 * x ≡ 4 * y = omega arith in rw (z, ex, ey) refl
+  module _ (k : s.kind ≡ 1) (x y : ℕ) (ex : x ≡ 4 * at.labels_at s) (ey : y ≡ 4 * (at.labels_at s + at.labels_size s)) where
+    part-is : take (y - x) (drop x bs) ≡ label_bytes bs s
+    part-is = let z : y - x ≡ 4 * at.labels_size s = omega (arith, ex, ey) in rw (z, ex) refl
 
-    pub lent_is : (st : State) → Is st bs → lay.Is st.labels (take (4 * x + 4 * y - 4 * x) (drop (4 * x) bs))
+    pub lent_is : (st : State) → Is st bs → lay.Is st.labels (take (y - x) (drop x bs))
     lent_is st I =
         let m : MapIs (words bs) s st.labels = subst (λ (z : Shape). MapIs (words bs) z st.labels) (shape_is st I) (of.map_is bs st I (kind-of st I k)) in
         rw part-is (is-map bs s h.range h.room k st.labels m)
 
-    pub lent-sound : Sound bs → lay.Sound (take (4 * x + 4 * y - 4 * x) (drop (4 * x) bs))
-    lent-sound S = record { state = S.state.labels; is = lent_is S.state S.is }
+    pub lent-sound : ∥ Sound bs ∥₁ → ∥ lay.Sound (take (y - x) (drop x bs)) ∥₁
+    lent-sound S = ∥∥₁_map S (λ z. record { state = z.state.labels; is = lent_is z.state z.is })

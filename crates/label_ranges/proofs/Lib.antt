@@ -1,3 +1,3 @@
-pub mod Indexing
 pub mod Ending
+pub mod Indexing
 pub mod Lending

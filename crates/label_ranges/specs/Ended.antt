@@ -1,5 +1,5 @@
 -- Where the labels of ratios above and below a value, and of indexes from one on, lie. Assumes nothing.
-use Rattle.std.specs.Prelude.{◌≡◌, not, ℕ, ◌≤◌, ◌<◌, leb, ltb, length, get_or}
+use Rattle.std.specs.Prelude.{◌≡◌, not, cond, ℕ, ◌≤◌, ◌<◌, leb, ltb, length, get_or}
 use Rattle.fast_compare.specs.Labels.{sorted}
 use Rattle.fast_compare.specs.Map as map
 use Rattle.index_theory.specs.Entries.{above}
@@ -19,6 +19,10 @@ row_of_rank l p = get_or (sorted map.cmp (map.value l.rows) (length l.rows)) p 0
 
 abbrev pub index_of_rank : map.State → ℕ → ℕ
 index_of_rank l p = (map.value l.rows (row_of_rank l p)).index
+
+-- the label of the row with p values below its own; 2^32 where there is none
+unfoldable pub label_of_rank : map.State → ℕ → ℕ
+label_of_rank l p = cond (ltb p (length l.rows)) (map.label l.rows (row_of_rank l p)) 4294967296
 
 -- in the order of values, the rows before lo have an index below x, those from hi on have not
 pub record Halved (l : map.State) (x lo hi : ℕ) : Type 0 where

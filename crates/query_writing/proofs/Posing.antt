@@ -2,49 +2,40 @@
 use mathlib.Core.Path.{◌≡◌, refl, sym, ap, ◌∙◌}
 use mathlib.Core.Bool.{Bool, true, false, cond}
 use mathlib.Core.List.{List, [], ◌∷◌, ◌++◌}
-use Prim.Native.Nat.{ℕ, ◌+◌, ◌≤◌, ◌<◌}
+use Prim.Native.Nat.{ℕ, ◌+◌, ◌*◌, ◌/◌, ◌%◌, ◌≤◌, ◌<◌}
 use native.Mathlib.Omega.{arith}
 use lib.ListN.{length, get_or}
-use Rattle.words.specs.Words.{words, put_w, paste_w}
+use Rattle.words.specs.Words.{words, paste_w}
 use Rattle.words.specs.Tables.{part}
-use Rattle.words.proofs.Laws.{Words, length-words, length-paste_w, put_w-paste, paste_w-snoc}
-use Rattle.words.proofs.Tables.{part-get, paste_w-append, Small, small-cons, small-nil}
+use Rattle.words.proofs.Laws.{Words, length-words, length-paste_w}
+use Rattle.words.proofs.Tables.{part-get, Small, small-cons, small-nil}
 use Rattle.words.proofs.Pasting.{part-pasted}
 use Rattle.index_image.specs.Shape as at
 use Rattle.index_image.specs.declared.Shape.{Shape}
 use Rattle.index_image.proofs.Bounds.{size_small, width_small, entries-small}
 use Rattle.query_words.specs.Asked.{shape_in, slot_at, Laid}
-use Rattle.query_writing.specs.Written.{mask_words, slot_words, place_words, shape_words}
+use Rattle.query_writing.specs.Written.{mask_words, place_words, shape_words}
 
 -- ---- masks, range and slot
 pub node-small : (lm : Bool) (mask n : ℕ) → mask < 4294967296 → n ≡ cond lm mask 4294967295 → n < 4294967296
 node-small true mask n h e = omega arith
 node-small false mask n h e = omega arith
 
-pub masks-written : (b₀ b₁ : List ℕ) (search : ℕ) (lm : Bool) (mask vector n : ℕ) → n ≡ cond lm mask 4294967295 → b₁ ≡ paste_w b₀ 66 (search ∷ 0 ∷ mask ∷ vector ∷ n ∷ 0 ∷ [])
-    → b₁ ≡ paste_w b₀ 66 (mask_words search lm mask vector)
+pub masks-written : (b₀ b₁ : List ℕ) (search : ℕ) (lm : Bool) (mask vector n : ℕ) → search < 4294967296 → mask < 4294967296 → n ≡ cond lm mask 4294967295
+    → b₁ ≡ paste_w b₀ 66 (search % 4294967296 ∷ search / 4294967296 ∷ mask ∷ vector ∷ n % 4294967296 ∷ n / 4294967296 ∷ []) → b₁ ≡ paste_w b₀ 66 (mask_words search lm mask vector)
 unfolding mask_words
-masks-written b₀ b₁ search lm mask vector n en e = e ∙ rw en refl
-
-pub lm-slot : (s : Shape) (a : ℕ) (lm : Bool) → lm ≡ true → a ≡ at.entry_at s 0 → a ≡ slot_at s lm 0
-unfolding slot_at
-lm-slot s a lm h e = rw h e
-
-pub sign-slot : (s : Shape) (a : ℕ) (lm : Bool) → lm ≡ false → a ≡ at.entry_at s 0 → a + (s.variables + 4) ≡ slot_at s lm 0
-unfolding slot_at
-sign-slot s a lm h e = rw (h, e) refl
+masks-written b₀ b₁ search lm mask vector n hs hm en e =
+    let h = node-small lm mask n hm en in
+    let s₀ : search % 4294967296 ≡ search = omega arith in
+    let s₁ : search / 4294967296 ≡ 0 = omega arith in
+    let n₀ : n % 4294967296 ≡ cond lm mask 4294967295 = omega (arith, en) in
+    let n₁ : n / 4294967296 ≡ 0 = omega arith in
+    e ∙ rw (s₀, s₁, n₀, n₁) refl
 
 pub slot_small : (s : Shape) → at.InRange s → (lm : Bool) → slot_at s lm 0 ≤ 220
 unfolding slot_at
 slot_small s R true = omega (arith, R.vars-to)
 slot_small s R false = omega (arith, R.vars-to)
-
-pub slot-written : (b₀ b₁ b₂ : List ℕ) (s : Shape) (lm : Bool) (n : ℕ) → 368 ≤ length b₀ → n ≡ slot_at s lm 0 → b₁ ≡ put_w b₀ 78 n → b₂ ≡ put_w b₁ 79 (n + (s.variables + 1))
-    → b₂ ≡ paste_w b₀ 78 (slot_words s lm)
-unfolding slot_words
-slot-written b₀ b₁ b₂ s lm n room en e₁ e₂ =
-    let p₁ : b₁ ≡ paste_w b₀ 78 (n ∷ []) = e₁ ∙ put_w-paste b₀ 78 n (omega arith) in
-    e₂ ∙ rw (p₁, paste_w-snoc b₀ 78 (n ∷ []) 79 (n + (s.variables + 1)) (omega arith) (omega arith), en) refl
 
 -- ---- the numbers of a shape are words
 pub record ShapeSmall (s : Shape) : Type 0 where
@@ -67,44 +58,31 @@ shape-small s R = record {
   capacity = R.cap-to;
 }
 
-pub places-laid : (b₀ b₁ : List ℕ) (s : Shape) (n p w r : ℕ) → n ≡ at.node_at s 0 → p ≡ at.permutation_at s → w ≡ at.entry_width s → r ≡ at.row_at s 0
-    → b₁ ≡ paste_w b₀ 80 (n ∷ (s.variables + 6) ∷ p ∷ w ∷ r ∷ (s.variables + 3) ∷ []) → b₁ ≡ paste_w b₀ 80 (place_words s)
-unfolding place_words
-places-laid b₀ b₁ s n p w r en ep ew er e = e ∙ rw (en, ep, ew, er) refl
+pub laid-words : (s : Shape) (n p w e l : ℕ) → n ≡ at.node_at s 0 → p ≡ at.permutation_at s → w ≡ at.entry_width s → e ≡ at.entry_at s 0 → l ≡ at.labels_at s
+    → n ∷ (s.variables + 6) ∷ p ∷ w ∷ (e + (2 * s.variables + 7)) ∷ (s.variables + 3) ∷ (l + (4 + (s.variables + 2))) ∷ s.kind ∷ s.variables ∷ s.capacity ∷ s.entries
+    ∷ s.nodes ∷ [] ≡ place_words s ++ shape_words s
+unfolding place_words shape_words
+laid-words s n p w e l en ep ew ee el =
+    let z : l + (4 + (s.variables + 2)) ≡ at.label_at s 0 = omega (arith, el) in
+    rw (en, ep, ew, ee, z) refl
 
-places-long : (s : Shape) → length (place_words s) ≡ 6
-unfolding place_words
-places-long s = refl
-
-shapes-long : (s : Shape) → length (shape_words s) ≡ 6
-unfolding shape_words
-shapes-long s = refl
-
-pub all_laid : (b₀ b₁ b₂ : List ℕ) (s : Shape) (l : ℕ) → 368 ≤ length b₀ → l ≡ at.label_at s 0 → b₁ ≡ paste_w b₀ 80 (place_words s)
-    → b₂ ≡ paste_w b₁ 86 (l ∷ s.kind ∷ s.variables ∷ s.capacity ∷ s.entries ∷ s.nodes ∷ [])
-    → b₂ ≡ paste_w b₀ 80 (place_words s ++ shape_words s)
-unfolding shape_words
-all_laid b₀ b₁ b₂ s l room el e₁ e₂ =
-    e₂ ∙ rw (e₁, el) (paste_w-append b₀ 80 (place_words s) 86 (at.label_at s 0 ∷ s.kind ∷ s.variables ∷ s.capacity ∷ s.entries ∷ s.nodes ∷ [])
-    (omega (arith, places-long s)) (omega (arith, places-long s)))
+pub laid-small : (s : Shape) → at.InRange s → Words (place_words s ++ shape_words s)
+unfolding place_words shape_words
+laid-small s R =
+    let S = shape-small s R in
+    let z : Small (at.node_at s 0 ∷ at.node_width s.variables ∷ at.permutation_at s ∷ at.entry_width s ∷ at.row_at s 0 ∷ (s.variables + 3) ∷ at.label_at s 0
+    ∷ s.kind ∷ s.variables ∷ s.capacity ∷ s.entries ∷ s.nodes ∷ []) =
+    small-cons (omega (arith, S.node)) (small-cons (omega (arith, S.few))
+    (small-cons (omega (arith, S.permutation)) (small-cons (omega (arith, S.entry-width)) (small-cons (omega (arith, S.row)) (small-cons (omega (arith, S.few))
+    (small-cons (omega (arith, S.label)) (small-cons (omega (arith, R.kind-to))
+    (small-cons (omega (arith, S.few)) (small-cons (omega (arith, S.capacity))
+    (small-cons (omega (arith, R.few, S.capacity)) (small-cons (omega (arith, R.nodes-to, S.capacity)) small-nil))))))))))) in
+    z.each
 
 -- ---- the words are read off again
 module _ (bs : List ℕ) (s : Shape) (R : at.InRange s) (room : 368 ≤ length bs) where
   abbrev Q : List ℕ
   Q = words (paste_w bs 80 (place_words s ++ shape_words s))
-
-  small : Words (place_words s ++ shape_words s)
-  unfolding place_words shape_words
-  small =
-      let S = shape-small s R in
-      let z : Small (at.node_at s 0 ∷ at.node_width s.variables ∷ at.permutation_at s ∷ at.entry_width s ∷ at.row_at s 0 ∷ (s.variables + 3) ∷ at.label_at s 0
-      ∷ s.kind ∷ s.variables ∷ s.capacity ∷ s.entries ∷ s.nodes ∷ []) =
-      small-cons (omega (arith, S.node)) (small-cons (omega (arith, S.few))
-      (small-cons (omega (arith, S.permutation)) (small-cons (omega (arith, S.entry-width)) (small-cons (omega (arith, S.row)) (small-cons (omega (arith, S.few))
-      (small-cons (omega (arith, S.label)) (small-cons (omega (arith, R.kind-to))
-      (small-cons (omega (arith, S.few)) (small-cons (omega (arith, S.capacity))
-      (small-cons (omega (arith, R.few, S.capacity)) (small-cons (omega (arith, R.nodes-to, S.capacity)) small-nil))))))))))) in
-      z.each
 
   twelve : length (place_words s ++ shape_words s) ≡ 12
   unfolding place_words shape_words
@@ -113,7 +91,7 @@ module _ (bs : List ℕ) (s : Shape) (R : at.InRange s) (room : 368 ≤ length b
   word : (i j : ℕ) → j ≡ 80 + i → i < 12 → get_or (words (paste_w bs 80 (place_words s ++ shape_words s))) j 0 ≡ get_or (place_words s ++ shape_words s) i 0
   word i j e h =
       let E = place_words s ++ shape_words s in
-      let p : part (words (paste_w bs 80 E)) 80 12 ≡ E = ap (part (words (paste_w bs 80 E)) 80) (sym twelve) ∙ part-pasted bs 80 E small (omega (arith, twelve)) in
+      let p : part (words (paste_w bs 80 E)) 80 12 ≡ E = ap (part (words (paste_w bs 80 E)) 80) (sym twelve) ∙ part-pasted bs 80 E (laid-small s R) (omega (arith, twelve)) in
       rw e (sym (part-get (words (paste_w bs 80 E)) 80 12 i h) ∙ ap (λ (l : List ℕ). get_or l i 0) p)
 
   pub laid : Laid (words (paste_w bs 80 (place_words s ++ shape_words s))) s

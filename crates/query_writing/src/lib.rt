@@ -3,7 +3,7 @@
 
 pub mod limits;
 
-ghost use Rattle.std.specs.Prelude.{◌≡◌, cond, ◌+◌, ◌*◌, ◌/◌, ◌%◌, ◌<◌, ◌≤◌, length, [], ◌∷◌, ◌++◌};
+ghost use Rattle.std.specs.Prelude.{◌≡◌, cond, ℕ, ◌+◌, ◌*◌, ◌/◌, ◌%◌, ◌^◌, ◌<◌, ◌≤◌, length, get_or, [], ◌∷◌, ◌++◌};
 ghost use Rattle.words.specs.Words.{paste_w};
 ghost use Rattle.index_image.specs.Shape as at;
 ghost use Rattle.query_words.specs.Asked.{slot_at};
@@ -11,23 +11,32 @@ ghost use Rattle.query_writing.specs.Written.{mask_words, range_words, slot_word
 
 use index_image::{Shape, fields};
 use query_words as query;
+use std::ops::Range;
 
-// Writes six words from word `at` on.
-fn put_six(q: &mut [u8], at: usize, a: usize, b: usize, c: usize, d: usize, e: usize, f: usize)
-    requires at_in_bounds { 4 * (at + 6) ≤ length q.old }
-    requires a_bound { (a < 4294967296) × ((b < 4294967296) × ((c < 4294967296) × ((d < 4294967296) × ((e < 4294967296) × (f < 4294967296))))) }
-    ensures { q.new ≡ paste_w q.old at (a ∷ b ∷ c ∷ d ∷ e ∷ f ∷ []) }
+// Writes words one behind the other from word `at` on.
+fn put_all(q: &mut [u8], at: usize, xs: &[usize])
+    requires in_bounds { 4 * (at + length xs.now) ≤ length q.old }
+    requires small { (i : ℕ) → get_or xs.now i 0 < 4294967296 }
+    ensures { q.new ≡ paste_w q.old at xs.now }
 {
-    words::put(q, at, a as u32);
-    words::put(q, at + 1, b as u32);
-    words::put(q, at + 2, c as u32);
-    words::put(q, at + 3, d as u32);
-    words::put(q, at + 4, e as u32);
-    words::put(q, at + 5, f as u32);
+    for (i, &x) in xs.iter().enumerate() {
+        words::put(q, at + i, x as u32);
+    }
+}
+
+// Writes three numbers from word `at` on, each in two words, which hold it whole.
+fn put_pairs(q: &mut [u8], at: usize, a: u64, b: u64, c: u64)
+    requires { 4 * (at + 6) ≤ length q.old }
+    ensures q_after { q.new ≡ paste_w q.old at (a % 4294967296 ∷ a / 4294967296 ∷ b % 4294967296 ∷ b / 4294967296 ∷ c % 4294967296 ∷ c / 4294967296 ∷ []) }
+    ensures whole { (a < 2 ^ 64) × ((b < 2 ^ 64) × (c < 2 ^ 64)) }
+{
+    words::pairs::put(q, at, a);
+    words::pairs::put(q, at + 2, b);
+    words::pairs::put(q, at + 4, c);
 }
 
 // The mask for nodes: all bits are set where none is left out by mask.
-fn node_mask(lm: bool, mask: usize) -> usize
+fn node_mask(lm: bool, mask: u64) -> u64
     ensures { result ≡ cond lm mask 4294967295 }
 {
     if lm { mask } else { 4294967295 }
@@ -39,35 +48,17 @@ pub fn put_masks(q: &mut [u8], search: usize, lm: bool, masks: u64)
     requires search_bound { search < 4294967296 }
     ensures { q.new ≡ paste_w q.old 66 (mask_words search lm (masks % 4294967296) (masks / 4294967296)) }
 {
-    let mask = (masks % 4294967296) as usize;
-    let vector = (masks / 4294967296) as usize;
-    put_six(
-        q,
-        query::SEARCH,
-        search,
-        0,
-        mask,
-        vector,
-        node_mask(lm, mask),
-        0,
-    );
+    let for_nodes = node_mask(lm, masks % 4294967296);
+    put_pairs(q, query::SEARCH, search as u64, masks, for_nodes);
 }
 
 // Writes the range of labels.
-pub fn put_range(q: &mut [u8], from: u64, to: u64, floor: u64)
+pub fn put_range(q: &mut [u8], labels: Range<u64>, floor: u64)
     requires { 368 ≤ length q.old }
-    ensures { q.new ≡ paste_w q.old 72 (range_words from to floor) }
+    ensures q_after { q.new ≡ paste_w q.old 72 (range_words labels.start labels.end floor) }
+    ensures whole { (labels.start < 2 ^ 64) × ((labels.end < 2 ^ 64) × (floor < 2 ^ 64)) }
 {
-    put_six(
-        q,
-        query::FROM,
-        (from % 4294967296) as usize,
-        (from / 4294967296) as usize,
-        (to % 4294967296) as usize,
-        (to / 4294967296) as usize,
-        (floor % 4294967296) as usize,
-        (floor / 4294967296) as usize,
-    );
+    put_pairs(q, query::FROM, labels.start, labels.end, floor);
 }
 
 // Where the lm or the signature monomial of entry 0 stands.
@@ -91,50 +82,29 @@ pub fn put_slot(q: &mut [u8], s: Shape, lm: bool)
     ensures { q.new ≡ paste_w q.old 78 (slot_words s lm) }
 {
     let slot = slot_of(s, lm);
-    words::put(q, query::SLOT, slot as u32);
-    words::put(
-        q,
-        query::MASK_AT,
-        (slot + (s.variables + fields::MASK)) as u32,
-    );
+    put_all(q, query::SLOT, &[slot, slot + (s.variables + fields::MASK)]);
 }
 
-// Writes where the tables of the shape stand.
-fn lay_places(q: &mut [u8], s: Shape)
-    requires in_range { at.InRange s }
-    requires in_bounds { 368 ≤ length q.old }
-    ensures { q.new ≡ paste_w q.old 80 (place_words s) }
-{
-    let m = s.variables;
-    let entry = s.entry_at(0);
-    put_six(
-        q,
-        query::NODE,
-        s.node_at(0),
-        m + fields::NODE,
-        s.permutation_at(),
-        s.entry_width(),
-        entry + (2 * m + fields::ROW),
-        m + fields::LABEL_ROW,
-    );
-}
-
-// Writes the words of a query that follow from the shape.
+// Writes the words of a query that follow from the shape, in the order of their places: where its tables stand, and its numbers.
 pub fn lay(q: &mut [u8], s: Shape)
     requires in_range { at.InRange s }
     requires in_bounds { 368 ≤ length q.old }
     ensures { q.new ≡ paste_w q.old 80 (place_words s ++ shape_words s) }
 {
-    lay_places(q, s);
-    let label = s.labels_at() + (fields::LABELS + (s.variables + fields::LABEL));
-    put_six(
-        q,
-        query::LABEL,
-        label,
+    let m = s.variables;
+    let numbers = [
+        s.node_at(0),
+        m + fields::NODE,
+        s.permutation_at(),
+        s.entry_width(),
+        s.entry_at(0) + (2 * m + fields::ROW),
+        m + fields::LABEL_ROW,
+        s.labels_at() + (fields::LABELS + (m + fields::LABEL)),
         s.kind,
-        s.variables,
+        m,
         s.capacity,
         s.entries,
         s.nodes,
-    );
+    ];
+    put_all(q, query::NODE, &numbers);
 }

@@ -14,13 +14,13 @@ made : (c : After-fraction_division-n) → MadeAside c.fraction_division-n.new.o
     c.fraction_division-n.result
 made c =
     let f = c.fraction_division-n in
-    ratio-made c.args.s.variables c.requires.head_ok.range.vars-to (words c.args.m.now) (words c.args.lm.now) c.requires.canonical c.requires.canonical_2
-    _ f.new.out f.result (omega (arith, c.requires.head_ok.range.vars-to)) f.ensures.value f.ensures.out_after
+    ratio-made c.args.image.now.shape.variables c.args.image.now.head.range.vars-to (words c.args.m.now) (words c.args.lm.now) c.requires.canonical c.requires.canonical_2
+    _ f.new.out f.result (omega (arith, c.args.image.now.head.range.vars-to)) f.ensures.value f.ensures.out_after
 
 pub fraction_division-n-requires : goal.fraction_division-n-requires
 fraction_division-n-requires c =
-    let few = c.requires.head_ok.range.vars-to in
-    let f = ratio-fits c.args.s.variables few (words c.args.m.now) (words c.args.lm.now) c.requires.canonical c.requires.canonical_2 in record { starts = f.0; starts_2 = f.1.0; b_in_bounds = omega (arith, f.1.1, few) }
+    let few = c.args.image.now.head.range.vars-to in
+    let f = ratio-fits c.args.image.now.shape.variables few (words c.args.m.now) (words c.args.lm.now) c.requires.canonical c.requires.canonical_2 in record { starts = f.0; starts_2 = f.1.0; b_in_bounds = omega (arith, f.1.1, few) }
 
 pub overflow_mul-e : goal.overflow_mul-e
 overflow_mul-e c = omega (arith, (made (goal.at.overflow_mul-e c).After-fraction_division-n).room, c.fraction_division-n.auto.out)
@@ -34,9 +34,9 @@ slice_bounds-ends_of-end c = sym (made (goal.at.slice_bounds-ends_of-end c).Afte
 pub ends_of-requires : goal.ends_of-requires
 ends_of-requires c =
     let a = words c.args.m.now in
-    let l = words c.args.lm.now in record { sound = c.requires.sound; head_ok = c.requires.head_ok; kind_value = c.requires.kind_value; canonical = ratio-canonical c.args.s.variables c.requires.head_ok.range.vars-to a l c.requires.canonical c.requires.canonical_2 _ (made (goal.at.ends_of-requires c).After-fraction_division-n).are }
+    let l = words c.args.lm.now in record { kind_value = c.requires.kind_value; canonical = ratio-canonical c.args.image.now.shape.variables c.args.image.now.head.range.vars-to a l c.requires.canonical c.requires.canonical_2 _ (made (goal.at.ends_of-requires c).After-fraction_division-n).are }
 
 pub returns : goal.returns
 returns c =
-    quotient-ends c.args.image.now c.args.index (words c.args.m.now) (words c.args.lm.now) _ c.ends_of.result.above c.ends_of.result.below (made (goal.at.returns c).After-fraction_division-n).are
+    quotient-ends c.args.image.now.bytes.now c.args.index (words c.args.m.now) (words c.args.lm.now) _ c.ends_of.result.above c.ends_of.result.below (made (goal.at.returns c).After-fraction_division-n).are
     c.ends_of.ensures
