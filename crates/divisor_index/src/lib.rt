@@ -9,50 +9,56 @@ ghost use Rattle.divisor_index.specs.Doors.{opening_good, length_of, length_numb
 use index_image::Shape;
 use refusals::Refusal;
 
-// Question 1. The kind is a number here and below, since C gives it as one, and any can be given.
-#[tactic(auto, unfolding(crate::specs::Doors::opening_good))]
-fn opening_good(kind: u32, variables: u32, capacity: u32, maxima: &[u8]) -> bool
-    ensures { result ≡ opening_good kind variables capacity maxima.now }
-{
-    kind <= 1
-        && monomial::sizes::sizes_fit(variables as usize, capacity as usize)
-        && divmask::tracker::maxima_good(maxima, variables)
+// What an opening is asked by, as C lends it. The kind is a number, since any can be given.
+#[derive(Clone, Copy)]
+pub struct Opening<'a> {
+    pub kind: u32,
+    pub variables: u32,
+    pub capacity: u32,
+    pub maxima: &'a [u8],
 }
 
-// The length in bytes of the image of an index.
-pub fn length(kind: u32, variables: u32, capacity: u32, maxima: &[u8]) -> Result<usize, Refusal>
-    ensures { result ≡ length_of kind variables capacity maxima.now }
-{
-    if !opening_good(kind, variables, capacity, maxima) {
-        return Err(Refusal::Sizes);
+impl Opening<'_> {
+    // Question 1.
+    #[tactic(auto, unfolding(crate::specs::Doors::opening_good))]
+    fn is_good(&self) -> bool
+        ensures { result ≡ opening_good self.now.kind self.now.variables self.now.capacity self.now.maxima.now }
+    {
+        self.kind <= 1
+            && monomial::sizes::sizes_fit(self.variables as usize, self.capacity as usize)
+            && divmask::tracker::maxima_good(self.maxima, self.variables)
     }
-    Ok(index_image::length(kind as usize, variables as usize, capacity as usize))
-}
 
-// Opens an index that holds nothing.
-pub fn open(
-    kind: u32,
-    variables: u32,
-    capacity: u32,
-    maxima: &[u8],
-    image: &mut [u8],
-) -> Result<(), Refusal>
-    ensures value { told result ≡ open_number kind variables capacity maxima.now image.old }
-    ensures image_after { image.new ≡ open_bytes kind variables capacity maxima.now image.old }
-{
-    let n = length(kind, variables, capacity, maxima)?;
-    if image.len() < n {
-        return Err(Refusal::ShortImage);
+    // The length in bytes of the image of the index.
+    pub fn length(&self) -> Result<usize, Refusal>
+        ensures { result ≡ length_of self.now.kind self.now.variables self.now.capacity self.now.maxima.now }
+    {
+        if !self.is_good() {
+            return Err(Refusal::Sizes);
+        }
+        let (variables, capacity) = (self.variables as usize, self.capacity as usize);
+        Ok(index_image::length(self.kind as usize, variables, capacity))
     }
-    let s = Shape {
-        kind: kind as usize,
-        variables: variables as usize,
-        capacity: capacity as usize,
-        entries: 0,
-        nodes: 1,
-    };
-    index_opening::open_tables(image, s, maxima);
-    Ok(())
+
+    // Opens the index, which holds nothing.
+    pub fn open(&self, image: &mut [u8]) -> Result<(), Refusal>
+        ensures value { told result ≡ open_number self.now.kind self.now.variables self.now.capacity self.now.maxima.now image.old }
+        ensures image_after { image.new ≡ open_bytes self.now.kind self.now.variables self.now.capacity self.now.maxima.now image.old }
+    {
+        let n = self.length()?;
+        if image.len() < n {
+            return Err(Refusal::ShortImage);
+        }
+        let s = Shape {
+            kind: self.kind as usize,
+            variables: self.variables as usize,
+            capacity: self.capacity as usize,
+            entries: 0,
+            nodes: 1,
+        };
+        index_opening::open_tables(image, s, self.maxima);
+        Ok(())
+    }
 }
 
 // Runs a list of calls and writes one answer word a call.
@@ -100,7 +106,13 @@ pub extern "C" fn divisor_index_length(
 ) -> u32
     ensures { result ≡ length_number kind variables capacity maxima.now }
 {
-    match length(kind, variables, capacity, maxima) {
+    let opening = Opening {
+        kind,
+        variables,
+        capacity,
+        maxima,
+    };
+    match opening.length() {
         Ok(n) => n as u32,
         Err(e) => refusals::number(e),
     }
@@ -118,7 +130,13 @@ pub extern "C" fn divisor_index_open(
     ensures value { result ≡ open_number kind variables capacity maxima.now image.old }
     ensures image_after { image.new ≡ open_bytes kind variables capacity maxima.now image.old }
 {
-    refusals::told(open(kind, variables, capacity, maxima, image))
+    let opening = Opening {
+        kind,
+        variables,
+        capacity,
+        maxima,
+    };
+    refusals::told(opening.open(image))
 }
 
 // Runs a list of calls and writes one answer word a call: 0, 3, 4 or 5.

@@ -48,7 +48,8 @@ pub fn pose(
     let s = image.shape;
     let lm = by_lm(search);
     query_writing::limits::limit(q, s, lm, m);
-    query_writing::put_masks(q, query::number(search), lm, image.image().masks_of(m));
+    let masks = image.image().div_map().map_pair(m);
+    query_writing::put_masks(q, query::number(search), lm, masks);
     query_writing::put_range(q, labels, floor);
     query_writing::put_slot(q, s, lm);
     query_writing::lay(q, s);

@@ -35,9 +35,8 @@ pub fn write_leaf(image: &mut [u8], s: Shape, at: usize, lo: usize, c: usize)
     };
     let n = ready.gcd_of(lo, c, &mut acc);
     let gcd = &acc[..4 * n];
-    let m = s.variables;
-    let mask = divmask::map(ready.image().map(), m as u32, gcd);
+    let mask = ready.div_map().map(gcd);
     row_head(image, at, 0, 0, c as u32, 0, mask);
     words::runs::paste(image, at + fields::GCD, gcd);
-    words::runs::clear(image, at + fields::GCD + n, m + fields::SLOT - n);
+    words::runs::clear(image, at + fields::GCD + n, s.variables + fields::SLOT - n);
 }

@@ -3,7 +3,7 @@ use Rattle.index_image.proofs.Shapes.{empty-range}
 use Rattle.refusals.specs.Numbers.{told, number}
 use mathlib.Core.Path.{◌∙◌}
 use native.Mathlib.Omega.{arith}
-use Rattle.divisor_index.proofs.open.Goals as goal
+use Rattle.divisor_index.proofs.Opening.open.Goals as goal
 
 pub open_tables-requires : goal.open_tables-requires
 open_tables-requires c =
