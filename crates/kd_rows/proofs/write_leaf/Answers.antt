@@ -5,7 +5,6 @@ use mathlib.Core.Path.{◌≡◌, refl, sym, ap, ◌∙◌}
 use Prim.Native.Nat.{ℕ, ◌*◌}
 use lib.Seq.{length-take-le}
 use Rattle.words.specs.Words.{words}
-use Rattle.index_image.specs.Walk.{map_maxima}
 use Rattle.index_image.proofs.Gcds.{image-powers, gcd-canonical}
 use Rattle.index_image.proofs.Reading.{front-words}
 use Rattle.kd_rows.proofs.Writing.{GcdNumbers, gcd-numbers, leaf-written}
