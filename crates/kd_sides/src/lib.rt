@@ -1,48 +1,38 @@
 // The entries of a leaf of the k-d tree, parted into the two sides of a branch, and the key of that branch.
 #![tactic(auto)]
 
-ghost use Rattle.std.specs.Prelude.{◌≡◌, true, false, cond, Some, IfSome, ◌++◌, ◌+◌, ◌*◌, ◌<◌, ◌≤◌, ltb, length};
+ghost use Rattle.std.specs.Prelude.{◌≡◌, Bool, ℕ, false, cond, Some, IfSome, ◌++◌, ◌+◌, ◌*◌, ◌<◌, ◌≤◌, ltb, length};
 ghost use Rattle.words.specs.Words.{words, paste_w};
 ghost use Rattle.index_image.specs.Shape as at;
 ghost use Rattle.index_image.specs.Walk as walk;
 ghost use Rattle.index_image.specs.Rows.{entries_from};
 ghost use Rattle.kd_theory.specs.Bag.{keep};
 ghost use Rattle.kd_dimension.specs.Choice.{key_in, least_place, mark_in};
-ghost use Rattle.kd_sides.specs.Sides.{lower_of, on_side, lesses, others};
+ghost use Rattle.kd_sides.specs.Sides.{lower_of, on_side, lesses, others, Says, Takes, Gathered};
 
 use index_image::Shape;
 use index_image::image::ReadyImage;
+use kd_dimension::Average;
 
-// Whether entry e is on the side that is wanted: the less side, if `want` is true.
-fn wanted(image: &ReadyImage<'_>, d: usize, x: u32, want: bool, e: usize) -> bool
-    requires { (d < walk.dims image.now.shape) × (e < image.now.shape.entries) }
-    ensures { result ≡ on_side (key_in (words image.now.bytes.now) image.now.shape) d x want e }
-{
-    let below = kd_dimension::key_in(image, d, e) < u64::from(x);
-    below == want
-}
-
-// Writes those of the c entries from place lo on that are on the side wanted, in their order, from word `at` of `out` on. Returns how many they are.
-fn gather(
+// Writes those of the c entries from place lo on that `on` takes, in their order, from word `at` of `out` on. Returns how many they are.
+fn gather<F: Fn(usize) -> bool>(
     image: &ReadyImage<'_>,
-    d: usize,
-    x: u32,
-    want: bool,
     lo: usize,
     c: usize,
+    on: F,
     out: &mut [u8],
     at: usize,
 ) -> usize
-    requires d_bound { (d < walk.dims image.now.shape) × (lo + c ≤ image.now.shape.entries) }
-    requires c_in_bounds { 4 * (at + length (keep (on_side (key_in (words image.now.bytes.now) image.now.shape) d x want) (entries_from (words image.now.bytes.now) image.now.shape lo c))) ≤ length out.old }
-    ensures value { result ≡ length (keep (on_side (key_in (words image.now.bytes.now) image.now.shape) d x want) (entries_from (words image.now.bytes.now) image.now.shape lo c)) }
-    ensures out_after { out.new ≡ paste_w out.old at (keep (on_side (key_in (words image.now.bytes.now) image.now.shape) d x want) (entries_from (words image.now.bytes.now) image.now.shape lo c)) }
+    requires lo_bound { lo + c ≤ image.now.shape.entries }
+    requires asked { (e : ℕ) → e < image.now.shape.entries → F.pre on e }
+    requires taken { Takes (F.post on) image.now.shape.entries (entries_from (words image.now.bytes.now) image.now.shape lo c) at (length out.old) }
+    ensures { (p : ℕ → Bool) → Says (F.post on) image.now.shape.entries p → Gathered p (entries_from (words image.now.bytes.now) image.now.shape lo c) at out.old out.new result }
 {
     let p = image.shape.permutation_at() + lo;
     let mut n = 0;
     for i in 0..c {
         let e = words::get(image.bytes, p + i);
-        if wanted(image, d, x, want, e as usize) {
+        if on(e as usize) {
             words::put(out, at + n, e);
             n += 1;
         }
@@ -51,11 +41,11 @@ fn gather(
 }
 
 // Puts those of the c entries from place lo on that are on the less side first, each side in its order. Returns how many they are.
-pub fn part_entries(image: &mut [u8], s: Shape, d: usize, x: u32, lo: usize, c: usize) -> usize
+pub fn part_entries(image: &mut [u8], s: Shape, average: Average, lo: usize, c: usize) -> usize
     requires ready { walk.Ready (words image.old) s }
-    requires d_bound { (d < walk.dims s) × (lo + c ≤ s.entries) }
-    ensures value { result ≡ length (lesses (words image.old) s d x lo c) }
-    ensures image_after { image.new ≡ paste_w image.old (at.permutation_at s + lo) (lesses (words image.old) s d x lo c ++ others (words image.old) s d x lo c) }
+    requires d_bound { (average.dim < walk.dims s) × (lo + c ≤ s.entries) }
+    ensures value { result ≡ length (lesses (words image.old) s average.dim average.value lo c) }
+    ensures image_after { image.new ≡ paste_w image.old (at.permutation_at s + lo) (lesses (words image.old) s average.dim average.value lo c ++ others (words image.old) s average.dim average.value lo c) }
 {
     // No heap: room for the entries of the largest index, 4,096 words.
     let mut scratch = [0u8; 16384];
@@ -63,10 +53,10 @@ pub fn part_entries(image: &mut [u8], s: Shape, d: usize, x: u32, lo: usize, c: 
         bytes: image,
         shape: s,
     };
-    let n = gather(&ready, d, x, true, lo, c, &mut scratch, 0);
-    let m = gather(&ready, d, x, false, lo, c, &mut scratch, n);
-    let e = 4 * (n + m);
-    words::runs::paste(image, s.permutation_at() + lo, &scratch[..e]);
+    let less = |e| kd_dimension::key_in(&ready, average.dim, e) < u64::from(average.value);
+    let n = gather(&ready, lo, c, less, &mut scratch, 0);
+    let m = gather(&ready, lo, c, |e| !less(e), &mut scratch, n);
+    words::runs::paste(image, s.permutation_at() + lo, &scratch[..4 * (n + m)]);
     n
 }
 
@@ -102,15 +92,15 @@ fn first_least(image: &ReadyImage<'_>, x: u32, lo: usize, c: usize) -> Option<us
     best
 }
 
-// The key of a branch that parts the c entries from place lo on in dimension d at x.
-pub fn mark(image: &ReadyImage<'_>, d: usize, x: u32, lo: usize, c: usize) -> u32
+// The key of a branch that parts the c entries from place lo on at an average.
+pub fn mark(image: &ReadyImage<'_>, average: Average, lo: usize, c: usize) -> u32
     requires { lo + c ≤ image.now.shape.entries }
-    ensures { result ≡ mark_in (words image.now.bytes.now) image.now.shape d x (others (words image.now.bytes.now) image.now.shape d x lo c) }
+    ensures { result ≡ mark_in (words image.now.bytes.now) image.now.shape average.dim average.value (others (words image.now.bytes.now) image.now.shape average.dim average.value lo c) }
 {
-    if image.shape.kind == 0 || d != 0 {
-        return x;
+    if image.shape.kind == 0 || average.dim != 0 {
+        return average.value;
     }
-    match first_least(image, x, lo, c) {
+    match first_least(image, average.value, lo, c) {
         Some(e) => e as u32,
         None => 0,
     }
