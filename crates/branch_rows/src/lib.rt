@@ -17,7 +17,7 @@ use std::ops::Range;
 
 // The bounds of a branch's sides: on the less side variable `variable` is below `power` and labels are among `less`,
 // on the other side labels are among `other`.
-#[derive(Drop)]
+#[derive(Clone, Drop)]
 pub struct Limits {
     pub variable: usize,
     pub power: u32,

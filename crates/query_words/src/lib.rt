@@ -75,6 +75,45 @@ pub const ENTRIES: usize = 90;
 
 pub const NODES: usize = 91;
 
+// Word i of some words, as a number to count with.
+pub fn num(q: &[u8], i: usize) -> usize
+    requires { 4 * i + 4 ≤ length q.now }
+    ensures { (result ≡ get_or (words q.now) i 0) × (result < 4294967296) }
+{
+    words::get(q, i) as usize
+}
+
+// What the words of a query search for.
+#[tactic(auto, unfolding(crate::specs::Asked::search_number))]
+pub fn search_in(q: &[u8]) -> Search
+    requires in_bounds { 368 ≤ length q.now }
+    requires q_bound { search_in (words q.now) ≤ 4 }
+    ensures { search_in (words q.now) ≡ search_number result }
+{
+    match num(q, SEARCH) {
+        0 => Search::Contained,
+        1 => Search::Reducer,
+        2 => Search::High,
+        3 => Search::Low,
+        _ => Search::Singular,
+    }
+}
+
+// The shape of the image that is asked.
+#[tactic(auto, unfolding(crate::specs::Asked::shape_in))]
+pub fn shape(q: &[u8]) -> Shape
+    requires { 368 ≤ length q.now }
+    ensures { result ≡ shape_in (words q.now) }
+{
+    Shape {
+        kind: num(q, KIND),
+        variables: num(q, VARIABLES),
+        capacity: num(q, CAPACITY),
+        entries: num(q, ENTRIES),
+        nodes: num(q, NODES),
+    }
+}
+
 // The words of a query, and of them the shape of the image that is asked and where its tables stand.
 #[derive(Clone, Copy)]
 pub struct Query<'a> {
@@ -96,7 +135,7 @@ impl Query<'_> {
         requires { i < 92 }
         ensures { (result ≡ get_or (words self.entry.bytes.now) i 0) × (result < 4294967296) }
     {
-        self.word(i) as usize
+        num(self.bytes, i)
     }
 
     // Words i and i + 1, as one number.
@@ -108,32 +147,18 @@ impl Query<'_> {
     }
 
     // What is searched for.
-    #[tactic(auto, unfolding(crate::specs::Asked::search_number))]
     pub fn search(self) -> Search
         requires { search_in (words self.bytes.now) ≤ 4 }
         ensures { search_in (words self.entry.bytes.now) ≡ search_number result }
     {
-        match self.num(SEARCH) {
-            0 => Search::Contained,
-            1 => Search::Reducer,
-            2 => Search::High,
-            3 => Search::Low,
-            _ => Search::Singular,
-        }
+        search_in(self.bytes)
     }
 
     // The shape of the image that is asked.
-    #[tactic(auto, unfolding(crate::specs::Asked::shape_in))]
     pub fn shape(self) -> Shape
         ensures { result ≡ shape_in (words self.entry.bytes.now) }
     {
-        Shape {
-            kind: self.num(KIND),
-            variables: self.num(VARIABLES),
-            capacity: self.num(CAPACITY),
-            entries: self.num(ENTRIES),
-            nodes: self.num(NODES),
-        }
+        shape(self.bytes)
     }
 
     // The word at which row k stands.
