@@ -80,6 +80,5 @@ pub fn label_entry(image: &mut [u8], s: Shape, index: u32, sign: &[u8], lm: &[u8
 {
     let mut made = [0u8; 260];
     let n = monomial::fraction_division(sign, lm, &mut made);
-    let e = 4 * n;
-    label_ratio(image, s, index, &made[..e])
+    label_ratio(image, s, index, &made[..4 * n])
 }
