@@ -315,13 +315,12 @@ module _ (bs : List ℕ) (B : Bytes bs) (st : State) (I : Is st bs) (i : ℕ) (s
         rw (entry_old es (numbered n e) x h, row_here)
         (label-of l' settles.valid (ratio_of (entry_at es x)) o.0 z.0 (z.1 ∙ o.2) ∙ sym (label-at im2 s b.mapped.range room2 C.one l' maps2 o.0 z.0))
 
-  pub ratio-hangs : Hangs (words im2) (shape_of st) lm lab
+  abbrev ratio-hangs : Hangs (words im2) (shape_of st) lm lab
   ratio-hangs = hangs bs st I e good ofk few im2 made map2 nodes2 perm2 long2 lab lab2 (λ z. labels2) (λ z. rows2)
 
   pub ratio-finish : (d : List ℕ) → ((h : Hangs (words im2) (shape_of st) lm lab) → d ≡ hung im2 (shape_of st) lm lab h.growth) → d ≡ paste_w bs 0 (encode (inserted st (signed i sign lm)))
   ratio-finish d f =
-      finish bs st I e good ofk few im2 made map2 nodes2 perm2 long2 lab lab2 (λ z. labels2) (λ z. rows2) d
-      (f (hangs bs st I e good ofk few im2 made map2 nodes2 perm2 long2 lab lab2 (λ z. labels2) (λ z. rows2)))
+      finish bs st I e good ofk few im2 made map2 nodes2 perm2 long2 lab lab2 (λ z. labels2) (λ z. rows2) d (f ratio-hangs)
 
 -- ---- the same for the shape in the header
 pub label-ready : {bs : List ℕ} {s : Shape} → Room bs s → s.kind ≡ 1 → labels.SoundFor s.variables s.capacity (label_bytes bs s)
