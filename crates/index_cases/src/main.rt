@@ -3,9 +3,8 @@
 #![tactic(auto)]
 
 ghost use Rattle.std.specs.Prelude.{◌≤◌, ◌<◌};
-ghost use Rattle.index_image.specs.Shape as at;
 
-use index_image::{Shape, fields};
+use index_image::image::Image;
 use std::alloc::{AllocError, Global};
 use std::io;
 
@@ -220,20 +219,19 @@ impl Values {
     }
 }
 
-// The word of the label in row r of the label map.
-fn label_at(s: Shape, r: u8) -> usize
-    requires { at.InRange s }
-{
-    let m = s.variables;
-    s.labels_at()
-        + (fields::LABELS + usize::from(r) * (m + fields::LABEL_ROW) + (m + fields::LABEL))
-}
-
-fn label(image: &[u8], r: u8) -> Option<u32> {
-    match index_image::head::read(image) {
-        Some(s) => program_io::word_at(image, label_at(s, r)),
-        None => None,
+// The label in row r of the label map, where the image has one.
+#[tactic(auto, unfolding(index_image::specs::Head::HeadIs))]
+fn label(image: &[u8], r: u8) -> Option<u64> {
+    let shape = index_image::head::read(image)?;
+    let row = usize::from(r);
+    if shape.kind != 1 || shape.capacity <= row {
+        return None;
     }
+    let image = Image {
+        bytes: image,
+        shape,
+    };
+    Some(image.row_label(row))
 }
 
 fn show_values(rt: &impl Print, alloc: Global, name: &str, n: u8, values: Values) -> io::Result<()>
