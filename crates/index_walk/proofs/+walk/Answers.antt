@@ -36,8 +36,13 @@ row : {t : ℕ} (c : After-get-c t) → Row c.args.image.now.ready (words c.args
 row c =
     record { places = c.requires.k_le_nodes.1; count = rw c.node_at-at.ensures at c.get-c.ensures }
 
-tagged : {t : ℕ} (c : After-get t) → Row c.args.image.now.ready (words c.args.hi.now) c.args.labels.start c.args.labels.end c.args.k c.args.lo c.args.avail c.get-c.result → Tagged c.args.image.now.ready (words c.args.hi.now) c.args.labels.start c.args.labels.end c.args.k c.args.lo c.args.avail c.get-c.result c.get.result
-tagged c r = record { row = r; used = omega (arith, c.if-image-k.false); fits = omega (arith, c.if-avail-c.false); tag_is = rw c.node_at-at.ensures at c.get.ensures }
+tagged : {t : ℕ} (c : After-get t) → Tagged c.args.image.now.ready (words c.args.hi.now) c.args.labels.start c.args.labels.end c.args.k c.args.lo c.args.avail c.get-c.result c.get.result
+tagged c = record {
+  row = record { places = c.requires.k_le_nodes.1; count = rw c.node_at-at.ensures at c.get-c.ensures };
+  used = omega (arith, c.if-image-k.false);
+  fits = omega (arith, c.if-avail-c.false);
+  tag_is = rw c.node_at-at.ensures at c.get.ensures;
+}
 
 keyed : {t : ℕ} (c : Else-not-key_ok t) → KeyIn (words c.args.image.now.bytes.now) c.args.image.now.shape c.node_at-at.result
 keyed c = passed c.key_ok.result c.key_ok.ensures c.if-not-key_ok.false
@@ -86,13 +91,13 @@ one : {t : ℕ} (c : In_ok-t t) (l : Less c.args.image.now.ready (words c.args.h
 one c l = one-is c.args.image.now.ready l c.in_ok-t.was
 
 -- the count that is read again is the same
-count_same : {t : ℕ} (c : After-count_at-all t) → Row c.args.image.now.ready (words c.args.hi.now) c.args.labels.start c.args.labels.end c.args.k c.args.lo c.args.avail c.get-c.result → c.count_at-all.result ≡ c.get-c.result
-count_same c r = c.count_at-all.ensures ∙ sym r.count
+count_same : {t : ℕ} (c : After-count_at-all t) → c.count_at-all.result ≡ c.get-c.result
+count_same c = c.count_at-all.ensures ∙ sym (rw c.node_at-at.ensures at c.get-c.ensures)
 
 -- the other side was walked
-other : {t : ℕ} (c : After-walk t) → c.put.new.s ≡ c.args.hi.now → c.count_at-all.result ≡ c.get-c.result
+other : {t : ℕ} (c : After-walk t) → c.put.new.s ≡ c.args.hi.now
     → Walked (words c.args.image.now.bytes.now) c.args.image.now.shape (words c.args.hi.now) c.sides-b.result.other.start c.sides-b.result.other.end (c.args.k + 1 + c.in_ok-t.t) (c.args.lo + c.count_behind-ca.result) (c.get-c.result - c.count_behind-ca.result) c.walk.result
-other c k n = rw k at (rw n at c.walk.ensures.walked)
+other c k = rw k at (rw (c.count_at-all.ensures ∙ sym (rw c.node_at-at.ensures at c.get-c.ensures)) at c.walk.ensures.walked)
 
 two : {t : ℕ} (c : In_ok-w t) (l : Less c.args.image.now.ready (words c.args.hi.now) c.args.labels.start c.args.labels.end c.args.k c.args.lo c.args.avail c.get-c.result c.get.result c.sides-b.result c.walk-less.result)
     (o : Walked (words c.args.image.now.bytes.now) c.args.image.now.shape (words c.args.hi.now) c.sides-b.result.other.start c.sides-b.result.other.end (c.args.k + 1 + c.in_ok-t.t) (c.args.lo + c.count_behind-ca.result) (c.get-c.result - c.count_behind-ca.result) c.walk.result)
@@ -117,12 +122,12 @@ leaf_ok-requires t c = record { uppers = c.requires.uppers; variables_in_bounds 
 pub returns-then-leaf_ok : goal.returns-then-leaf_ok
 returns-then-leaf_ok t c =
     let Node-at = c.node_at-at in
-    let ok = rw Node-at.ensures at (c.leaf_ok.ensures.0 c.if-leaf_ok.true) in record { walked = a-leaf c.args.image.now.ready (tagged (goal.at.returns-then-leaf_ok t c).After-get (row (goal.at.returns-then-leaf_ok t c).After-get-c)) c.if-get-eq0.true ok; hi_unchanged = refl }
+    let ok = rw Node-at.ensures at (c.leaf_ok.ensures.0 c.if-leaf_ok.true) in record { walked = a-leaf c.args.image.now.ready (tagged (goal.at.returns-then-leaf_ok t c).After-get) c.if-get-eq0.true ok; hi_unchanged = refl }
 
 pub returns-then-get-eq0 : goal.returns-then-get-eq0
 returns-then-get-eq0 t c =
     let Node-at = c.node_at-at in record {
-      walked = no-leaf c.args.image.now.ready (tagged (goal.at.returns-then-get-eq0 t c).After-get (row (goal.at.returns-then-get-eq0 t c).After-get-c)) c.if-get-eq0.true
+      walked = no-leaf c.args.image.now.ready (tagged (goal.at.returns-then-get-eq0 t c).After-get) c.if-get-eq0.true
           (λ o. never (sym c.if-leaf_ok.false ∙ c.leaf_ok.ensures.1 (rw Node-at.ensures o)));
       hi_unchanged = refl;
     }
@@ -134,7 +139,7 @@ pub returns-then-not-key_ok : goal.returns-then-not-key_ok
 returns-then-not-key_ok t c =
     let Node-at = c.node_at-at in
     let key-ok = c.key_ok in record {
-      walked = no_key c.args.image.now.ready (tagged (goal.at.returns-then-not-key_ok t c).After-get (row (goal.at.returns-then-not-key_ok t c).After-get-c)) c.if-get-eq0.false
+      walked = no_key c.args.image.now.ready (tagged (goal.at.returns-then-not-key_ok t c).After-get) c.if-get-eq0.false
           (λ o. failed key-ok.result key-ok.ensures c.if-not-key_ok.true (rw Node-at.ensures o));
       hi_unchanged = refl;
     }
@@ -184,7 +189,7 @@ overflow_add-lo t c =
 pub overflow_sub-all : goal.overflow_sub-all
 overflow_sub-all t c = omega (
   arith,
-  count_same (goal.at.overflow_sub-all t c).After-count_at-all (row (goal.at.overflow_sub-all t c).After-get-c),
+  count_same (goal.at.overflow_sub-all t c).After-count_at-all,
   (one (goal.at.overflow_sub-all t c).In_ok-t
       (less (goal.at.overflow_sub-all t c).After-walk-less)).few,
   c.count_behind-ca.ensures,
@@ -196,8 +201,8 @@ walk-requires t c =
     let if2 = c.if-avail-c in
     let count-behind = c.count_behind-ca in
     let if7 = c.if-ca-eq0 in (
-      omega (arith, count_same (goal.at.walk-requires t c).After-count_at-all (row (goal.at.walk-requires t c).After-get-c), c.decreases, if2.false, (keyed (goal.at.walk-requires t c).Else-not-key_ok).two, c.get-c.ensures, if7.false),
-      (rw (kept (goal.at.walk-requires t c).After-put (λ i. search rules)) c.requires.uppers, (Numbers-of.inside, omega (arith, count_same (goal.at.walk-requires t c).After-count_at-all (row (goal.at.walk-requires t c).After-get-c), Numbers-of.few, count-behind.ensures, c.requires.k_le_nodes.1, if2.false))),
+      omega (arith, count_same (goal.at.walk-requires t c).After-count_at-all, c.decreases, if2.false, (keyed (goal.at.walk-requires t c).Else-not-key_ok).two, c.get-c.ensures, if7.false),
+      (rw (kept (goal.at.walk-requires t c).After-put (λ i. search rules)) c.requires.uppers, (Numbers-of.inside, omega (arith, count_same (goal.at.walk-requires t c).After-count_at-all, Numbers-of.few, count-behind.ensures, c.requires.k_le_nodes.1, if2.false))),
     )
 
 pub returns-in_err-w : goal.returns-in_err-w
@@ -205,7 +210,7 @@ returns-in_err-w t c =
     let found = less (goal.at.returns-in_err-w t c).After-walk-less in
     let count-behind = c.count_behind-ca in record {
       walked = rw c.from_residual-in_err-w.ensures (no_second c.args.image.now.ready found c.in_ok-t.was count-behind.ensures
-          (other (goal.at.returns-in_err-w t c).After-walk (kept (goal.at.returns-in_err-w t c).After-put (λ i. search rules)) (count_same (goal.at.returns-in_err-w t c).After-count_at-all (row (goal.at.returns-in_err-w t c).After-get-c))) c.in_err-w.was);
+          (other (goal.at.returns-in_err-w t c).After-walk (kept (goal.at.returns-in_err-w t c).After-put (λ i. search rules))) c.in_err-w.was);
       hi_unchanged = c.walk.ensures.hi_unchanged ∙ kept (goal.at.returns-in_err-w t c).After-put (λ i. search rules);
     }
 
@@ -214,7 +219,7 @@ over_ok-requires t c =
     let Node-at = c.node_at-at in
     let both = two (goal.at.over_ok-requires t c).In_ok-w
     (less (goal.at.over_ok-requires t c).After-walk-less)
-    (other (goal.at.over_ok-requires t c).After-walk (kept (goal.at.over_ok-requires t c).After-put (λ i. search rules)) (count_same (goal.at.over_ok-requires t c).After-count_at-all (row (goal.at.over_ok-requires t c).After-get-c))) in record { t_bound = omega (arith, both.inside, both.some); key_in = rw Node-at.ensures at (keyed (goal.at.over_ok-requires t c).Else-not-key_ok); slots = both.slots }
+    (other (goal.at.over_ok-requires t c).After-walk (kept (goal.at.over_ok-requires t c).After-put (λ i. search rules))) in record { t_bound = omega (arith, both.inside, both.some); key_in = rw Node-at.ensures at (keyed (goal.at.over_ok-requires t c).Else-not-key_ok); slots = both.slots }
 
 pub overflow_add-result-then-over_ok : goal.overflow_add-result-then-over_ok
 overflow_add-result-then-over_ok t c =
@@ -222,7 +227,7 @@ overflow_add-result-then-over_ok t c =
       arith,
       (two (goal.at.overflow_add-result-then-over_ok t c).In_ok-w
           (less (goal.at.overflow_add-result-then-over_ok t c).After-walk-less)
-          (other (goal.at.overflow_add-result-then-over_ok t c).After-walk (kept (goal.at.overflow_add-result-then-over_ok t c).After-put (λ i. search rules)) (count_same (goal.at.overflow_add-result-then-over_ok t c).After-count_at-all (row (goal.at.overflow_add-result-then-over_ok t c).After-get-c)))).inside,
+          (other (goal.at.overflow_add-result-then-over_ok t c).After-walk (kept (goal.at.overflow_add-result-then-over_ok t c).After-put (λ i. search rules)))).inside,
       numbers (goal.at.overflow_add-result-then-over_ok t c).Start,
     )
 
@@ -232,7 +237,7 @@ returns-then-over_ok t c =
     let count-behind = c.count_behind-ca in
     record {
       walked = a-branch c.args.image.now.ready found c.in_ok-t.was count-behind.ensures
-          (other (goal.at.returns-then-over_ok t c).After-walk (kept (goal.at.returns-then-over_ok t c).After-put (λ i. search rules)) (count_same (goal.at.returns-then-over_ok t c).After-count_at-all (row (goal.at.returns-then-over_ok t c).After-get-c))) c.in_ok-w.was
+          (other (goal.at.returns-then-over_ok t c).After-walk (kept (goal.at.returns-then-over_ok t c).After-put (λ i. search rules))) c.in_ok-w.was
           (c.over_ok.ensures.0 c.if-over_ok.true);
       hi_unchanged = c.walk.ensures.hi_unchanged ∙ kept (goal.at.returns-then-over_ok t c).After-put (λ i. search rules);
     }
@@ -241,7 +246,7 @@ pub returns : goal.returns
 returns t c =
     let found = less (goal.at.returns t c).After-walk-less in
     let count-behind = c.count_behind-ca in record {
-      walked = no-branch c.args.image.now.ready found c.in_ok-t.was count-behind.ensures (other (goal.at.returns t c).After-walk (kept (goal.at.returns t c).After-put (λ i. search rules)) (count_same (goal.at.returns t c).After-count_at-all (row (goal.at.returns t c).After-get-c)))
+      walked = no-branch c.args.image.now.ready found c.in_ok-t.was count-behind.ensures (other (goal.at.returns t c).After-walk (kept (goal.at.returns t c).After-put (λ i. search rules)))
           (λ o. never (sym c.if-over_ok.false ∙ c.over_ok.ensures.1 o));
       hi_unchanged = c.walk.ensures.hi_unchanged ∙ kept (goal.at.returns t c).After-put (λ i. search rules);
     }
