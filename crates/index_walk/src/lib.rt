@@ -65,6 +65,7 @@ fn exchange(hi: &mut [u8], i: usize, x: u32) -> u32
 // with powers below `hi` and labels among `labels`; none where there is no such tree.
 // Each side is allowed fewer entries than its branch. That is what its proof of termination counts, so no call is deeper than the entries.
 // Its tests are guards with an early return each: what the next one reads is there only behind the last.
+#[tactic(auto, using(crate::proofs::Rooms::node_lent))]
 pub fn walk(
     image: &ReadyImage<'_>,
     hi: &mut [u8],

@@ -3,17 +3,14 @@ use native.Mathlib.Omega.{arith}
 use Rattle.words.proofs.Answers.{failed, passed}
 use Rattle.index_walk.proofs.Walks.{Row, Tagged, Less, One, Two, no_row, too_many, no-leaf, a-leaf, no_key, no-first, one-is, no_less, no_second, no-branch, two_is, a-branch}
 use mathlib.Core.Path.{◌≡◌, refl, sym, ◌∙◌}
-use lib.ListN.{length}
 use Rattle.words.specs.Words.{words}
 use Rattle.words.proofs.Laws.{Bytes}
 use Rattle.words.proofs.Tables.{never}
-use Rattle.index_image.specs.Shape as at
 use Rattle.index_walk.specs.Walked.{Walked}
 use Rattle.leaf_rows.specs.Leaves.{Uppers}
 use Rattle.branch_rows.specs.Branches.{KeyIn}
-use Rattle.index_image.proofs.Places.{node-room}
 use Rattle.index_walk.proofs.Uppers.{words-put, uppers-put, put_back}
-use Prim.Native.Nat.{ℕ, ◌+◌, ◌-◌, ◌*◌, ◌≤◌}
+use Prim.Native.Nat.{ℕ, ◌+◌, ◌-◌, ◌≤◌}
 use Rattle.index_walk.proofs.+walk.Goals.{After-count_at-all, After-exchange-old, After-get, After-get-c, After-node_at-at, After-put, After-walk-less, After-walk, Else-not-key_ok, In_ok-t, In_ok-w, Start}
 use Rattle.index_walk.proofs.+walk.Goals as goal
 
@@ -23,12 +20,6 @@ numbers : {t : ℕ} (a : Start t) → (a.args.image.now.shape.nodes ≤ 8191) ×
 numbers a =
     let r = a.args.image.now.ready.range in
     (omega (arith, r.nodes-to, r.cap-to), omega (arith, r.few, r.cap-to))
-
--- the row lies within the image
-room : {t : ℕ} (c : After-node_at-at t) → 4 * (c.node_at-at.result + at.node_width c.args.image.now.shape.variables) ≤ length c.args.image.now.bytes.now
-room c =
-    let fits = node-room c.args.image.now.bytes.now c.args.image.now.shape c.args.image.now.ready c.args.k (omega (arith, c.if-image-k.false)) in
-    omega (arith, fits, c.node_at-at.ensures)
 
 -- its number of entries, its tag and its key
 row : {t : ℕ} (c : After-get-c t) → Row c.args.image.now.ready (words c.args.hi.now) c.args.labels.start c.args.labels.end c.args.k c.args.lo
@@ -107,17 +98,8 @@ two c l o = two_is c.args.image.now.ready l c.in_ok-t.was c.count_behind-ca.ensu
 pub returns-then-image-k : goal.returns-then-image-k
 returns-then-image-k t c = record { walked = no_row c.args.image.now.ready c.if-image-k.true; hi_unchanged = refl }
 
-pub get-c-requires : goal.get-c-requires
-get-c-requires t c = omega (arith, room (goal.at.get-c-requires t c).After-node_at-at)
-
-pub get-requires : goal.get-requires
-get-requires t c = omega (arith, room (goal.at.get-requires t c).After-node_at-at)
-
 pub returns-then-avail-c : goal.returns-then-avail-c
 returns-then-avail-c t c = record { walked = too_many c.args.image.now.ready (row (goal.at.returns-then-avail-c t c).After-get-c) c.if-avail-c.true; hi_unchanged = refl }
-
-pub leaf_ok-requires : goal.leaf_ok-requires
-leaf_ok-requires t c = record { uppers = c.requires.uppers; variables_in_bounds = room (goal.at.leaf_ok-requires t c).After-node_at-at; c_bound = omega (arith, c.requires.k_le_nodes.1, c.if-avail-c.false) }
 
 pub returns-then-leaf_ok : goal.returns-then-leaf_ok
 returns-then-leaf_ok t c =
@@ -132,9 +114,6 @@ returns-then-get-eq0 t c =
       hi_unchanged = refl;
     }
 
-pub key_ok-requires : goal.key_ok-requires
-key_ok-requires t c = record { in_range = c.args.image.now.ready.range; at_in_bounds = omega (arith, room (goal.at.key_ok-requires t c).After-node_at-at) }
-
 pub returns-then-not-key_ok : goal.returns-then-not-key_ok
 returns-then-not-key_ok t c =
     let Node-at = c.node_at-at in
@@ -143,9 +122,6 @@ returns-then-not-key_ok t c =
           (λ o. failed key-ok.result key-ok.ensures c.if-not-key_ok.true (rw Node-at.ensures o));
       hi_unchanged = refl;
     }
-
-pub sides-b-requires : goal.sides-b-requires
-sides-b-requires t c = record { uppers = c.requires.uppers; at_in_bounds = omega (arith, room (goal.at.sides-b-requires t c).After-node_at-at); key_in = keyed (goal.at.sides-b-requires t c).Else-not-key_ok }
 
 pub walk-less-requires : goal.walk-less-requires
 walk-less-requires t c =
