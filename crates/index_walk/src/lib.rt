@@ -14,6 +14,7 @@ use index_image::image::ReadyImage;
 use std::ops::Range;
 
 // The number of entries that row k has.
+#[tactic(auto, using(crate::proofs::Rooms::node_lent))]
 fn count_at(image: &ReadyImage<'_>, k: usize) -> usize
     requires { k < image.now.shape.nodes }
     ensures { result ≡ get_or (words image.now.bytes.now) (shape.count_at (shape.node_at image.now.shape k)) 0 }
@@ -22,6 +23,7 @@ fn count_at(image: &ReadyImage<'_>, k: usize) -> usize
 }
 
 // The number of entries of the row behind row k, which is found from row k's own word `at`.
+#[tactic(auto, using(crate::proofs::Rooms::behind_lent))]
 fn count_behind(image: &ReadyImage<'_>, k: usize, at: usize) -> usize
     requires { (k + 1 < image.now.shape.nodes) × (at ≡ shape.node_at image.now.shape k) }
     ensures { result ≡ get_or (words image.now.bytes.now) (shape.count_at (shape.node_at image.now.shape (k + 1))) 0 }
@@ -31,6 +33,7 @@ fn count_behind(image: &ReadyImage<'_>, k: usize, at: usize) -> usize
 }
 
 // Whether row k is that of a branch over the rows k + 1 and k + 1 + t.
+#[tactic(auto, using(crate::proofs::Rooms::node_lent))]
 fn over_ok(image: &ReadyImage<'_>, k: usize, t: usize) -> bool
     requires t_bound { k + 1 + t < image.now.shape.nodes }
     requires key_in { KeyIn (words image.now.bytes.now) image.now.shape (shape.node_at image.now.shape k) }
@@ -62,6 +65,7 @@ fn exchange(hi: &mut [u8], i: usize, x: u32) -> u32
 // with powers below `hi` and labels among `labels`; none where there is no such tree.
 // Each side is allowed fewer entries than its branch. That is what its proof of termination counts, so no call is deeper than the entries.
 // Its tests are guards with an early return each: what the next one reads is there only behind the last.
+#[tactic(auto, using(crate::proofs::Rooms::node_lent))]
 pub fn walk(
     image: &ReadyImage<'_>,
     hi: &mut [u8],

@@ -17,13 +17,10 @@ use Rattle.monomial.proofs.Powers.{canonical-length}
 use Rattle.monomial.proofs.Divisions.{equal-iff}
 use Rattle.index_image.specs.declared.Shape.{Shape}
 use Rattle.index_image.specs.Layout.{slot}
-use Rattle.index_image.specs.Shape.{size, entry_at, slot_width}
+use Rattle.index_image.specs.Shape.{entry_at, slot_width}
 use Rattle.index_image.specs.Walk.{Ready}
 
--- ---- the bytes of an image that is ready for the walk
-pub room : (bs : List ℕ) (s : Shape) → Ready (words bs) s → 4 * size s ≤ length bs
-room bs s R = omega (arith, R.room, length-words bs)
-
+-- ---- an entry lies in the bytes of an image that is ready for the walk
 pub entry_lent : (bs : List ℕ) (s : Shape) (e : ℕ) → Ready (words bs) s → e < s.entries → 4 * entry_at s e ≤ length bs
 entry_lent bs s e R h = omega (arith, entry-room bs s R e h)
 

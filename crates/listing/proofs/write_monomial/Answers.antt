@@ -47,9 +47,6 @@ returns-then-is_end c =
           ∙ ap (paste_w c.args.out.now 0) (lm-part c.args.image.now.bytes.now c.args.image.now.shape c.args.image.now.ready c.args.e _ c.requires.e_lt_entries c.entry_at-at.ensures _ last);
     }
 
-pub loop-e-smaller : goal.loop-e-smaller
-loop-e-smaller c = omega (arith, c.loop-e.invariant.more)
-
 pub loop-e-preserved : goal.loop-e-preserved
 loop-e-preserved c =
     copied_more c.loop-e.invariant (room (goal.at.loop-e-preserved c).After-entry_at-at) c.get-w.ensures c.put.ensures (is-end-false _ c.is_end.ensures c.if-is_end.false)
