@@ -13,6 +13,7 @@ use index_image::{Shape, fields};
 
 // Writes a monomial's words and zeros behind them into the slot at word i.
 // `Lent` is a clause: a struct of the bytes and the variables would need one too, that the variables are those of the image.
+#[tactic(auto, using(crate::proofs::Writing::lent_bytes))]
 pub fn write_slot(image: &mut [u8], i: usize, variables: usize, monomial: &[u8])
     requires variables_bound { variables ≤ 64 }
     requires lent { Lent variables monomial.now }
