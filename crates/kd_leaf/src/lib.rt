@@ -3,8 +3,9 @@
 
 pub mod step;
 
-ghost use Rattle.std.specs.Prelude.{◌≡◌, true, ◌&&◌, ℕ, ◌+◌, ◌*◌, ◌<◌, ◌≤◌, leb, ltb, length};
+ghost use Rattle.std.specs.Prelude.{◌≡◌, true, ◌&&◌, ℕ, ◌+◌, ◌*◌, ◌<◌, ◌≤◌, leb, ltb, length, get_or};
 ghost use Rattle.words.specs.Words.{words};
+ghost use Rattle.index_image.specs.Shape as at;
 ghost use Rattle.index_image.specs.Rows.{entries_from};
 ghost use Rattle.index_image.specs.Walk as walk;
 ghost use Rattle.query_words.specs.Asked.{shape_in, search_in, from_in};
@@ -15,16 +16,27 @@ ghost use Rattle.kd_leaf.specs.Counted.{may_at, divisor_at, counted, least_above
 use query_words as query;
 use query_words::{Query, Search};
 
-// What is asked of an image: a query's words, and the monomial that is to be divided.
+// What is asked, by a query's words and the monomial that is to be divided, of the c entries of an image from place lo on.
 #[derive(Clone, Copy)]
 struct Asked<'a> {
     image: &'a [u8],
     query: Query<'a>,
     monomial: &'a [u8],
+    lo: usize,
+    c: usize,
+    ghost inside: { lo + c ≤ (shape_in (words query.bytes.now)).entries },
     ghost known: { ∥ Known image.now monomial.now (shape_in (words query.bytes.now)) (words query.bytes.now) ∥₁ },
 }
 
 impl Asked<'_> {
+    // The i-th of the entries.
+    fn entry(&self, i: usize) -> usize
+        requires { i < self.now.c }
+        ensures { (result ≡ get_or (words self.now.image.now) (at.permutation_at (shape_in (words self.now.query.bytes.now)) + (self.now.lo + i)) 0) × ((result < (shape_in (words self.now.query.bytes.now)).entries) × (result < 4096)) }
+    {
+        self.query.entry_at(self.image, self.lo + i)
+    }
+
     // Whether mask and short exponent vector of entry e leave it open that it divides.
     fn may(&self, e: usize) -> bool
         requires { e < (shape_in (words self.now.query.bytes.now)).entries }
@@ -80,14 +92,13 @@ impl Asked<'_> {
         from.max(self.query.label(self.image, found - 1) + 1)
     }
 
-    // The first of the c entries from place lo on that passes the test.
-    fn first<F: Fn(usize) -> bool>(&self, lo: usize, c: usize, test: F) -> Option<usize>
-        requires inside { lo + c ≤ (shape_in (words self.now.query.bytes.now)).entries }
-        requires callable { (e : ℕ) → e < (shape_in (words self.now.query.bytes.now)).entries → F.pre test e }
-        ensures { First (λ e passes. (e < (shape_in (words self.now.query.bytes.now)).entries) × F.post test e passes) (entries_from (words self.now.image.now) (shape_in (words self.now.query.bytes.now)) lo c) result }
+    // The first of the entries that passes the test.
+    fn first<F: Fn(usize) -> bool>(&self, test: F) -> Option<usize>
+        requires { (e : ℕ) → e < (shape_in (words self.now.query.bytes.now)).entries → F.pre test e }
+        ensures { First (λ e passes. (e < (shape_in (words self.now.query.bytes.now)).entries) × F.post test e passes) (entries_from (words self.now.image.now) (shape_in (words self.now.query.bytes.now)) self.now.lo self.now.c) result }
     {
-        for i in 0..c {
-            let e = self.query.entry_at(self.image, lo + i);
+        for i in 0..self.c {
+            let e = self.entry(i);
             if test(e) {
                 return Some(e);
             }
@@ -96,37 +107,34 @@ impl Asked<'_> {
     }
 
     // Stops at the first divisor.
-    fn contained(&self, lo: usize, c: usize, acc: u64) -> u64
-        requires inside { lo + c ≤ (shape_in (words self.now.query.bytes.now)).entries }
+    fn contained(&self, acc: u64) -> u64
         requires acc_value { (best_of acc ≤ (shape_in (words self.now.query.bytes.now)).entries) × (on_of acc ≡ true) }
         requires searched { search_in (words self.now.query.bytes.now) ≡ 0 }
-        ensures { Visited self.now.image.now self.now.monomial.now (shape_in (words self.now.query.bytes.now)) (words self.now.query.bytes.now) lo c (best_of acc) (best_of result) (on_of result) × (rows_of result ≡ rows_of acc) }
+        ensures { Visited self.now.image.now self.now.monomial.now (shape_in (words self.now.query.bytes.now)) (words self.now.query.bytes.now) self.now.lo self.now.c (best_of acc) (best_of result) (on_of result) × (rows_of result ≡ rows_of acc) }
     {
-        step::after(acc, self.first(lo, c, |e| self.is_divisor(e)))
+        step::after(acc, self.first(|e| self.is_divisor(e)))
     }
 
     // Stops at the first that counts.
-    fn singular(&self, lo: usize, c: usize, acc: u64) -> u64
-        requires inside { lo + c ≤ (shape_in (words self.now.query.bytes.now)).entries }
+    fn singular(&self, acc: u64) -> u64
         requires acc_value { (best_of acc ≤ (shape_in (words self.now.query.bytes.now)).entries) × (on_of acc ≡ true) }
         requires searched { search_in (words self.now.query.bytes.now) ≡ 4 }
-        ensures { Visited self.now.image.now self.now.monomial.now (shape_in (words self.now.query.bytes.now)) (words self.now.query.bytes.now) lo c (best_of acc) (best_of result) (on_of result) × (rows_of result ≡ rows_of acc) }
+        ensures { Visited self.now.image.now self.now.monomial.now (shape_in (words self.now.query.bytes.now)) (words self.now.query.bytes.now) self.now.lo self.now.c (best_of acc) (best_of result) (on_of result) × (rows_of result ≡ rows_of acc) }
     {
         let from = self.query.pair(query::FROM);
-        step::after(acc, self.first(lo, c, |e| self.counts(e, from)))
+        step::after(acc, self.first(|e| self.counts(e, from)))
     }
 
     // Stops at the first regular one, and keeps the last singular one.
-    fn reducer(&self, lo: usize, c: usize, acc: u64) -> u64
-        requires inside { lo + c ≤ (shape_in (words self.now.query.bytes.now)).entries }
+    fn reducer(&self, acc: u64) -> u64
         requires acc_value { (best_of acc ≤ (shape_in (words self.now.query.bytes.now)).entries) × (on_of acc ≡ true) }
         requires searched { search_in (words self.now.query.bytes.now) ≡ 1 }
-        ensures { Visited self.now.image.now self.now.monomial.now (shape_in (words self.now.query.bytes.now)) (words self.now.query.bytes.now) lo c (best_of acc) (best_of result) (on_of result) × (rows_of result ≡ rows_of acc) }
+        ensures { Visited self.now.image.now self.now.monomial.now (shape_in (words self.now.query.bytes.now)) (words self.now.query.bytes.now) self.now.lo self.now.c (best_of acc) (best_of result) (on_of result) × (rows_of result ≡ rows_of acc) }
     {
         let from = self.query.pair(query::FROM);
         let mut found = step::best(acc);
-        for i in 0..c {
-            let e = self.query.entry_at(self.image, lo + i);
+        for i in 0..self.c {
+            let e = self.entry(i);
             if self.counts(e, from) {
                 if self.query.label(self.image, e) < self.query.pair(query::FLOOR) {
                     return step::stopped(acc, e + 1);
@@ -138,16 +146,15 @@ impl Asked<'_> {
     }
 
     // The first of the largest label: only an entry of a larger one than that found is divided.
-    fn largest(&self, lo: usize, c: usize, acc: u64) -> u64
-        requires inside { lo + c ≤ (shape_in (words self.now.query.bytes.now)).entries }
+    fn largest(&self, acc: u64) -> u64
         requires acc_value { (best_of acc ≤ (shape_in (words self.now.query.bytes.now)).entries) × (on_of acc ≡ true) }
         requires searched { (2 ≤ search_in (words self.now.query.bytes.now)) × (search_in (words self.now.query.bytes.now) ≤ 3) }
-        ensures { Visited self.now.image.now self.now.monomial.now (shape_in (words self.now.query.bytes.now)) (words self.now.query.bytes.now) lo c (best_of acc) (best_of result) (on_of result) × (rows_of result ≡ rows_of acc) }
+        ensures { Visited self.now.image.now self.now.monomial.now (shape_in (words self.now.query.bytes.now)) (words self.now.query.bytes.now) self.now.lo self.now.c (best_of acc) (best_of result) (on_of result) × (rows_of result ≡ rows_of acc) }
     {
         let mut found = step::best(acc);
         let mut least = self.least_above(found);
-        for i in 0..c {
-            let e = self.query.entry_at(self.image, lo + i);
+        for i in 0..self.c {
+            let e = self.entry(i);
             if self.counts(e, least) {
                 found = e + 1;
                 least = self.least_above(found);
@@ -156,17 +163,16 @@ impl Asked<'_> {
         step::going(acc, found)
     }
 
-    // Visits the c entries from place lo on.
-    fn visit(&self, lo: usize, c: usize, acc: u64) -> u64
-        requires inside { lo + c ≤ (shape_in (words self.now.query.bytes.now)).entries }
+    // Visits the entries.
+    fn visit(&self, acc: u64) -> u64
         requires acc_value { (best_of acc ≤ (shape_in (words self.now.query.bytes.now)).entries) × (on_of acc ≡ true) }
-        ensures { Visited self.now.image.now self.now.monomial.now (shape_in (words self.now.query.bytes.now)) (words self.now.query.bytes.now) lo c (best_of acc) (best_of result) (on_of result) × (rows_of result ≡ rows_of acc) }
+        ensures { Visited self.now.image.now self.now.monomial.now (shape_in (words self.now.query.bytes.now)) (words self.now.query.bytes.now) self.now.lo self.now.c (best_of acc) (best_of result) (on_of result) × (rows_of result ≡ rows_of acc) }
     {
         match self.query.search() {
-            Search::Contained => self.contained(lo, c, acc),
-            Search::Reducer => self.reducer(lo, c, acc),
-            Search::High | Search::Low => self.largest(lo, c, acc),
-            Search::Singular => self.singular(lo, c, acc),
+            Search::Contained => self.contained(acc),
+            Search::Reducer => self.reducer(acc),
+            Search::High | Search::Low => self.largest(acc),
+            Search::Singular => self.singular(acc),
         }
     }
 }
@@ -181,6 +187,8 @@ pub fn search(image: &[u8], q: Query<'_>, m: &[u8], lo: usize, c: usize, acc: u6
         image,
         query: q,
         monomial: m,
+        lo,
+        c,
     };
-    asked.visit(lo, c, acc)
+    asked.visit(acc)
 }

@@ -3,18 +3,21 @@
 ghost use Rattle.std.specs.Prelude.{◌≡◌, true, false, MatchOption, IfSome, ◌+◌, ◌<◌, ◌≤◌};
 ghost use Rattle.kd_leaf.specs.Packed.{rows_of, best_of, on_of};
 
+#[tactic(auto, unfolding(crate::specs::Packed::rows_of))]
 pub fn rows(acc: u64) -> usize
     ensures { result ≡ rows_of acc }
 {
     (acc / 16384) as usize
 }
 
+#[tactic(auto, unfolding(crate::specs::Packed::best_of))]
 pub fn best(acc: u64) -> usize
     ensures { result ≡ best_of acc }
 {
     (acc % 16384 / 2) as usize
 }
 
+#[tactic(auto, unfolding(crate::specs::Packed::on_of))]
 pub fn goes_on(acc: u64) -> bool
     ensures { result ≡ on_of acc }
 {

@@ -8,6 +8,7 @@ ghost use Rattle.index_image.specs.Shape as at;
 ghost use Rattle.kd_split.specs.Split.{Standing, RootSplit};
 ghost use Rattle.query_words.specs.Asked.{shape_in, node_mask_in};
 ghost use Rattle.kd_leaf.specs.Packed.{rows_of, best_of};
+ghost use Rattle.kd_node.specs.Path.{visits_less, visits_other};
 ghost use Rattle.kd_node.specs.Branch.{ReadyBranch, Chosen, Grew};
 
 use divmask::DivMaskTestResult;
@@ -15,11 +16,32 @@ use index_image::fields;
 use query_words as query;
 use query_words::Query;
 
-// Which sides of a branch a search visits, and the dimension that is tried first there, which is the branch's tag.
+// The sides of a branch that a search visits.
+#[derive(Clone, Copy)]
+pub enum SearchPath {
+    Neither,
+    Less,
+    Other,
+    Both,
+}
+
+impl SearchPath {
+    fn of(less: bool, other: bool) -> SearchPath
+        ensures { (visits_less result ≡ less) × (visits_other result ≡ other) }
+    {
+        match (less, other) {
+            (false, false) => SearchPath::Neither,
+            (true, false) => SearchPath::Less,
+            (false, true) => SearchPath::Other,
+            (true, true) => SearchPath::Both,
+        }
+    }
+}
+
+// Them, and the dimension that is tried first there, which is the branch's tag.
 #[derive(Clone, Copy)]
 pub struct Sides {
-    pub less: bool,
-    pub other: bool,
+    pub path: SearchPath,
     pub next: usize,
 }
 
@@ -61,31 +83,27 @@ fn may(image: &[u8], q: Query<'_>, at: usize) -> bool
 // Which sides of the branch at row k are to be visited.
 pub fn path_at(image: &[u8], q: Query<'_>, m: &[u8], k: usize, lo: usize, acc: u64) -> Sides
     requires { ReadyBranch image.now m.now (shape_in (words q.bytes.now)) (words q.bytes.now) k lo (rows_of acc) (best_of acc) }
-    ensures { Chosen image.now m.now (shape_in (words q.entry.bytes.now)) (words q.entry.bytes.now) k lo (rows_of acc) result.less result.other result.next }
+    ensures { Chosen image.now m.now (shape_in (words q.entry.bytes.now)) (words q.entry.bytes.now) k lo (rows_of acc) (visits_less result.path) (visits_other result.path) result.next }
 {
     let at = q.node_at(k);
     let next = words::get(image, at) as usize;
     if !may(image, q, at) {
-        return Sides {
-            less: false,
-            other: false,
+        Sides {
+            path: SearchPath::Neither,
             next,
-        };
-    }
-    let key = words::get(image, at + fields::KEY);
-    if next == q.num(query::KIND) {
-        let l = q.label(image, key as usize);
-        return Sides {
-            less: q.pair(query::FROM) <= l,
-            other: l < q.pair(query::TO),
+        }
+    } else if next == q.num(query::KIND) {
+        let l = q.label(image, words::get(image, at + fields::KEY) as usize);
+        Sides {
+            path: SearchPath::of(q.pair(query::FROM) <= l, l < q.pair(query::TO)),
             next,
-        };
-    }
-    let limit = q.word(next);
-    Sides {
-        less: true,
-        other: key <= limit,
-        next,
+        }
+    } else {
+        let key = words::get(image, at + fields::KEY);
+        Sides {
+            path: SearchPath::of(true, key <= q.word(next)),
+            next,
+        }
     }
 }
 

@@ -362,6 +362,14 @@ module _ (bs ms : List ℕ) (s : Shape) (Q : List ℕ) (k lo rows best : ℕ) (l
         let m = M st r d key a b q h in
         end-cut st r bs bs₂ s k lo rows rows₁ d key a b m.tree best best₁ on₁ h m.half e (sym (C st r d key a b q h).other-is ∙ f)
 
+    -- the less side alone, stopped or not
+    pub ret-less : other ≡ false → Branched bs bs₂ ms s Q k lo rows best best₁ on₁ rows₁
+    ret-less e = go on₁ refl
+      where
+        go : (b : Bool) → on₁ ≡ b → Branched bs bs₂ ms s Q k lo rows best best₁ on₁ rows₁
+        go true o = ret-cut o e
+        go false o = ret-stopped o
+
     -- the other side, where it stands now
     other-tree : (st : State) (r : Query) (d key : ℕ) (a b : Tree) → Asks st r ms s Q → HasTree st (words bs) s k lo rows (branch d key a b) → HasTree st (words bs₂) s row (lo + lessn) rows₁ b
     unfolding Halfway

@@ -11,6 +11,7 @@ ghost use Rattle.query_words.specs.Rooted.{RootReady, Answered};
 
 use index_image::fields;
 use kd_leaf::step;
+use kd_node::{SearchPath, Sides};
 use query_words as query;
 use query_words::Query;
 
@@ -52,20 +53,27 @@ pub fn branch_search(image: &mut [u8], q: Query<'_>, m: &[u8], k: usize, lo: usi
     requires acc_value { on_of acc ≡ true }
     ensures { Branched image.old image.new m.now (shape_in (words q.entry.bytes.now)) (words q.entry.bytes.now) k lo (rows_of acc) (best_of acc) (best_of result) (on_of result) (rows_of result) }
 {
-    let b = kd_node::path_at(image, q, m, k, lo, acc);
-    if b.less {
-        let a = search(image, q, m, b.next, k + 1, lo, acc);
-        let o = kd_node::grow(image, q, k, step::rows(a) - step::rows(acc));
-        if !step::goes_on(a) || !b.other {
-            return a;
+    let Sides { path, next } = kd_node::path_at(image, q, m, k, lo, acc);
+    match path {
+        SearchPath::Neither => acc,
+        SearchPath::Less => {
+            let a = search(image, q, m, next, k + 1, lo, acc);
+            kd_node::grow(image, q, k, step::rows(a) - step::rows(acc));
+            a
         }
-        return search(image, q, m, b.next, o.row, lo + o.less, a);
+        SearchPath::Other => {
+            let o = kd_node::grow(image, q, k, 0);
+            search(image, q, m, next, o.row, lo + o.less, acc)
+        }
+        SearchPath::Both => {
+            let a = search(image, q, m, next, k + 1, lo, acc);
+            let o = kd_node::grow(image, q, k, step::rows(a) - step::rows(acc));
+            if !step::goes_on(a) {
+                return a;
+            }
+            search(image, q, m, next, o.row, lo + o.less, a)
+        }
     }
-    if b.other {
-        let o = kd_node::grow(image, q, k, 0);
-        return search(image, q, m, b.next, o.row, lo + o.less, acc);
-    }
-    acc
 }
 
 // Searches from the root as `search` does, which goes on below it. So a split, which has a large local array, and the loops over a leaf have

@@ -16,49 +16,39 @@ may-requires c = omega (arith, (branch-numbers _ _ _ _ _ _ _ _ c.requires).room,
 
 pub returns-then-not-may : goal.returns-then-not-may
 returns-then-not-may c =
-    let Node-at = c.node_at-at in
-    path-stop _ _ _ _ _ _ _ _ (rw Node-at.ensures at c.get-next.ensures)
-    (words_small c.args.image.now (λ j. (c.type_inv.image j).fits)) _ (c.if-not-may.true) (rw Node-at.ensures at c.may.ensures)
+    path-stop _ _ _ _ _ _ _ _ (rw c.node_at-at.ensures at c.get-next.ensures) (words_small c.args.image.now (λ j. (c.type_inv.image j).fits)) _ c.if-not-may.true
+    (rw c.node_at-at.ensures at c.may.ensures)
 
 pub overflow_add-at : goal.overflow_add-at
 overflow_add-at c = omega (arith, (branch-numbers _ _ _ _ _ _ _ _ c.requires).room, c.node_at-at.ensures)
 
-pub get-key-requires : goal.get-key-requires
-get-key-requires c = omega (arith, (branch-numbers _ _ _ _ _ _ _ _ c.requires).room, c.node_at-at.ensures)
+pub get-requires : goal.get-requires
+get-requires c = omega (arith, (branch-numbers _ _ _ _ _ _ _ _ c.requires).room, c.node_at-at.ensures)
 
 pub label-l-requires : goal.label-l-requires
 label-l-requires c =
-    let Node-at = c.node_at-at in
-    let get = c.get-next in
-    let p = sym (rw Node-at.ensures at get.ensures) ∙ (c.if-next-num.true ∙ (c.num.ensures.0 ∙ kind-is _ _ c.requires.asks.laid)) in record { ready = (branch-numbers _ _ _ _ _ _ _ _ c.requires).ready; labelled = (((branch-numbers _ _ _ _ _ _ _ _ c.requires).entry p).0, rw (c.get-key.ensures, Node-at.ensures) ((branch-numbers _ _ _ _ _ _ _ _ c.requires).entry p).1) }
+    let n = branch-numbers _ _ _ _ _ _ _ _ c.requires in
+    let p = sym (rw c.node_at-at.ensures at c.get-next.ensures) ∙ (c.if-next-num.true ∙ (c.num.ensures.0 ∙ kind-is _ _ c.requires.asks.laid)) in
+    record { ready = n.ready; labelled = ((n.entry p).0, rw (c.get.ensures, c.node_at-at.ensures) (n.entry p).1) }
 
 pub returns-then-next-num : goal.returns-then-next-num
 returns-then-next-num c =
-    let Node-at = c.node_at-at in
-    let get = c.get-next in
-    let may = c.may in
-    let if1 = c.if-not-may in
-    let get2 = c.get-key in
-    let num = c.num in
-    let if2 = c.if-next-num in
-    rw (c.pair.ensures, c.pair-then-next-num.ensures) (path-label _ _ _ _ _ _ _ _ (rw Node-at.ensures at get.ensures)
-    (words_small c.args.image.now (λ j. (c.type_inv.image j).fits)) _ (if1.false) (rw Node-at.ensures at may.ensures)
-    (if2.true ∙ (num.ensures.0 ∙ kind-is _ _ c.requires.asks.laid)) _ (c.label-l.ensures.0 ∙ rw (get2.ensures, Node-at.ensures) refl))
+    rw (c.of.ensures.0, c.of.ensures.1, c.pair.ensures, c.pair-then-next-num.ensures) (path-label _ _ _ _ _ _ _ _ (rw c.node_at-at.ensures at c.get-next.ensures)
+    (words_small c.args.image.now (λ j. (c.type_inv.image j).fits)) _ c.if-not-may.false (rw c.node_at-at.ensures at c.may.ensures)
+    (c.if-next-num.true ∙ (c.num.ensures.0 ∙ kind-is _ _ c.requires.asks.laid)) _ (c.label-l.ensures.0 ∙ rw (c.get.ensures, c.node_at-at.ensures) refl))
 
-pub word-limit-requires : goal.word-limit-requires
-word-limit-requires c =
-    let Node-at = c.node_at-at in
-    let get = c.get-next in
-    omega (arith, (branch-numbers _ _ _ _ _ _ _ _ c.requires).small, (rw Node-at.ensures at get.ensures))
+pub overflow_add-at-else-next-num : goal.overflow_add-at-else-next-num
+overflow_add-at-else-next-num c = omega (arith, (branch-numbers _ _ _ _ _ _ _ _ c.requires).room, c.node_at-at.ensures)
 
-pub returns : goal.returns
-returns c =
-    let Node-at = c.node_at-at in
-    let get = c.get-next in
-    let may = c.may in
-    let if1 = c.if-not-may in
-    let get2 = c.get-key in
-    path-limit _ _ _ _ _ _ _ _ (rw Node-at.ensures at get.ensures) (words_small c.args.image.now (λ j. (c.type_inv.image j).fits)) _
-    (if1.false) (rw Node-at.ensures at may.ensures)
+pub get-key-requires : goal.get-key-requires
+get-key-requires c = omega (arith, (branch-numbers _ _ _ _ _ _ _ _ c.requires).room, c.node_at-at.ensures)
+
+pub word-requires : goal.word-requires
+word-requires c = omega (arith, (branch-numbers _ _ _ _ _ _ _ _ c.requires).small, rw c.node_at-at.ensures at c.get-next.ensures)
+
+pub returns-else-next-num : goal.returns-else-next-num
+returns-else-next-num c =
+    rw (c.of-else-next-num.ensures.0, c.of-else-next-num.ensures.1) (path-limit _ _ _ _ _ _ _ _ (rw c.node_at-at.ensures at c.get-next.ensures)
+    (words_small c.args.image.now (λ j. (c.type_inv.image j).fits)) _ c.if-not-may.false (rw c.node_at-at.ensures at c.may.ensures)
     (λ z. c.if-next-num.false (z ∙ sym (c.num.ensures.0 ∙ kind-is _ _ c.requires.asks.laid))) _
-    (rw (get2.ensures, Node-at.ensures, c.word-limit.ensures) refl)
+    (rw (c.get-key.ensures, c.node_at-at.ensures, c.word.ensures) refl))

@@ -28,9 +28,6 @@ pub slice_bounds-divides-start : goal.slice_bounds-divides-start
 slice_bounds-divides-start c =
     rw c.num-2.ensures.0 (omega (arith, (tested (goal.at.slice_bounds-divides-start c).Start).slot-room, c.num.ensures.0))
 
-pub slice_bounds-divides-end : goal.slice_bounds-divides-end
-slice_bounds-divides-end c = omega arith
-
 pub divides-requires : goal.divides-requires
 divides-requires c =
     let p = c.num.result + c.args.e * c.num-2.result in

@@ -9,6 +9,6 @@ use Rattle.kd_leaf.proofs.Asked.first.Given as goal
 abbrev pub invariant-loop-i : goal.invariant-loop-i
 invariant-loop-i g l =
     let s = shape_in (words l.self.query.bytes.now) in
-    let es = entries_from (words l.self.image.now) s l.lo l.c in
+    let es = entries_from (words l.self.image.now) s l.self.lo l.self.c in
     (found : Option _) → First (λ e passes. (e < s.entries) × goal.F-post g l.test e passes) (drop l.i es) found
     → First (λ e passes. (e < s.entries) × goal.F-post g l.test e passes) es found

@@ -10,4 +10,4 @@ use Rattle.kd_leaf.proofs.Asked.largest.Given as goal
 
 abbrev pub invariant-loop-i : goal.invariant-loop-i
 invariant-loop-i l = (l.found ≤ (shape_in (words l.self.query.bytes.now)).entries) × ((l.least ≡ least_above (walk.label (words l.self.image.now) (shape_in (words l.self.query.bytes.now))) (from_in (words l.self.query.bytes.now)) l.found) × Scanning l.self.image.now l.self.monomial.now
-    (shape_in (words l.self.query.bytes.now)) (words l.self.query.bytes.now) l.lo l.c (best_of l.acc) l.found l.i)
+    (shape_in (words l.self.query.bytes.now)) (words l.self.query.bytes.now) l.self.lo l.self.c (best_of l.acc) l.found l.i)

@@ -6,4 +6,4 @@ use Rattle.kd_leaf.proofs.Scanning.{Scanning}
 use Rattle.kd_leaf.proofs.Asked.reducer.Given as goal
 
 abbrev pub invariant-loop-i : goal.invariant-loop-i
-invariant-loop-i l = (l.found ≤ (shape_in (words l.self.query.bytes.now)).entries) × Scanning l.self.image.now l.self.monomial.now (shape_in (words l.self.query.bytes.now)) (words l.self.query.bytes.now) l.lo l.c (best_of l.acc) l.found l.i
+invariant-loop-i l = (l.found ≤ (shape_in (words l.self.query.bytes.now)).entries) × Scanning l.self.image.now l.self.monomial.now (shape_in (words l.self.query.bytes.now)) (words l.self.query.bytes.now) l.self.lo l.self.c (best_of l.acc) l.found l.i

@@ -7,8 +7,8 @@ use Rattle.kd_leaf.proofs.Counting.{facts}
 use Rattle.kd_leaf.proofs.Scanning.{first-passes, first-visited, singular-decides}
 use Rattle.kd_leaf.proofs.Asked.singular.Goals as goal
 
-pub first-requires-clause-callable : goal.first-requires-clause-callable
-first-requires-clause-callable c =
+pub first-requires : goal.first-requires
+first-requires c =
     let k : (shape_in (words c.args.self.now.query.bytes.now)).kind ≡ 1 = (facts _ _ _ c.args.self.now.known).labelled (λ z. omega (arith, c.requires.searched)) in
     search (rules, k)
 
