@@ -1,5 +1,5 @@
 -- The bounds that a branch gives to its sides. Assumes nothing.
-use mathlib.Core.Path.{◌≡◌, sym, ap, ◌∙◌}
+use mathlib.Core.Path.{◌≡◌, refl, sym, ap, ◌∙◌}
 use mathlib.Core.List.{List}
 use mathlib.Core.Logic.{◌↔◌}
 use Prim.Native.Nat.{ℕ, min, max, ◌-◌, ◌^◌, ◌≤◌, ◌<◌}
@@ -24,7 +24,7 @@ module _ (W : List ℕ) (s : Shape) (H : List ℕ) (ll lh i : ℕ) (r : InRange 
     here e = below-ratio (power W s) (label W s) s.kind (get_or W (tag_at i) 0 - 1) (get_or W (key_at i) 0) e one (omega (arith, one))
 
     pub cut-ratio : (key l q a b : ℕ) → key ≡ get_or W (key_at i) 0 → l ≡ label W s key → q ≡ get_or H 0 0 → q < 2 ^ 32 → a ≡ min l lh → b ≡ max l ll
-        → Cut W s H ll lh i (record { variable = 0; power = q; less = a; other = b })
+        → Cut W s H ll lh i (record { variable = 0; power = q; less = record { start = ll; end = a }; other = record { start = b; end = lh } })
     cut-ratio key l q a b ek el eq sm ea eb =
         let v : 0 < s.variables = omega (arith, r.vars-from) in
         let lk : l ≡ label W s (get_or W (key_at i) 0) = el ∙ ap (label W s) ek in
@@ -33,6 +33,8 @@ module _ (W : List ℕ) (s : Shape) (H : List ℕ) (ll lh i : ℕ) (r : InRange 
           known = v;
           some = omega (arith, some 0 v);
           small = sm;
+          less-from = refl;
+          other-to = refl;
           less = λ e. (
             λ (i : Inside W s (set H 0 q) ll a e).
                 let p = rw own at i.powers in
@@ -62,7 +64,7 @@ module _ (W : List ℕ) (s : Shape) (H : List ℕ) (ll lh i : ℕ) (r : InRange 
         rw et (below-variable (power W s) (label W s) s.kind (get_or W (tag_at i) 0 - 1) (get_or W (key_at i) 0) e r.kind-to (omega (arith, K.from, r.kind-to)))
 
     pub cut-variable : (key x : ℕ) → key ≡ get_or W (key_at i) 0 → key < 2 ^ 32 → x ≡ min key (get_or H (t - 1 - s.kind) 0)
-        → Cut W s H ll lh i (record { variable = t - 1 - s.kind; power = x; less = lh; other = ll })
+        → Cut W s H ll lh i (record { variable = t - 1 - s.kind; power = x; less = record { start = ll; end = lh }; other = record { start = ll; end = lh } })
     cut-variable key x ek sm ex =
         let v = t - 1 - s.kind in
         let k : v < s.variables = variable-known in
@@ -70,6 +72,8 @@ module _ (W : List ℕ) (s : Shape) (H : List ℕ) (ll lh i : ℕ) (r : InRange 
           known = k;
           some = omega (arith, some v k, K.variable (λ z. other (et ∙ z)));
           small = omega arith;
+          less-from = refl;
+          other-to = refl;
           less = λ e. (
             λ (i : Inside W s (set H v x) ll lh e).
                 let p : power W s v e < x = rw (get_or-set_same H v x 0 (omega arith)) at (i.powers v k) in

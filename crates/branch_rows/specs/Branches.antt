@@ -22,13 +22,16 @@ pub record KeyIn (W : List ℕ) (s : Shape) (i : ℕ) : Type 0 where
 abbrev pub BelowKey : List ℕ → Shape → ℕ → ℕ → Type 0
 BelowKey W s i e = Below s.kind (power W s) (label W s) (get_or W (at.tag_at i) 0 - 1) (get_or W (at.key_at i) 0) e
 
--- the bounds of the two sides. A variable's key bounds the powers of the less side alone: those of the other side are seen from its gcd.
+-- the bounds of the two sides, each within those of the branch. A variable's key bounds the powers of the less side alone: those of the other
+-- side are seen from its gcd.
 pub record Cut (W : List ℕ) (s : Shape) (H : List ℕ) (ll lh i : ℕ) (b : Limits) : Type 0 where
   pub known : b.variable < s.variables
   pub some : 1 ≤ b.power
   pub small : b.power < 2 ^ 32
-  pub less : (e : ℕ) → Inside W s (set H b.variable b.power) ll b.less e ↔ (Inside W s H ll lh e × BelowKey W s i e)
-  pub other : (e : ℕ) → Inside W s H b.other lh e ↔ (Inside W s H ll lh e × (get_or W (at.tag_at i) 0 ≡ s.kind → BelowKey W s i e → ⊥))
+  pub less-from : b.less.start ≡ ll
+  pub other-to : b.other.end ≡ lh
+  pub less : (e : ℕ) → Inside W s (set H b.variable b.power) b.less.start b.less.end e ↔ (Inside W s H ll lh e × BelowKey W s i e)
+  pub other : (e : ℕ) → Inside W s H b.other.start b.other.end e ↔ (Inside W s H ll lh e × (get_or W (at.tag_at i) 0 ≡ s.kind → BelowKey W s i e → ⊥))
 
 -- canonical monomials stand in the gcd slots of the rows at words a and b
 pub record Slots (W : List ℕ) (m a b : ℕ) : Type 0 where

@@ -158,7 +158,7 @@ module _ {W : List ℕ} {s : Shape} (R : Ready W s) where
     pub no-leaf : tag ≡ 0 → ⊥
     pub key : KeyIn W s (at.node_at s k)
     pub cut : Cut W s H ll lh (at.node_at s k) b
-    pub walked : Walked W s (set H b.variable b.power) ll b.less (k + 1) lo (c - 1) r1
+    pub walked : Walked W s (set H b.variable b.power) b.less.start b.less.end (k + 1) lo (c - 1) r1
 
   module _ {H : List ℕ} {ll lh k lo avail : ℕ} where
     -- there is no tree
@@ -273,7 +273,7 @@ module _ {W : List ℕ} {s : Shape} (R : Ready W s) where
       abbrev C : Cut W s H ll lh (at.node_at s k) b
       C = less.cut
 
-      abbrev w1 : Walked W s (set H b.variable b.power) ll b.less (k + 1) lo (c - 1) r1
+      abbrev w1 : Walked W s (set H b.variable b.power) b.less.start b.less.end (k + 1) lo (c - 1) r1
       w1 = less.walked
 
       abbrev Branch : Tree → Type 0
@@ -283,16 +283,16 @@ module _ {W : List ℕ} {s : Shape} (R : Ready W s) where
       branch-of t f = branch-only less.tagged less.no-leaf t f
 
       -- the sides of a tree that is there, within their bounds
-      less-inside : (t : Tree) (x : Branch t) → Bounded W s (set H b.variable b.power) ll b.less (inorder x.l)
+      less-inside : (t : Tree) (x : Branch t) → Bounded W s (set H b.variable b.power) b.less.start b.less.end (inorder x.l)
       less-inside t x =
           let ed : get_or W (tag_at (at.node_at s k)) 0 - 1 ≡ x.d = omega (arith, x.here.tag_is) in
-          (bounded-each W s (set H b.variable b.power) ll b.less (inorder x.l)).1
+          (bounded-each W s (set H b.variable b.power) b.less.start b.less.end (inorder x.l)).1
           (λ e m. (C.less e).1 (x.bounded e (in_left e (inorder x.l) (inorder x.r) m), rw (ed, x.here.key-is) (x.sides.less e m)))
 
-      other-inside : (t : Tree) (x : Branch t) → Bounded W s H b.other lh (inorder x.r)
+      other-inside : (t : Tree) (x : Branch t) → Bounded W s H b.other.start b.other.end (inorder x.r)
       other-inside t x =
           let ed : get_or W (tag_at (at.node_at s k)) 0 - 1 ≡ x.d = omega (arith, x.here.tag_is) in
-          (bounded-each W s H b.other lh (inorder x.r)).1
+          (bounded-each W s H b.other.start b.other.end (inorder x.r)).1
           (λ e m. (C.other e).1 (x.bounded e (in_right e (inorder x.l) (inorder x.r) m), λ z. rw (ed, x.here.key-is) (x.sides.other e m)))
 
       first : (t : Tree) (x : Branch t) → r1 ≡ Some (nodes x.l)
@@ -316,7 +316,7 @@ module _ {W : List ℕ} {s : Shape} (R : Ready W s) where
         l1 : Tree
         l1 = (w1.made t1 h1).0
 
-        f1 : Found W s (set H b.variable b.power) ll b.less (k + 1) lo (c - 1) l1
+        f1 : Found W s (set H b.variable b.power) b.less.start b.less.end (k + 1) lo (c - 1) l1
         unfolding l1
         f1 = (w1.made t1 h1).1
 
@@ -341,7 +341,7 @@ module _ {W : List ℕ} {s : Shape} (R : Ready W s) where
             let hl = first-row (k + 1) lo x.l x.one (omega (arith, x.fits)) (omega (arith, x.count)) in
             omega (arith, hl.count, x.sides.some-less))
 
-        module _ {ca : ℕ} (ea : ca ≡ get_or W (count_at (at.node_at s (k + 1))) 0) {r2 : Option ℕ} (w2 : Walked W s H b.other lh (k + 1 + t1) (lo + ca) (c - ca) r2) where
+        module _ {ca : ℕ} (ea : ca ≡ get_or W (count_at (at.node_at s (k + 1))) 0) {r2 : Option ℕ} (w2 : Walked W s H b.other.start b.other.end (k + 1 + t1) (lo + ca) (c - ca) r2) where
           -- the numbers of the sides of a tree that is there
           record Both (t : Tree) (x : Branch t) : Type 0 where
             one : t1 ≡ nodes x.l
@@ -355,7 +355,7 @@ module _ {W : List ℕ} {s : Shape} (R : Ready W s) where
               let hl = first-row (k + 1) lo x.l x.one (omega (arith, x.fits)) (omega (arith, x.count)) in
               let e2 : ca ≡ length (inorder x.l) = ea ∙ hl.count in
               let tr : TreeAt W s (k + 1 + t1) (lo + ca) x.r = rw (e1, e2) x.two in
-              let fr : Found W s H b.other lh (k + 1 + t1) (lo + ca) (c - ca) x.r = record {
+              let fr : Found W s H b.other.start b.other.end (k + 1 + t1) (lo + ca) (c - ca) x.r = record {
                 is = tr;
                 inside = omega (arith, x.fits);
                 few = omega (arith, x.count);
@@ -393,7 +393,7 @@ module _ {W : List ℕ} {s : Shape} (R : Ready W s) where
             l2 : Tree
             l2 = (w2.made t2 h2).0
 
-            f2 : Found W s H b.other lh (k + 1 + t1) (lo + ca) (c - ca) l2
+            f2 : Found W s H b.other.start b.other.end (k + 1 + t1) (lo + ca) (c - ca) l2
             unfolding l2
             f2 = (w2.made t2 h2).1
 
@@ -429,8 +429,8 @@ module _ {W : List ℕ} {s : Shape} (R : Ready W s) where
                 let sl : 0 < length (inorder l1) = omega (arith, head1.count, o.some-less) in
                 let sr : 0 < length (inorder l2) = omega (arith, head2.count, o.some-other) in
                 let cs : c ≡ length (inorder l1) + length (inorder l2) = omega (arith, o.count, head1.count, head2.count) in
-                let i1 = (bounded-each W s (set H b.variable b.power) ll b.less (inorder l1)).0 f1.bounded in
-                let i2 = (bounded-each W s H b.other lh (inorder l2)).0 f2.bounded in
+                let i1 = (bounded-each W s (set H b.variable b.power) b.less.start b.less.end (inorder l1)).0 f1.bounded in
+                let i2 = (bounded-each W s H b.other.start b.other.end (inorder l2)).0 f2.bounded in
                 let nb = nodes-branch d key l1 l2 in
                 record {
                   only = λ t f.
@@ -469,7 +469,7 @@ module _ {W : List ℕ} {s : Shape} (R : Ready W s) where
                   );
                 }
               where
-                not-below : OtherOk W s (at.node_at s k) (at.node_at s (k + 1 + t1)) → ((e : ℕ) → e ∈ inorder l2 → Inside W s H b.other lh e)
+                not-below : OtherOk W s (at.node_at s k) (at.node_at s (k + 1 + t1)) → ((e : ℕ) → e ∈ inorder l2 → Inside W s H b.other.start b.other.end e)
                     → (e : ℕ) → e ∈ inorder l2 → BelowKey W s (at.node_at s k) e → ⊥
                 not-below q i e m z =
                     elim (ℕ_discrete (get_or W (tag_at (at.node_at s k)) 0) s.kind) [

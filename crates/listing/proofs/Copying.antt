@@ -39,28 +39,26 @@ copied_none W a out h =
     let z : a + 0 ≡ a = omega arith in
     record { more = h; rest = ap (λ (j : ℕ). to_end 0 (drop j W)) z; bytes = sym (rw (part-nil W a) (paste_w-nil out 0)); same = refl }
 
-pub end-inside : (W : List ℕ) (a : ℕ) → 0 < length_at W a → a + length_at W a ≤ length W
-end-inside W a h = end-within a (length_at W a) W refl (λ z. omega arith)
+-- the next word lies within the list
+pub word-inside : {W : List ℕ} {a : ℕ} {out₀ out : List ℕ} {i : ℕ} → Copied W a out₀ out i → a + i < length W
+word-inside {W} {a} c = omega (arith, c.more, end-within a (length_at W a) W refl (λ z. omega (arith, c.more)))
 
 -- one word more
-module _ (W : List ℕ) (a : ℕ) (out₀ out : List ℕ) (i : ℕ) (c : Copied W a out₀ out i) (room : 4 * length_at W a ≤ length out₀)
-    (w : ℕ) (ew : w ≡ get_or W (a + i) 0) (out' : List ℕ) (eo : out' ≡ put_w out i w) where
-  within : a + i < length W
-  within = omega (arith, c.more, end-inside W a (omega (arith, c.more)))
-
+module _ {W : List ℕ} {a : ℕ} {out₀ out : List ℕ} {i : ℕ} (c : Copied W a out₀ out i) (room : 4 * length_at W a ≤ length out₀)
+    {w : ℕ} (ew : w ≡ get_or W (a + i) 0) {out' : List ℕ} (eo : out' ≡ put_w out i w) where
   here : drop (a + i) W ≡ w ∷ drop (a + (i + 1)) W
   here =
       let s : suc (a + i) ≡ a + (i + 1) = omega arith in
-      drop-cons W (a + i) 0 within ∙ rw (s, ← ew)
+      drop-cons W (a + i) 0 (word-inside c) ∙ rw (s, ← ew)
 
   pub one_more : out' ≡ paste_w out₀ 0 (part W a (i + 1))
   one_more =
-      let l : i ≡ 0 + length (part W a i) = omega (arith, length_part W a i (omega (arith, within))) in
-      let e : part W a (i + 1) ≡ part W a i ++ (w ∷ []) = part-snoc W a i within ∙ rw (← ew) in
+      let l : i ≡ 0 + length (part W a i) = omega (arith, length_part W a i (omega (arith, word-inside c))) in
+      let e : part W a (i + 1) ≡ part W a i ++ (w ∷ []) = part-snoc W a i (word-inside c) ∙ rw (← ew) in
       eo ∙ ap (λ (o : List ℕ). put_w o i w) c.bytes ∙ paste_w-snoc out₀ 0 (part W a i) i w l (omega (arith, c.more)) ∙ ap (paste_w out₀ 0) (sym e)
 
   pub one_same : length out' ≡ length out₀
-  one_same = ap length one_more ∙ length-paste_w out₀ 0 (part W a (i + 1)) (omega (arith, c.more, length_part W a (i + 1) (omega (arith, within))))
+  one_same = ap length one_more ∙ length-paste_w out₀ 0 (part W a (i + 1)) (omega (arith, c.more, length_part W a (i + 1) (omega (arith, word-inside c))))
 
   -- the end word is the last
   pub ended_here : kind w ≡ 0 → i + 1 ≡ length_at W a

@@ -3,16 +3,15 @@ use mathlib.Core.Path.{◌≡◌, refl, sym, ap, ◌∙◌}
 use mathlib.Core.List.{List, [], ◌∷◌, ◌++◌, append_assoc, append-nil}
 use Prim.Native.Nat.{ℕ, suc, ◌+◌, ◌-◌, ◌*◌, ◌≤◌, ◌<◌}
 use native.Mathlib.Omega.{arith}
-use native.Mathlib.Decide.{ℕ_discrete}
-use lib.ListN.{length, get_or, take, drop, length-append, length-take, length-drop}
+use lib.ListN.{length, get_or, take, drop, length-append, length-drop}
 use borrow.Rule.Slice.PartMut.{put_mid}
 use Rattle.words.specs.Words.{words, paste_w}
 use Rattle.words.specs.Tables.{part}
-use Rattle.words.proofs.Laws.{length-words, length-paste_w, paste_w-part}
+use Rattle.words.proofs.Laws.{length-paste_w, paste_w-nil, paste_w-part}
 use Rattle.words.proofs.Tables.{length_part, part-nil, part-add, part-snoc, paste_w-append}
-use Rattle.monomial.specs.Monomial.{to_end, ended}
+use Rattle.monomial.specs.Monomial.{to_end}
 use Rattle.monomial.proofs.Canon.{front-short}
-use Rattle.monomial.proofs.Ends.{end-within, ended-found}
+use Rattle.monomial.proofs.Ends.{front_ends}
 use Rattle.monomial.proofs.Laws.{front-canonical}
 use Rattle.monomial.proofs.Powers.{canonical-length}
 use Rattle.index_theory.specs.Listing.{monomials_at}
@@ -20,7 +19,6 @@ use Rattle.index_image.specs.Shape as at
 use Rattle.index_image.specs.Rows.{monomial_in, Taken, entries_from}
 use Rattle.index_image.specs.Walk.{lm_length, lm_in, Ready}
 use Rattle.index_image.specs.declared.Shape.{Shape}
-use Rattle.index_image.proofs.Reading.{taken}
 use Rattle.index_image.proofs.Places.{entry-at-place, place-fits}
 use Rattle.listing.specs.Listed.{lms}
 
@@ -51,29 +49,22 @@ behind out out' a b ys n k eo en ek h ey =
     let e : n + 0 ≡ 0 + length a = omega arith in
     rw ey (paste_w-part out' n k 0 b (omega arith) (omega arith) ∙ rw (e, eo) (paste_w-append out 0 a (0 + length a) b refl (omega arith)))
 
+-- n words are written at the front: the monomials of the first i entries from place lo on
+pub record Written (W : List ℕ) (s : Shape) (lo : ℕ) (out₀ out : List ℕ) (n i : ℕ) : Type 0 where
+  pub long : n ≡ length (lms W s (entries_from W s lo i))
+  pub bytes : out ≡ paste_w out₀ 0 (lms W s (entries_from W s lo i))
+  pub same : length out ≡ length out₀
+
 -- ---- the monomial of an entry
 module _ (bs : List ℕ) (s : Shape) (R : Ready (words bs) s) where
   abbrev W : List ℕ
   W = words bs
 
-  lm-slot : (e : ℕ) → lm_in W s e ≡ monomial_in W s.variables (at.lm_at s e)
+  pub lm-held : (e a : ℕ) (r : List ℕ) → a ≡ at.lm_at s e → Taken r (monomial_in W s.variables a) → length r ≡ 4 * length (lm_in W s e)
   unfolding lm_in monomial_in
-  lm-slot e = refl
-
-  pub lm-taken : (e : ℕ) (r : List ℕ) → e < s.entries → r ≡ ended bs (at.lm_at s e) → Taken r (lm_in W s e)
-  lm-taken e r h er = rw (lm-slot e) (taken bs s.variables (at.lm_at s e) r (er ∙ ended-found 1 s.variables bs (at.lm_at s e) (R.lms e h)))
+  lm-held e a r ea t = rw ea at t.long
 
   -- it goes from the entry's place up to the first end word
-  ended-long : (a : ℕ) → length (ended bs a) ≡ 4 * to_end 0 (drop a W)
-  unfolding ended
-  ended-long a =
-      let n = to_end 0 (drop a W) in
-      let l : (n ≡ 0 → ⊥) → a + n ≤ length W = end-within a n W refl in
-      elim (ℕ_discrete n 0) [
-        | yes z ↦ simp (length-take, length-drop) (omega (arith, z))
-        | no z ↦ simp (length-take, length-drop) (omega (arith, l z, length-words bs))
-      ]
-
   lm-long : (e : ℕ) → e < s.entries → length (lm_in W s e) ≡ lm_length W s e
   unfolding lm_in
   lm-long e h =
@@ -83,7 +74,7 @@ module _ (bs : List ℕ) (s : Shape) (R : Ready (words bs) s) where
 
   module _ (e a : ℕ) (h : e < s.entries) (ea : a ≡ at.lm_at s e) where
     pub lm-to-end : to_end 0 (drop a W) ≡ length (lm_in W s e)
-    lm-to-end = rw ea (omega (arith, ended-long (at.lm_at s e), (lm-taken e (ended bs (at.lm_at s e)) h refl).long))
+    lm-to-end = rw ea (sym (front_ends 1 s.variables 0 (drop (at.lm_at s e) W) (R.lms e h)) ∙ sym (lm-long e h))
 
     pub lm-some : 0 < to_end 0 (drop a W)
     lm-some =
@@ -126,3 +117,28 @@ module _ (bs : List ℕ) (s : Shape) (R : Ready (words bs) s) where
       let all : lms W s (entries_from W s lo c) ≡ lms W s a ++ lms W s b =
       ap (λ (n : ℕ). lms W s (entries_from W s lo n)) e ∙ ap (monomials_at (lm_in W s)) (part-add W (at.permutation_at s + lo) i (c - i)) ∙ at-append (lm_in W s) a b in
       omega (arith, ap length all, length-append (lms W s a) (lms W s b))
+
+  -- ---- a leaf's monomials, written one behind the other
+  pub written-none : (lo : ℕ) (out : List ℕ) → Written W s lo out out 0 0
+  written-none lo out = record { long = sym (ap length (none_yet lo)); bytes = sym (ap (paste_w out 0) (none_yet lo) ∙ paste_w-nil out 0); same = refl }
+
+  module _ {lo c : ℕ} {out₀ : List ℕ} (fits : 4 * length (lms W s (entries_from W s lo c)) ≤ length out₀) {out : List ℕ} {n i : ℕ} (w : Written W s lo out₀ out n i) where
+    pub written-inside : i ≤ c → 4 * n ≤ length out
+    written-inside h = omega (arith, w.long, w.same, front-shorter lo i c h, fits)
+
+    module _ (l : i < c) {x : ℕ} (e : Next lo i x) where
+      pub written-room : 4 * (n + length (lm_in W s x)) ≤ length out
+      written-room = omega (arith, w.long, w.same, e.long, front-shorter lo (i + 1) c (omega arith), fits)
+
+      pub written-more : (k m : ℕ) (ys : List ℕ) → k ≡ length out - 4 * n → m ≡ length (lm_in W s x) → ys ≡ paste_w (take k (drop (4 * n) out)) 0 (lm_in W s x)
+          → Written W s lo out₀ (put_mid (4 * n) k out ys) (n + m) (i + 1)
+      written-more k m ys ek em ey =
+          let p = lms W s (entries_from W s lo i) in
+          let b : put_mid (4 * n) k out ys ≡ paste_w out₀ 0 (lms W s (entries_from W s lo (i + 1))) =
+          behind out₀ out p (lm_in W s x) ys n k w.bytes w.long ek (omega (arith, length-append p (lm_in W s x), written-room, w.long, w.same)) ey
+          ∙ ap (paste_w out₀ 0) (sym e.more) in
+          record {
+            long = omega (arith, e.long, w.long);
+            bytes = b;
+            same = ap length b ∙ length-paste_w out₀ 0 (lms W s (entries_from W s lo (i + 1))) (omega (arith, e.long, written-room, w.long, w.same));
+          }

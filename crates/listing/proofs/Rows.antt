@@ -29,7 +29,7 @@ module _ (W : List ℕ) (s : Shape) (R : Ready W s) where
   tree-head k lo t a i f =
       (trees.tree-head W s R.range R.room (map_maxima W s) (power W s) P k lo t a.stands (omega (arith, R.range.nodes-to)) (omega (arith, R.range.few))).count
 
-module _ (W : List ℕ) (s : Shape) (R : Ready W s) (k lo room : ℕ) (h : Here W s k lo room) where
+module _ {W : List ℕ} {s : Shape} (R : Ready W s) {k lo room : ℕ} (h : Here W s k lo room) where
   abbrev row : ℕ
   row = at.node_at s k
 
@@ -118,16 +118,16 @@ module _ (W : List ℕ) (s : Shape) (R : Ready W s) (k lo room : ℕ) (h : Here 
     all = ap (monomials_at (lm_in W s)) b.order ∙ at-append (lm_in W s) (inorder b.less) (inorder b.other)
 
 -- ---- what is written, leaf by leaf and side by side
-module _ (W : List ℕ) (s : Shape) (R : Ready W s) (k lo : ℕ) (out : List ℕ) (h : Here W s k lo (length out)) where
+module _ {W : List ℕ} {s : Shape} (R : Ready W s) {k lo : ℕ} {out : List ℕ} (h : Here W s k lo (length out)) where
   pub leaf-below : (out' : List ℕ) (r c : ℕ) → c ≡ get_or W (at.count_at (at.node_at s k)) 0 → r ≡ length (lms W s (entries_from W s lo c))
       → out' ≡ paste_w out 0 (lms W s (entries_from W s lo c)) → Below W s k lo out out' r h
   leaf-below out' r c e er eo =
-      let q = entries-here W s R k lo (length out) h c e in
+      let q = entries-here R h c e in
       record { long = er ∙ ap (λ (es : List ℕ). length (lms W s es)) q; bytes = eo ∙ ap (λ (es : List ℕ). paste_w out 0 (lms W s es)) q }
 
-  module _ (b : AtBranch W s R k lo (length out) h) (out' : List ℕ) (n : ℕ) (first : (g : Here W s (k + 1) lo (length out)) → Below W s (k + 1) lo out out' n g) where
-    abbrev one : Below W s (k + 1) lo out out' n (less-here W s R k lo (length out) h b)
-    one = first (less-here W s R k lo (length out) h b)
+  module _ (b : AtBranch R h) {out' : List ℕ} {n : ℕ} (first : (g : Here W s (k + 1) lo (length out)) → Below W s (k + 1) lo out out' n g) where
+    abbrev one : Below W s (k + 1) lo out out' n (less-here R h b)
+    one = first (less-here R h b)
 
     pub same-room : length out' ≡ length out
     same-room = ap length one.bytes ∙ length-paste_w out 0 (lms W s (inorder b.less)) (omega (arith, b.fits))
@@ -138,22 +138,22 @@ module _ (W : List ℕ) (s : Shape) (R : Ready W s) (k lo : ℕ) (out : List ℕ
     pub rest-long : length (take (length out' - 4 * n) (drop (4 * n) out')) ≡ length out - 4 * length (lms W s (inorder b.less))
     rest-long = simp (length-take, length-drop) (omega (arith, one.long, same-room, b.fits))
 
-    abbrev pub second-here : (x y : ℕ) → x ≡ get_or W (at.skip_at (at.node_at s k)) 0 → y ≡ get_or W (at.count_at (at.node_at s k + at.node_width s.variables)) 0
+    abbrev pub second-here : {x y : ℕ} → x ≡ get_or W (at.skip_at (at.node_at s k)) 0 → y ≡ get_or W (at.count_at (at.node_at s k + at.node_width s.variables)) 0
         → Here W s (k + 1 + x) (lo + y) (length (take (length out' - 4 * n) (drop (4 * n) out')))
-    second-here x y ex ey = other-here W s R k lo (length out) h b (k + 1 + x) (lo + y) _ (omega (arith, b.skip_is)) (omega (arith, b.passed)) rest-long
+    second-here {x} {y} ex ey = other-here R h b (k + 1 + x) (lo + y) _ (omega (arith, b.skip_is)) (omega (arith, b.passed)) rest-long
 
-    module _ (x y : ℕ) (ex : x ≡ get_or W (at.skip_at (at.node_at s k)) 0) (ey : y ≡ get_or W (at.count_at (at.node_at s k + at.node_width s.variables)) 0) (ys : List ℕ) (r : ℕ)
+    module _ {x y : ℕ} (ex : x ≡ get_or W (at.skip_at (at.node_at s k)) 0) (ey : y ≡ get_or W (at.count_at (at.node_at s k + at.node_width s.variables)) 0) {ys : List ℕ} {r : ℕ}
         (second : (g : Here W s (k + 1 + x) (lo + y) (length (take (length out' - 4 * n) (drop (4 * n) out'))))
         → Below W s (k + 1 + x) (lo + y) (take (length out' - 4 * n) (drop (4 * n) out')) ys r g) where
-      abbrev two : Below W s (k + 1 + x) (lo + y) (take (length out' - 4 * n) (drop (4 * n) out')) ys r (second-here x y ex ey)
-      two = second (second-here x y ex ey)
+      abbrev two : Below W s (k + 1 + x) (lo + y) (take (length out' - 4 * n) (drop (4 * n) out')) ys r (second-here ex ey)
+      two = second (second-here ex ey)
 
       sum : length (lms W s (inorder b.less) ++ lms W s (inorder b.other)) ≡ length (lms W s (inorder b.less)) + length (lms W s (inorder b.other))
       sum = length-append (lms W s (inorder b.less)) (lms W s (inorder b.other))
 
       pub branch-below : Below W s k lo out (put_mid (4 * n) (length out' - 4 * n) out' ys) (n + r) h
       branch-below =
-          let e = all W s R k lo (length out) h b in
+          let e = all R h b in
           record {
             long = omega (arith, one.long, two.long, sum, ap length e);
             bytes = behind out out' (lms W s (inorder b.less)) (lms W s (inorder b.other)) ys n (length out' - 4 * n) one.bytes one.long refl (omega (arith, sum, b.fits)) two.bytes

@@ -1,5 +1,5 @@
 -- The listing of a whole image. Assumes nothing.
-use mathlib.Core.Path.{◌≡◌, sym, ap, ◌∙◌, subst}
+use mathlib.Core.Path.{◌≡◌, refl, sym, ap, ◌∙◌, subst}
 use mathlib.Core.List.{List}
 use Prim.Native.Nat.{ℕ, ◌*◌, ◌≤◌}
 use native.Mathlib.Omega.{arith}
@@ -31,7 +31,7 @@ module _ (bs : List ℕ) (st : State) (I : Is st bs) where
     rows = λ k e h. of.row_small bs st I (code-ratio st.kind k) e h;
   }
 
-  pub all_listed : lms (words bs) (shape_of st) (inorder st.tree) ≡ listing st
+  all_listed : lms (words bs) (shape_of st) (inorder st.tree) ≡ listing st
   all_listed =
       at-ext (lm_in (words bs) (shape_of st)) (λ e. (entry_at st.entries e).lm) (inorder st.tree)
       (λ i h. (of.entry-is bs st I _ (once-below (inorder st.tree) (length st.entries) I.valid.once _ (get_in (inorder st.tree) i h))).lm-is)
@@ -39,27 +39,21 @@ module _ (bs : List ℕ) (st : State) (I : Is st bs) where
   in-places : entries_from (words bs) (shape_of st) 0 (length st.entries) ≡ inorder st.tree
   in-places = rw (← I.valid.size) (of.stands bs st I).perm
 
-  pub long_as : (r : ℕ) → r ≡ length (lms (words bs) (shape_of st) (entries_from (words bs) (shape_of st) 0 (length st.entries))) → r ≡ length (listing st)
-  long_as r e = e ∙ ap (λ (es : List ℕ). length (lms (words bs) (shape_of st) es)) in-places ∙ ap length all_listed
+  abbrev whole-here : (room : ℕ) → 4 * length (listing st) ≤ room → Here (words bs) (shape_of st) 0 0 room
+  whole-here room h = record { tree = st.tree; is = of.tree_is bs st I; inside = omega arith; few = omega (arith, I.valid.size); fits = rw all_listed h }
 
-  abbrev pub here : (room : ℕ) → 4 * length (listing st) ≤ room → Here (words bs) (shape_of st) 0 0 room
-  here room h = record { tree = st.tree; is = of.tree_is bs st I; inside = omega arith; few = omega (arith, I.valid.size); fits = rw all_listed h }
-
-  pub written_as : (out out' : List ℕ) (r : ℕ) → 4 * length (listing st) ≤ length out
-      → ((h : Here (words bs) (shape_of st) 0 0 (length out)) → Below (words bs) (shape_of st) 0 0 out out' r h) → out' ≡ paste_w out 0 (listing st)
-  written_as out out' r h f = (f (here (length out) h)).bytes ∙ ap (paste_w out 0) all_listed
-
--- by a shape that is the state's
-module _ (bs : List ℕ) (s : Shape) (st : State) (I : Is st bs) (e : s ≡ shape_of st) where
+-- the same by a shape that is the state's: its listing is as long as the words of all entries, and what is written from the root on
+pub record Whole (bs : List ℕ) (st : State) (s : Shape) : Type 0 where
   pub ready_at : Ready (words bs) s
-  ready_at = subst (λ (x : Shape). Ready (words bs) x) (sym e) (ready bs st I)
-
-  pub here-at : (room : ℕ) → 4 * length (listing st) ≤ room → Here (words bs) s 0 0 room
-  here-at room h = subst (λ (x : Shape). Here (words bs) x 0 0 room) (sym e) (here bs st I room h)
-
-  pub long-at : (r : ℕ) → r ≡ length (lms (words bs) s (entries_from (words bs) s 0 s.entries)) → r ≡ length (listing st)
-  long-at r er = long_as bs st I r (subst (λ (x : Shape). r ≡ length (lms (words bs) x (entries_from (words bs) x 0 x.entries))) e er)
-
-  pub written_at : (out out' : List ℕ) (r : ℕ) → 4 * length (listing st) ≤ length out → ((h : Here (words bs) s 0 0 (length out)) → Below (words bs) s 0 0 out out' r h)
+  pub here : (room : ℕ) → 4 * length (listing st) ≤ room → Here (words bs) s 0 0 room
+  pub long : length (lms (words bs) s (entries_from (words bs) s 0 s.entries)) ≡ length (listing st)
+  pub written : (out out' : List ℕ) (r : ℕ) → 4 * length (listing st) ≤ length out → ((h : Here (words bs) s 0 0 (length out)) → Below (words bs) s 0 0 out out' r h)
       → out' ≡ paste_w out 0 (listing st)
-  written_at out out' r h f = written_as bs st I out out' r h (subst (λ (x : Shape). (h : Here (words bs) x 0 0 (length out)) → Below (words bs) x 0 0 out out' r h) e f)
+
+pub whole : (bs : List ℕ) (st : State) (s : Shape) → Is st bs → s ≡ shape_of st → Whole bs st s
+whole bs st s I e = subst (Whole bs st) (sym e) (record {
+  ready_at = ready bs st I;
+  here = whole-here bs st I;
+  long = rw (in-places bs st I, all_listed bs st I) refl;
+  written = λ out out' r h f. (f (whole-here bs st I (length out) h)).bytes ∙ ap (paste_w out 0) (all_listed bs st I);
+})

@@ -32,25 +32,25 @@ record Two (W : List ℕ) (m a b : ℕ) : Type 0 where
   two : Canonical 1 64 (held W m b)
   fits : length (result_words Gcd (held W m a) (held W m b)) ≤ 65
 
-both : (a : Start) → Two (words a.args.image.now) a.args.s.variables a.args.a a.args.b
+both : (a : Start) → Two (words a.args.image.now.bytes.now) a.args.image.now.shape.variables a.args.a a.args.b
 both a =
-    let W = words a.args.image.now in
-    let m = a.args.s.variables in
-    let one = held-good W m a.args.a a.requires.ready.range.vars-to a.requires.slots.one in
-    let two = held-good W m a.args.b a.requires.ready.range.vars-to a.requires.slots.two in
+    let W = words a.args.image.now.bytes.now in
+    let m = a.args.image.now.shape.variables in
+    let one = held-good W m a.args.a a.args.image.now.ready.range.vars-to a.requires.slots.one in
+    let two = held-good W m a.args.b a.args.image.now.ready.range.vars-to a.requires.slots.two in
     record { one = one; two = two; fits = gcd-fits (held W m a.args.a) (held W m a.args.b) one two }
 
 -- what the call made of them
-made-length : (c : After-gcd-e) → Two (words c.args.image.now) c.args.s.variables c.args.a c.args.b
-    → c.gcd-e.result ≡ length (result_words Gcd (held (words c.args.image.now) c.args.s.variables c.args.a) (held (words c.args.image.now) c.args.s.variables c.args.b))
+made-length : (c : After-gcd-e) → Two (words c.args.image.now.bytes.now) c.args.image.now.shape.variables c.args.a c.args.b
+    → c.gcd-e.result ≡ length (result_words Gcd (held (words c.args.image.now.bytes.now) c.args.image.now.shape.variables c.args.a) (held (words c.args.image.now.bytes.now) c.args.image.now.shape.variables c.args.b))
 made-length c t = rw (c.monomial_in.ensures.is, c.monomial_in-2.ensures.is, first-whole t.one, first-whole t.two) at c.gcd-e.ensures.value
 
-made : (c : After-gcd-e) → Two (words c.args.image.now) c.args.s.variables c.args.a c.args.b
+made : (c : After-gcd-e) → Two (words c.args.image.now.bytes.now) c.args.image.now.shape.variables c.args.a c.args.b
     → words (take (4 * c.gcd-e.result) c.gcd-e.new.out)
-    ≡ result_words Gcd (held (words c.args.image.now) c.args.s.variables c.args.a) (held (words c.args.image.now) c.args.s.variables c.args.b)
+    ≡ result_words Gcd (held (words c.args.image.now.bytes.now) c.args.image.now.shape.variables c.args.a) (held (words c.args.image.now.bytes.now) c.args.image.now.shape.variables c.args.b)
 made c t =
-    let A = held (words c.args.image.now) c.args.s.variables c.args.a in
-    let B = held (words c.args.image.now) c.args.s.variables c.args.b in
+    let A = held (words c.args.image.now.bytes.now) c.args.image.now.shape.variables c.args.a in
+    let B = held (words c.args.image.now.bytes.now) c.args.image.now.shape.variables c.args.b in
     let written = rw (c.monomial_in.ensures.is, c.monomial_in-2.ensures.is, first-whole t.one, first-whole t.two) at c.gcd-e.ensures.out_after in
     ap (λ (l : List ℕ). words (take (4 * c.gcd-e.result) l)) written
     ∙ front-pasted _ (result_words Gcd A B) c.gcd-e.result (gcd-small A B t.one t.two) (made-length c t)
@@ -82,8 +82,7 @@ slice_bounds-node_ok-end c =
 pub node_ok-requires : goal.node_ok-requires
 node_ok-requires c =
     let t = both (goal.at.node_ok-requires c).Start in
-    let good = slots-gcd (words c.args.image.now) c.args.s.variables c.args.a c.args.b c.requires.ready.range.vars-to c.requires.slots in record {
-      ready = c.requires.ready;
+    let good = slots-gcd (words c.args.image.now.bytes.now) c.args.image.now.shape.variables c.args.a c.args.b c.args.image.now.ready.range.vars-to c.requires.slots in record {
       variables_in_bounds = c.requires.variables_in_bounds;
       canonical = rw (made (goal.at.node_ok-requires c).After-gcd-e t) good;
     }

@@ -17,34 +17,34 @@ use Rattle.index_walk.proofs.+walk.Goals as goal
 
 -- ---- what is known at the places of the walk
 -- the numbers of the header are small
-numbers : {t : ℕ} (a : Start t) → (a.args.s.nodes ≤ 8191) × (a.args.s.entries ≤ 4096)
+numbers : {t : ℕ} (a : Start t) → (a.args.image.now.shape.nodes ≤ 8191) × (a.args.image.now.shape.entries ≤ 4096)
 numbers a =
-    let r = a.requires.ready.range in
+    let r = a.args.image.now.ready.range in
     (omega (arith, r.nodes-to, r.cap-to), omega (arith, r.few, r.cap-to))
 
 -- the row lies within the image
-room : {t : ℕ} (c : After-node_at-at t) → 4 * (c.node_at-at.result + at.node_width c.args.s.variables) ≤ length c.args.image.now
+room : {t : ℕ} (c : After-node_at-at t) → 4 * (c.node_at-at.result + at.node_width c.args.image.now.shape.variables) ≤ length c.args.image.now.bytes.now
 room c =
-    let fits = node-room c.args.image.now c.args.s c.requires.ready c.args.k (omega (arith, c.if-s-k.false)) in
+    let fits = node-room c.args.image.now.bytes.now c.args.image.now.shape c.args.image.now.ready c.args.k (omega (arith, c.if-image-k.false)) in
     omega (arith, fits, c.node_at-at.ensures)
 
 -- its number of entries, its tag and its key
-row : {t : ℕ} (c : After-get-c t) → Row c.requires.ready (words c.args.hi.now) c.args.ll c.args.lh c.args.k c.args.lo
+row : {t : ℕ} (c : After-get-c t) → Row c.args.image.now.ready (words c.args.hi.now) c.args.labels.start c.args.labels.end c.args.k c.args.lo
     c.args.avail c.get-c.result
 row c =
     record { places = c.requires.k_le_nodes.1; count = rw c.node_at-at.ensures at c.get-c.ensures }
 
-tagged : {t : ℕ} (c : After-get t) → Row c.requires.ready (words c.args.hi.now) c.args.ll c.args.lh c.args.k c.args.lo c.args.avail c.get-c.result → Tagged c.requires.ready (words c.args.hi.now) c.args.ll c.args.lh c.args.k c.args.lo c.args.avail c.get-c.result c.get.result
-tagged c r = record { row = r; used = omega (arith, c.if-s-k.false); fits = omega (arith, c.if-avail-c.false); tag_is = rw c.node_at-at.ensures at c.get.ensures }
+tagged : {t : ℕ} (c : After-get t) → Row c.args.image.now.ready (words c.args.hi.now) c.args.labels.start c.args.labels.end c.args.k c.args.lo c.args.avail c.get-c.result → Tagged c.args.image.now.ready (words c.args.hi.now) c.args.labels.start c.args.labels.end c.args.k c.args.lo c.args.avail c.get-c.result c.get.result
+tagged c r = record { row = r; used = omega (arith, c.if-image-k.false); fits = omega (arith, c.if-avail-c.false); tag_is = rw c.node_at-at.ensures at c.get.ensures }
 
-keyed : {t : ℕ} (c : Else-not-key_ok t) → KeyIn (words c.args.image.now) c.args.s c.node_at-at.result
+keyed : {t : ℕ} (c : Else-not-key_ok t) → KeyIn (words c.args.image.now.bytes.now) c.args.image.now.shape c.node_at-at.result
 keyed c = passed c.key_ok.result c.key_ok.ensures c.if-not-key_ok.false
 
 -- the bounds of the less side, which are put back behind it
-bounds : {t : ℕ} (c : After-exchange-old t) → Uppers c.args.s.variables c.exchange-old.new.hi
+bounds : {t : ℕ} (c : After-exchange-old t) → Uppers c.args.image.now.shape.variables c.exchange-old.new.hi
 bounds c =
     let sides = c.sides-b in
-    uppers-put c.args.s.variables c.args.hi.now c.requires.uppers sides.result.variable sides.result.power
+    uppers-put c.args.image.now.shape.variables c.args.hi.now c.requires.uppers sides.result.variable sides.result.power
     sides.ensures.known sides.ensures.small sides.ensures.some c.exchange-old.new.hi c.exchange-old.ensures.hi_after
 
 kept : {t : ℕ} (c : After-slice_known-4-1 t) → c.put.new.s ≡ c.args.hi.now
@@ -53,18 +53,18 @@ kept c =
     let exchange = c.exchange-old in
     let walk = c.walk-less in
     let put = c.put in
-    put_back c.args.s.variables c.args.hi.now c.requires.uppers sides.result.variable sides.result.power
+    put_back c.args.image.now.shape.variables c.args.hi.now c.requires.uppers sides.result.variable sides.result.power
     sides.ensures.known sides.ensures.small
     (λ i. omega (arith, c.slice_known-1.given i)) walk.new.hi put.new.s
     exchange.result (λ i. omega (arith, c.type_inv.hi i)) (walk.ensures.hi_unchanged ∙ exchange.ensures.hi_after) exchange.ensures.value put.ensures
 
 -- the less side was walked
-less : {t : ℕ} (c : After-walk-less t) → Tagged c.requires.ready (words c.args.hi.now) c.args.ll c.args.lh c.args.k c.args.lo c.args.avail c.get-c.result c.get.result → KeyIn (words c.args.image.now) c.args.s c.node_at-at.result
-    → Less c.requires.ready (words c.args.hi.now) c.args.ll c.args.lh c.args.k c.args.lo c.args.avail c.get-c.result c.get.result c.sides-b.result c.walk-less.result
+less : {t : ℕ} (c : After-walk-less t) → Tagged c.args.image.now.ready (words c.args.hi.now) c.args.labels.start c.args.labels.end c.args.k c.args.lo c.args.avail c.get-c.result c.get.result → KeyIn (words c.args.image.now.bytes.now) c.args.image.now.shape c.node_at-at.result
+    → Less c.args.image.now.ready (words c.args.hi.now) c.args.labels.start c.args.labels.end c.args.k c.args.lo c.args.avail c.get-c.result c.get.result c.sides-b.result c.walk-less.result
 less c g k =
     let sides = c.sides-b in
     let exchange = c.exchange-old in
-    let put = words-put c.args.s.variables c.args.hi.now c.requires.uppers sides.result.variable sides.result.power
+    let put = words-put c.args.image.now.shape.variables c.args.hi.now c.requires.uppers sides.result.variable sides.result.power
     sides.ensures.known sides.ensures.small exchange.new.hi exchange.ensures.hi_after in
     record {
       tagged = g;
@@ -75,26 +75,26 @@ less c g k =
     }
 
 -- it has a tree, so its numbers are known
-one : {t : ℕ} (c : In_ok-t t) (l : Less c.requires.ready (words c.args.hi.now) c.args.ll c.args.lh c.args.k c.args.lo c.args.avail c.get-c.result c.get.result c.sides-b.result c.walk-less.result)
-    → One c.requires.ready l c.in_ok-t.was
-one c l = one-is c.requires.ready l c.in_ok-t.was
+one : {t : ℕ} (c : In_ok-t t) (l : Less c.args.image.now.ready (words c.args.hi.now) c.args.labels.start c.args.labels.end c.args.k c.args.lo c.args.avail c.get-c.result c.get.result c.sides-b.result c.walk-less.result)
+    → One c.args.image.now.ready l c.in_ok-t.was
+one c l = one-is c.args.image.now.ready l c.in_ok-t.was
 
 -- the count that is read again is the same
-count_same : {t : ℕ} (c : After-count_at-all t) → Row c.requires.ready (words c.args.hi.now) c.args.ll c.args.lh c.args.k c.args.lo c.args.avail c.get-c.result → c.count_at-all.result ≡ c.get-c.result
+count_same : {t : ℕ} (c : After-count_at-all t) → Row c.args.image.now.ready (words c.args.hi.now) c.args.labels.start c.args.labels.end c.args.k c.args.lo c.args.avail c.get-c.result → c.count_at-all.result ≡ c.get-c.result
 count_same c r = c.count_at-all.ensures ∙ sym r.count
 
 -- the other side was walked
 other : {t : ℕ} (c : After-walk t) → c.put.new.s ≡ c.args.hi.now → c.count_at-all.result ≡ c.get-c.result
-    → Walked (words c.args.image.now) c.args.s (words c.args.hi.now) c.sides-b.result.other c.args.lh (c.args.k + 1 + c.in_ok-t.t) (c.args.lo + c.count_behind-ca.result) (c.get-c.result - c.count_behind-ca.result) c.walk.result
+    → Walked (words c.args.image.now.bytes.now) c.args.image.now.shape (words c.args.hi.now) c.sides-b.result.other.start c.sides-b.result.other.end (c.args.k + 1 + c.in_ok-t.t) (c.args.lo + c.count_behind-ca.result) (c.get-c.result - c.count_behind-ca.result) c.walk.result
 other c k n = rw k at (rw n at c.walk.ensures.walked)
 
-two : {t : ℕ} (c : In_ok-w t) (l : Less c.requires.ready (words c.args.hi.now) c.args.ll c.args.lh c.args.k c.args.lo c.args.avail c.get-c.result c.get.result c.sides-b.result c.walk-less.result)
-    (o : Walked (words c.args.image.now) c.args.s (words c.args.hi.now) c.sides-b.result.other c.args.lh (c.args.k + 1 + c.in_ok-t.t) (c.args.lo + c.count_behind-ca.result) (c.get-c.result - c.count_behind-ca.result) c.walk.result)
-    → Two c.requires.ready l c.in_ok-t.was c.count_behind-ca.ensures o c.in_ok-w.was
-two c l o = two_is c.requires.ready l c.in_ok-t.was c.count_behind-ca.ensures o c.in_ok-w.was
+two : {t : ℕ} (c : In_ok-w t) (l : Less c.args.image.now.ready (words c.args.hi.now) c.args.labels.start c.args.labels.end c.args.k c.args.lo c.args.avail c.get-c.result c.get.result c.sides-b.result c.walk-less.result)
+    (o : Walked (words c.args.image.now.bytes.now) c.args.image.now.shape (words c.args.hi.now) c.sides-b.result.other.start c.sides-b.result.other.end (c.args.k + 1 + c.in_ok-t.t) (c.args.lo + c.count_behind-ca.result) (c.get-c.result - c.count_behind-ca.result) c.walk.result)
+    → Two c.args.image.now.ready l c.in_ok-t.was c.count_behind-ca.ensures o c.in_ok-w.was
+two c l o = two_is c.args.image.now.ready l c.in_ok-t.was c.count_behind-ca.ensures o c.in_ok-w.was
 
-pub returns-then-s-k : goal.returns-then-s-k
-returns-then-s-k t c = record { walked = no_row c.requires.ready c.if-s-k.true; hi_unchanged = refl }
+pub returns-then-image-k : goal.returns-then-image-k
+returns-then-image-k t c = record { walked = no_row c.args.image.now.ready c.if-image-k.true; hi_unchanged = refl }
 
 pub get-c-requires : goal.get-c-requires
 get-c-requires t c = omega (arith, room (goal.at.get-c-requires t c).After-node_at-at)
@@ -103,60 +103,50 @@ pub get-requires : goal.get-requires
 get-requires t c = omega (arith, room (goal.at.get-requires t c).After-node_at-at)
 
 pub returns-then-avail-c : goal.returns-then-avail-c
-returns-then-avail-c t c = record { walked = too_many c.requires.ready (row (goal.at.returns-then-avail-c t c).After-get-c) c.if-avail-c.true; hi_unchanged = refl }
+returns-then-avail-c t c = record { walked = too_many c.args.image.now.ready (row (goal.at.returns-then-avail-c t c).After-get-c) c.if-avail-c.true; hi_unchanged = refl }
 
 pub leaf_ok-requires : goal.leaf_ok-requires
-leaf_ok-requires t c = record { ready = c.requires.ready; uppers = c.requires.uppers; variables_in_bounds = room (goal.at.leaf_ok-requires t c).After-node_at-at; c_bound = omega (arith, c.requires.k_le_nodes.1, c.if-avail-c.false) }
+leaf_ok-requires t c = record { uppers = c.requires.uppers; variables_in_bounds = room (goal.at.leaf_ok-requires t c).After-node_at-at; c_bound = omega (arith, c.requires.k_le_nodes.1, c.if-avail-c.false) }
 
 pub returns-then-leaf_ok : goal.returns-then-leaf_ok
 returns-then-leaf_ok t c =
     let Node-at = c.node_at-at in
-    let ok = rw Node-at.ensures at (c.leaf_ok.ensures.0 c.if-leaf_ok.true) in record { walked = a-leaf c.requires.ready (tagged (goal.at.returns-then-leaf_ok t c).After-get (row (goal.at.returns-then-leaf_ok t c).After-get-c)) c.if-get-eq0.true ok; hi_unchanged = refl }
+    let ok = rw Node-at.ensures at (c.leaf_ok.ensures.0 c.if-leaf_ok.true) in record { walked = a-leaf c.args.image.now.ready (tagged (goal.at.returns-then-leaf_ok t c).After-get (row (goal.at.returns-then-leaf_ok t c).After-get-c)) c.if-get-eq0.true ok; hi_unchanged = refl }
 
 pub returns-then-get-eq0 : goal.returns-then-get-eq0
 returns-then-get-eq0 t c =
     let Node-at = c.node_at-at in record {
-      walked = no-leaf c.requires.ready (tagged (goal.at.returns-then-get-eq0 t c).After-get (row (goal.at.returns-then-get-eq0 t c).After-get-c)) c.if-get-eq0.true
+      walked = no-leaf c.args.image.now.ready (tagged (goal.at.returns-then-get-eq0 t c).After-get (row (goal.at.returns-then-get-eq0 t c).After-get-c)) c.if-get-eq0.true
           (λ o. never (sym c.if-leaf_ok.false ∙ c.leaf_ok.ensures.1 (rw Node-at.ensures o)));
       hi_unchanged = refl;
     }
 
 pub key_ok-requires : goal.key_ok-requires
-key_ok-requires t c = record { in_range = c.requires.ready.range; at_in_bounds = omega (arith, room (goal.at.key_ok-requires t c).After-node_at-at) }
+key_ok-requires t c = record { in_range = c.args.image.now.ready.range; at_in_bounds = omega (arith, room (goal.at.key_ok-requires t c).After-node_at-at) }
 
 pub returns-then-not-key_ok : goal.returns-then-not-key_ok
 returns-then-not-key_ok t c =
     let Node-at = c.node_at-at in
     let key-ok = c.key_ok in record {
-      walked = no_key c.requires.ready (tagged (goal.at.returns-then-not-key_ok t c).After-get (row (goal.at.returns-then-not-key_ok t c).After-get-c)) c.if-get-eq0.false
+      walked = no_key c.args.image.now.ready (tagged (goal.at.returns-then-not-key_ok t c).After-get (row (goal.at.returns-then-not-key_ok t c).After-get-c)) c.if-get-eq0.false
           (λ o. failed key-ok.result key-ok.ensures c.if-not-key_ok.true (rw Node-at.ensures o));
       hi_unchanged = refl;
     }
 
 pub sides-b-requires : goal.sides-b-requires
-sides-b-requires t c = record { ready = c.requires.ready; uppers = c.requires.uppers; at_in_bounds = omega (arith, room (goal.at.sides-b-requires t c).After-node_at-at); key_in = keyed (goal.at.sides-b-requires t c).Else-not-key_ok }
+sides-b-requires t c = record { uppers = c.requires.uppers; at_in_bounds = omega (arith, room (goal.at.sides-b-requires t c).After-node_at-at); key_in = keyed (goal.at.sides-b-requires t c).Else-not-key_ok }
 
 pub walk-less-requires : goal.walk-less-requires
 walk-less-requires t c =
     let get = c.get-c in
     let if2 = c.if-avail-c in (
       omega (arith, c.decreases, if2.false, (keyed (goal.at.walk-less-requires t c).Else-not-key_ok).two, get.ensures),
-      (
-        c.requires.ready,
-        (
-          bounds (goal.at.walk-less-requires t c).After-exchange-old,
-          (
-            omega (arith, c.if-s-k.false),
-            omega
-                (arith, c.requires.k_le_nodes.1, if2.false),
-          ),
-        ),
-      ),
+      (bounds (goal.at.walk-less-requires t c).After-exchange-old, (omega (arith, c.if-image-k.false), omega (arith, c.requires.k_le_nodes.1, if2.false))),
     )
 
 pub returns-in_err-t : goal.returns-in_err-t
 returns-in_err-t t c = record {
-  walked = rw c.from_residual.ensures (no-first c.requires.ready
+  walked = rw c.from_residual.ensures (no-first c.args.image.now.ready
       (less (goal.at.returns-in_err-t t c).After-walk-less (tagged (goal.at.returns-in_err-t t c).After-get (row (goal.at.returns-in_err-t t c).After-get-c)) (keyed (goal.at.returns-in_err-t t c).Else-not-key_ok)) c.in_err-t.was);
   hi_unchanged = kept (goal.at.returns-in_err-t t c).After-slice_known-4-1;
 }
@@ -165,11 +155,11 @@ pub count_behind-ca-requires : goal.count_behind-ca-requires
 count_behind-ca-requires t c =
     let n = one (goal.at.count_behind-ca-requires t c).In_ok-t
     (less (goal.at.count_behind-ca-requires t c).After-walk-less (tagged (goal.at.count_behind-ca-requires t c).After-get (row (goal.at.count_behind-ca-requires t c).After-get-c)) (keyed (goal.at.count_behind-ca-requires t c).Else-not-key_ok)) in
-    record { ready = c.requires.ready; k_bound = (omega (arith, n.some, n.inside), c.node_at-at.ensures) }
+    (omega (arith, n.some, n.inside), c.node_at-at.ensures)
 
 pub returns-then-ca-eq0 : goal.returns-then-ca-eq0
 returns-then-ca-eq0 t c =
-    let less-entries = no_less c.requires.ready
+    let less-entries = no_less c.args.image.now.ready
     (less (goal.at.returns-then-ca-eq0 t c).After-walk-less (tagged (goal.at.returns-then-ca-eq0 t c).After-get (row (goal.at.returns-then-ca-eq0 t c).After-get-c)) (keyed (goal.at.returns-then-ca-eq0 t c).Else-not-key_ok)) c.in_ok-t.was c.count_behind-ca.ensures c.if-ca-eq0.true in record { walked = less-entries; hi_unchanged = kept (goal.at.returns-then-ca-eq0 t c).After-slice_known-4-1 }
 
 pub overflow_add-lo : goal.overflow_add-lo
@@ -201,23 +191,14 @@ walk-requires t c =
     let count-behind = c.count_behind-ca in
     let if7 = c.if-ca-eq0 in (
       omega (arith, count_same (goal.at.walk-requires t c).After-count_at-all (row (goal.at.walk-requires t c).After-get-c), c.decreases, if2.false, (keyed (goal.at.walk-requires t c).Else-not-key_ok).two, c.get-c.ensures, if7.false),
-      (
-        c.requires.ready,
-        (
-          rw (kept (goal.at.walk-requires t c).After-slice_known-4-1) c.requires.uppers,
-          (
-            Numbers-of.inside,
-            omega (arith, count_same (goal.at.walk-requires t c).After-count_at-all (row (goal.at.walk-requires t c).After-get-c), Numbers-of.few, count-behind.ensures, c.requires.k_le_nodes.1, if2.false),
-          ),
-        ),
-      ),
+      (rw (kept (goal.at.walk-requires t c).After-slice_known-4-1) c.requires.uppers, (Numbers-of.inside, omega (arith, count_same (goal.at.walk-requires t c).After-count_at-all (row (goal.at.walk-requires t c).After-get-c), Numbers-of.few, count-behind.ensures, c.requires.k_le_nodes.1, if2.false))),
     )
 
 pub returns-in_err-w : goal.returns-in_err-w
 returns-in_err-w t c =
     let found = less (goal.at.returns-in_err-w t c).After-walk-less (tagged (goal.at.returns-in_err-w t c).After-get (row (goal.at.returns-in_err-w t c).After-get-c)) (keyed (goal.at.returns-in_err-w t c).Else-not-key_ok) in
     let count-behind = c.count_behind-ca in record {
-      walked = rw c.from_residual-in_err-w.ensures (no_second c.requires.ready found c.in_ok-t.was count-behind.ensures
+      walked = rw c.from_residual-in_err-w.ensures (no_second c.args.image.now.ready found c.in_ok-t.was count-behind.ensures
           (other (goal.at.returns-in_err-w t c).After-walk (kept (goal.at.returns-in_err-w t c).After-slice_known-4-1) (count_same (goal.at.returns-in_err-w t c).After-count_at-all (row (goal.at.returns-in_err-w t c).After-get-c))) c.in_err-w.was);
       hi_unchanged = c.walk.ensures.hi_unchanged ∙ kept (goal.at.returns-in_err-w t c).After-slice_known-4-1;
     }
@@ -227,7 +208,7 @@ over_ok-requires t c =
     let Node-at = c.node_at-at in
     let both = two (goal.at.over_ok-requires t c).In_ok-w
     (less (goal.at.over_ok-requires t c).After-walk-less (tagged (goal.at.over_ok-requires t c).After-get (row (goal.at.over_ok-requires t c).After-get-c)) (keyed (goal.at.over_ok-requires t c).Else-not-key_ok))
-    (other (goal.at.over_ok-requires t c).After-walk (kept (goal.at.over_ok-requires t c).After-slice_known-4-1) (count_same (goal.at.over_ok-requires t c).After-count_at-all (row (goal.at.over_ok-requires t c).After-get-c))) in record { ready = c.requires.ready; t_bound = omega (arith, both.inside, both.some); key_in = rw Node-at.ensures at (keyed (goal.at.over_ok-requires t c).Else-not-key_ok); slots = both.slots }
+    (other (goal.at.over_ok-requires t c).After-walk (kept (goal.at.over_ok-requires t c).After-slice_known-4-1) (count_same (goal.at.over_ok-requires t c).After-count_at-all (row (goal.at.over_ok-requires t c).After-get-c))) in record { t_bound = omega (arith, both.inside, both.some); key_in = rw Node-at.ensures at (keyed (goal.at.over_ok-requires t c).Else-not-key_ok); slots = both.slots }
 
 pub overflow_add-result-then-over_ok : goal.overflow_add-result-then-over_ok
 overflow_add-result-then-over_ok t c =
@@ -244,7 +225,7 @@ returns-then-over_ok t c =
     let found = less (goal.at.returns-then-over_ok t c).After-walk-less (tagged (goal.at.returns-then-over_ok t c).After-get (row (goal.at.returns-then-over_ok t c).After-get-c)) (keyed (goal.at.returns-then-over_ok t c).Else-not-key_ok) in
     let count-behind = c.count_behind-ca in
     record {
-      walked = a-branch c.requires.ready found c.in_ok-t.was count-behind.ensures
+      walked = a-branch c.args.image.now.ready found c.in_ok-t.was count-behind.ensures
           (other (goal.at.returns-then-over_ok t c).After-walk (kept (goal.at.returns-then-over_ok t c).After-slice_known-4-1) (count_same (goal.at.returns-then-over_ok t c).After-count_at-all (row (goal.at.returns-then-over_ok t c).After-get-c))) c.in_ok-w.was
           (c.over_ok.ensures.0 c.if-over_ok.true);
       hi_unchanged = c.walk.ensures.hi_unchanged ∙ kept (goal.at.returns-then-over_ok t c).After-slice_known-4-1;
@@ -254,7 +235,7 @@ pub returns : goal.returns
 returns t c =
     let found = less (goal.at.returns t c).After-walk-less (tagged (goal.at.returns t c).After-get (row (goal.at.returns t c).After-get-c)) (keyed (goal.at.returns t c).Else-not-key_ok) in
     let count-behind = c.count_behind-ca in record {
-      walked = no-branch c.requires.ready found c.in_ok-t.was count-behind.ensures (other (goal.at.returns t c).After-walk (kept (goal.at.returns t c).After-slice_known-4-1) (count_same (goal.at.returns t c).After-count_at-all (row (goal.at.returns t c).After-get-c)))
+      walked = no-branch c.args.image.now.ready found c.in_ok-t.was count-behind.ensures (other (goal.at.returns t c).After-walk (kept (goal.at.returns t c).After-slice_known-4-1) (count_same (goal.at.returns t c).After-count_at-all (row (goal.at.returns t c).After-get-c)))
           (λ o. never (sym c.if-over_ok.false ∙ c.over_ok.ensures.1 o));
       hi_unchanged = c.walk.ensures.hi_unchanged ∙ kept (goal.at.returns t c).After-slice_known-4-1;
     }

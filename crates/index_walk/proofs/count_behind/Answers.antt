@@ -7,7 +7,7 @@ pub get-requires : goal.get-requires
 get-requires c =
     omega (
       arith,
-      node-room c.args.image.now c.args.s c.requires.ready (c.args.k + 1) c.requires.k_bound.0,
-      row-behind c.args.s c.args.k,
-      c.requires.k_bound.1,
+      node-room c.args.image.now.bytes.now c.args.image.now.shape c.args.image.now.ready (c.args.k + 1) c.requires.0,
+      row-behind c.args.image.now.shape c.args.k,
+      c.requires.1,
     )

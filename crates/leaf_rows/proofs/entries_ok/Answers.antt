@@ -12,29 +12,29 @@ pub get-e-requires : goal.get-e-requires
 get-e-requires c =
     omega (
       arith,
-      place-room c.args.image.now c.args.s c.requires.ready (c.args.lo + c.args.c) c.requires.c_bound,
+      place-room c.args.image.now.bytes.now c.args.image.now.shape c.args.image.now.ready (c.args.lo + c.args.c) c.requires.c_bound,
       c.permutation_at.ensures,
     )
 
 pub entry_ok-requires-clause-e_lt_entries : goal.entry_ok-requires-clause-e_lt_entries
 entry_ok-requires-clause-e_lt_entries c =
     let loop = c.loop-i in
-    let z : c.permutation_at.result + c.args.lo + loop.i ≡ at.permutation_at c.args.s + (c.args.lo + loop.i) = omega (arith, c.permutation_at.ensures) in
-    rw (c.get-e.ensures, z) (c.requires.ready.places (c.args.lo + loop.i) (omega arith))
+    let z : c.permutation_at.result + c.args.lo + loop.i ≡ at.permutation_at c.args.image.now.shape + (c.args.lo + loop.i) = omega (arith, c.permutation_at.ensures) in
+    rw (c.get-e.ensures, z) (c.args.image.now.ready.places (c.args.lo + loop.i) (omega arith))
 
 pub returns-then-not-entry_ok : goal.returns-then-not-entry_ok
 returns-then-not-entry_ok c =
     refuse
-    (not-bounded (words c.args.image.now) c.args.s (words c.args.hi.now) c.args.ll c.args.lh
-    (at.permutation_at c.args.s + c.args.lo) c.args.c c.loop-i.i
-    (omega (arith, place-fits (words c.args.image.now) c.args.s c.requires.ready (c.args.lo + c.args.c) c.requires.c_bound))
+    (not-bounded (words c.args.image.now.bytes.now) c.args.image.now.shape (words c.args.hi.now) c.args.labels.now.start c.args.labels.now.end
+    (at.permutation_at c.args.image.now.shape + c.args.lo) c.args.c c.loop-i.i
+    (omega (arith, place-fits (words c.args.image.now.bytes.now) c.args.image.now.shape c.args.image.now.ready (c.args.lo + c.args.c) c.requires.c_bound))
     c.loop-i-test.true
     (λ h. failed c.entry_ok.result c.entry_ok.ensures c.if-not-entry_ok.true (rw (c.get-e.ensures, c.permutation_at.ensures) h)))
 
 pub returns : goal.returns
 returns c =
     accept
-    ((bounded-part (words c.args.image.now) c.args.s (words c.args.hi.now) c.args.ll c.args.lh
-    (at.permutation_at c.args.s + c.args.lo) c.args.c
-    (omega (arith, place-fits (words c.args.image.now) c.args.s c.requires.ready (c.args.lo + c.args.c) c.requires.c_bound))).1
+    ((bounded-part (words c.args.image.now.bytes.now) c.args.image.now.shape (words c.args.hi.now) c.args.labels.now.start c.args.labels.now.end
+    (at.permutation_at c.args.image.now.shape + c.args.lo) c.args.c
+    (omega (arith, place-fits (words c.args.image.now.bytes.now) c.args.image.now.shape c.args.image.now.ready (c.args.lo + c.args.c) c.requires.c_bound))).1
     (λ k h. rw c.permutation_at.ensures at (c.loop-i.invariant.1 k (omega arith))))

@@ -9,8 +9,8 @@ use Rattle.leaf_rows.proofs.node_ok.Goals.{After-get}
 use Rattle.leaf_rows.proofs.node_ok.Goals as goal
 
 -- the mask of the gcd
-made : (c : After-get) → c.map-mask.result ≡ mask c.args.s.variables (map_maxima (words c.args.image.now) c.args.s) (pow 1 (words c.args.gcd.now))
-made c = rw c.map_of.ensures.is at c.map-mask.ensures ∙ mask-whole (map_maxima (words c.args.image.now) c.args.s) c.requires.canonical
+made : (c : After-get) → c.map-mask.result ≡ mask c.args.image.now.shape.variables (map_maxima (words c.args.image.now.bytes.now) c.args.image.now.shape) (pow 1 (words c.args.gcd.now))
+made c = rw (c.map.ensures.is, c.image.ensures.0, c.image.ensures.1) at c.map-mask.ensures ∙ mask-whole (map_maxima (words c.args.image.now.bytes.now) c.args.image.now.shape) c.requires.canonical
 
 pub returns-then-get-mask : goal.returns-then-get-mask
 returns-then-get-mask c = (

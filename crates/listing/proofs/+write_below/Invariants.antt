@@ -4,4 +4,4 @@ use Rattle.index_image.specs.Shape as at
 use Rattle.listing.proofs.+write_below.Given as goal
 
 abbrev pub decreases-write_below : goal.decreases-write_below
-decreases-write_below l = get_or (words l.image.now) (at.count_at (at.node_at l.s l.k)) 0
+decreases-write_below l = get_or (words l.image.now.bytes.now) (at.count_at (at.node_at l.image.now.shape l.k)) 0

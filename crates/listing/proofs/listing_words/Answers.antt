@@ -1,8 +1,9 @@
-use Rattle.listing.proofs.Wholes.{ready_at, long-at}
+use mathlib.Core.Path.{◌∙◌}
+use Rattle.listing.proofs.Wholes.{whole}
 use Rattle.listing.proofs.listing_words.Goals as goal
 
-pub words_of-requires : goal.words_of-requires
-words_of-requires c = ready_at c.args.image.now c.args.s c.requires.state c.requires.is c.requires.shape
+pub invariant_of-words_of : goal.invariant_of-words_of
+invariant_of-words_of c = record { ready = (whole c.args.image.now c.requires.state c.args.s c.requires.is c.requires.shape).ready_at }
 
 pub returns : goal.returns
-returns c = λ st i e. long-at c.args.image.now c.args.s st i e c.words_of.result c.words_of.ensures
+returns c = λ st i e. c.words_of.ensures ∙ (whole c.args.image.now st c.args.s i e).long
