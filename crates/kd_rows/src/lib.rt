@@ -6,6 +6,7 @@ ghost use Rattle.words.specs.Words.{words, paste_w};
 ghost use Rattle.index_image.specs.Walk as walk;
 ghost use Rattle.kd_rows.specs.Leaves.{leaf_words};
 
+use index_image::image::ReadyImage;
 use index_image::{Shape, fields};
 
 // The words of a row in front of its gcd.
@@ -26,14 +27,17 @@ pub fn write_leaf(image: &mut [u8], s: Shape, at: usize, lo: usize, c: usize)
     requires c_bound { (lo + c ≤ s.entries) × (4 * (at + (s.variables + 6)) ≤ length image.old) }
     ensures { image.new ≡ paste_w image.old at (leaf_words (words image.old) s lo c) }
 {
+    // No heap: room for the longest monomial, 64 variables and an end.
     let mut acc = [0u8; 260];
-    let n = index_image::stored::gcd_of(image, s, lo, c, &mut acc);
-    let e = 4 * n;
+    let ready = ReadyImage {
+        bytes: image,
+        shape: s,
+    };
+    let n = ready.gcd_of(lo, c, &mut acc);
+    let gcd = &acc[..4 * n];
     let m = s.variables;
-    let x = 4 * (fields::HEADER + m);
-    let y = x + 4 * m;
-    let mask = divmask::map(&image[x..y], m as u32, &acc[..e]);
+    let mask = divmask::map(ready.image().map(), m as u32, gcd);
     row_head(image, at, 0, 0, c as u32, 0, mask);
-    words::runs::paste(image, at + fields::GCD, &acc[..e]);
+    words::runs::paste(image, at + fields::GCD, gcd);
     words::runs::clear(image, at + fields::GCD + n, m + fields::SLOT - n);
 }

@@ -1,7 +1,7 @@
 -- How a leaf's entries are parted and the least label of a side is found, over the words of an image. Assumes nothing.
 use mathlib.Core.Path.{◌≡◌, refl, sym, ap, ◌∙◌}
-use mathlib.Core.Bool.{Bool, true, false, not, cond, beq}
-use mathlib.Core.List.{List, [], ◌∷◌, ◌++◌}
+use mathlib.Core.Bool.{Bool, true, false, not, cond}
+use mathlib.Core.List.{List, [], ◌∷◌, ◌++◌, append-nil}
 use Rattle.std.specs.Prelude.{Option, Some, None, IfSome, unwrap_or}
 use Prim.Native.Nat.{ℕ, zero, suc, ◌+◌, ◌-◌, ◌*◌, ◌≤◌, ◌<◌}
 use native.Mathlib.Omega.{arith}
@@ -14,7 +14,6 @@ use Rattle.words.proofs.Laws.{paste_w-nil, put_w-paste}
 use Rattle.words.proofs.Tables.{part-nil, part-add, paste_w-append}
 use Rattle.kd_theory.specs.Bag.{keep}
 use Rattle.kd_theory.specs.Bifurcate.{first_least}
-use Rattle.kd_theory.proofs.BagLaws.{keep-length}
 use Rattle.index_image.specs.Shape as at
 use Rattle.index_image.specs.Walk as walk
 use Rattle.index_image.specs.Walk.{power, label}
@@ -24,15 +23,15 @@ use Rattle.kd_dimension.specs.Choice.{key_by, key_in, least_place, mark_by, mark
 use Rattle.kd_sides.specs.Sides.{lower_of, on_side}
 use Rattle.kd_dimension.proofs.Choosing.{by-label, place}
 
-pub side-is : (pw : ℕ → ℕ → ℕ) (d x : ℕ) (want : Bool) (e p y : ℕ) → p ≡ pw d e → y ≡ x → beq (ltb p y) want ≡ on_side pw d x want e
-unfolding on_side
-side-is pw d x want e p y h z = rw (h, z) (same (ltb (pw d e) x) want)
-  where
-    same : (b w : Bool) → beq b w ≡ cond w b (not b)
-    same true true = refl
-    same true false = refl
-    same false true = refl
-    same false false = refl
+-- ---- the answers of the two tests
+module _ (pw : ℕ → ℕ → ℕ) (d x e : ℕ) where
+  pub less-says : ltb (pw d e) x ≡ on_side pw d x true e
+  unfolding on_side
+  less-says = refl
+
+  pub other-says : not (ltb (pw d e) x) ≡ on_side pw d x false e
+  unfolding on_side
+  other-says = refl
 
 -- ---- those on a side
 pub keep-joined : (p : ℕ → Bool) (xs ys : List ℕ) → keep p (xs ++ ys) ≡ keep p xs ++ keep p ys
@@ -45,26 +44,22 @@ keep-joined p (x ∷ xs) ys = go (p x) (keep-joined p xs ys)
     go true ih = rw ih refl
     go false ih = ih
 
-pub keep-most : (p : ℕ → Bool) (xs : List ℕ) → length (keep p xs) ≤ length xs
-keep-most p xs = omega (arith, keep-length p xs)
-
 keep_one : (p : ℕ → Bool) (e : ℕ) (b : Bool) → p e ≡ b → keep p (e ∷ []) ≡ cond b (e ∷ []) []
 unfolding keep
 keep_one p e true h = rw (h, keep) refl
 keep_one p e false h = rw (h, keep) refl
 
-pub record Gathered (W : List ℕ) (s : Shape) (p : ℕ → Bool) (lo i : ℕ) (out₀ out : List ℕ) (o n : ℕ) : Type 0 where
+pub record Gathering (W : List ℕ) (s : Shape) (p : ℕ → Bool) (lo i : ℕ) (out₀ out : List ℕ) (o n : ℕ) : Type 0 where
   pub count : n ≡ length (keep p (entries_from W s lo i))
-  pub few : n ≤ i
   pub long : length out ≡ length out₀
   pub bytes : out ≡ paste_w out₀ o (keep p (entries_from W s lo i))
 
 module _ (W : List ℕ) (s : Shape) (p : ℕ → Bool) (lo : ℕ) (out₀ : List ℕ) (o : ℕ) where
-  pub gather_none : Gathered W s p lo 0 out₀ out₀ o 0
+  pub gather_none : Gathering W s p lo 0 out₀ out₀ o 0
   unfolding keep
   gather_none =
       let e : entries_from W s lo 0 ≡ [] = part-nil W (at.permutation_at s + lo) in
-      record { count = rw e refl; few = omega arith; long = refl; bytes = rw e (sym (paste_w-nil out₀ o)) }
+      record { count = rw e refl; long = refl; bytes = rw e (sym (paste_w-nil out₀ o)) }
 
   -- those of the first entries are no more than those of all
   prefix : (i c : ℕ) → i ≤ c → length (keep p (entries_from W s lo i)) ≤ length (keep p (entries_from W s lo c))
@@ -75,42 +70,29 @@ module _ (W : List ℕ) (s : Shape) (p : ℕ → Bool) (lo : ℕ) (out₀ : List
       let k = ap (length {A = ℕ}) (ap (keep p) z ∙ keep-joined p (entries_from W s lo i) (part W (at.permutation_at s + lo + i) (c - i))) in
       omega (arith, k, length-append (keep p (entries_from W s lo i)) (keep p (part W (at.permutation_at s + lo + i) (c - i))))
 
-  gather_room : (c i e n : ℕ) (out : List ℕ) → walk.Ready W s → lo + c ≤ s.entries → i < c → (q : ℕ) → q ≡ at.permutation_at s → e ≡ get_or W (q + lo + i) 0
-      → Gathered W s p lo i out₀ out o n → 4 * (o + length (keep p (entries_from W s lo c))) ≤ length out₀ → 4 * (o + n + length (keep p (e ∷ []))) ≤ length out
-  gather_room c i e n out R hc hi q eq ee g hr =
-      let z = place W s R lo c i q e hc hi eq ee in
-      let k = ap (length {A = ℕ}) (ap (keep p) z.snoc ∙ keep-joined p (entries_from W s lo i) (e ∷ [])) in
-      omega (arith, k, length-append (keep p (entries_from W s lo i)) (keep p (e ∷ [])), prefix (i + 1) c (omega arith), g.count, g.long)
-
-  gather_more : (c i e n m : ℕ) (out out' : List ℕ) → walk.Ready W s → lo + c ≤ s.entries → i < c → (q : ℕ) → q ≡ at.permutation_at s → e ≡ get_or W (q + lo + i) 0
-      → Gathered W s p lo i out₀ out o n → m ≡ length (keep p (e ∷ [])) → 4 * (o + length (keep p (entries_from W s lo c))) ≤ length out₀ → length out' ≡ length out
-      → out' ≡ paste_w out (o + n) (keep p (e ∷ [])) → Gathered W s p lo (i + 1) out₀ out' o (n + m)
-  gather_more c i e n m out out' R hc hi q eq ee g em hr l w =
-      let z = place W s R lo c i q e hc hi eq ee in
-      let k : keep p (entries_from W s lo (i + 1)) ≡ keep p (entries_from W s lo i) ++ keep p (e ∷ []) = ap (keep p) z.snoc ∙ keep-joined p (entries_from W s lo i) (e ∷ []) in
-      record {
-        count = omega (arith, ap (length {A = ℕ}) k, length-append (keep p (entries_from W s lo i)) (keep p (e ∷ [])), g.count, em);
-        few = omega (arith, g.few, em, keep-most p (e ∷ []));
-        long = l ∙ g.long;
-        bytes = w ∙ rw (g.bytes, k) (paste_w-append out₀ o (keep p (entries_from W s lo i)) (o + n) (keep p (e ∷ [])) (omega (arith, g.count)) (omega (arith, g.count, prefix i c (omega arith))));
-      }
-
   module _ (c i e n : ℕ) (out : List ℕ) (R : walk.Ready W s) (hc : lo + c ≤ s.entries) (hi : i < c) (q : ℕ) (eq : q ≡ at.permutation_at s) (ee : e ≡ get_or W (q + lo + i) 0)
-      (g : Gathered W s p lo i out₀ out o n) (hr : 4 * (o + length (keep p (entries_from W s lo c))) ≤ length out₀) where
-    -- entry e is on the side: there is room for it, and it is written
-    pub gather-room : p e ≡ true → 4 * (o + n) + 4 ≤ length out
-    gather-room t = let z = ap (length {A = ℕ}) (keep_one p e true t) in omega (arith, gather_room c i e n out R hc hi q eq ee g hr, z)
+      (g : Gathering W s p lo i out₀ out o n) where
+    -- one entry more
+    next : (b : Bool) → p e ≡ b → keep p (entries_from W s lo (i + 1)) ≡ keep p (entries_from W s lo i) ++ cond b (e ∷ []) []
+    next b t = ap (keep p) (place W s R lo c i q e hc hi eq ee).snoc ∙ keep-joined p (entries_from W s lo i) (e ∷ []) ∙ rw (keep_one p e b t) refl
 
-    pub gather-taken : (out' : List ℕ) → p e ≡ true → length out' ≡ length out → out' ≡ put_w out (o + n) e → Gathered W s p lo (i + 1) out₀ out' o (n + 1)
-    gather-taken out' t l w =
-        let k = keep_one p e true t in
-        gather_more c i e n 1 out out' R hc hi q eq ee g (rw k refl) hr l (w ∙ put_w-paste out (o + n) e (gather-room t) ∙ rw k refl)
+    -- entry e is taken: there is room for it, and it is written
+    pub gather-room : p e ≡ true → 4 * (o + length (keep p (entries_from W s lo c))) ≤ length out₀ → 4 * (o + n) + 4 ≤ length out
+    gather-room t h =
+        let k = ap (length {A = ℕ}) (next true t) in
+        omega (arith, k, length-append (keep p (entries_from W s lo i)) (e ∷ []), prefix (i + 1) c (omega arith), g.count, g.long)
 
-    pub gather-left : p e ≡ false → Gathered W s p lo (i + 1) out₀ out o n
-    gather-left t =
-        let k = keep_one p e false t in
-        let z : n + 0 ≡ n = omega arith in
-        rw z at (gather_more c i e n 0 out out R hc hi q eq ee g (rw k refl) hr refl (rw k (sym (paste_w-nil out (o + n)))))
+    pub gather-taken : (out' : List ℕ) → p e ≡ true → 4 * (o + n) + 4 ≤ length out → length out' ≡ length out → out' ≡ put_w out (o + n) e → Gathering W s p lo (i + 1) out₀ out' o (n + 1)
+    gather-taken out' t room l w =
+        let k = next true t in
+        record {
+          count = omega (arith, ap (length {A = ℕ}) k, length-append (keep p (entries_from W s lo i)) (e ∷ []), g.count);
+          long = l ∙ g.long;
+          bytes = w ∙ put_w-paste out (o + n) e room ∙ rw (g.bytes, k) (paste_w-append out₀ o (keep p (entries_from W s lo i)) (o + n) (e ∷ []) (omega (arith, g.count)) (omega (arith, g.count, g.long, room)));
+        }
+
+    pub gather-left : p e ≡ false → Gathering W s p lo (i + 1) out₀ out o n
+    gather-left t = let k = next false t ∙ append-nil (keep p (entries_from W s lo i)) in record { count = rw k g.count; long = g.long; bytes = rw k g.bytes }
 
 -- ---- the first of least label
 least-snoc-place : (lb : ℕ → ℕ) (xs : List ℕ) (y : ℕ) → least_place lb (xs ++ (y ∷ [])) ≡ Some (lower_of lb y (least_place lb xs))
@@ -145,14 +127,10 @@ module _ (W : List ℕ) (s : Shape) (k : s.kind ≡ 1) (x lo : ℕ) where
       let kk : keep p (entries_from W s lo (i + 1)) ≡ keep p (entries_from W s lo i) ++ keep p (e ∷ []) = ap (keep p) z.snoc ∙ keep-joined p (entries_from W s lo i) (e ∷ []) in
       record { is = eb ∙ go (ltb (label W s e) x) refl ∙ ap (least_place (label W s)) (sym kk); small = l }
     where
-      none_more : (xs : List ℕ) → xs ++ [] ≡ xs
-      none_more [] = refl
-      none_more (y ∷ ys) = rw (none_more ys) refl
-
       go : (b : Bool) → ltb (label W s e) x ≡ b → cond b best (Some (lower_of (label W s) e best)) ≡ least_place (label W s) (keep p (entries_from W s lo i) ++ keep p (e ∷ []))
       go true h =
           let o : keep p (e ∷ []) ≡ [] = keep_one p e false (on-label e ∙ rw h refl) in
-          L.is ∙ ap (least_place (label W s)) (sym (rw o (none_more (keep p (entries_from W s lo i)))))
+          L.is ∙ ap (least_place (label W s)) (sym (rw o (append-nil (keep p (entries_from W s lo i)))))
       go false h =
           let o : keep p (e ∷ []) ≡ e ∷ [] = keep_one p e true (on-label e ∙ rw h refl) in
           rw (L.is, o) (sym (least-snoc-place (label W s) (keep p (entries_from W s lo i)) e))

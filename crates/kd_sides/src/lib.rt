@@ -1,50 +1,38 @@
 // The entries of a leaf of the k-d tree, parted into the two sides of a branch, and the key of that branch.
 #![tactic(auto)]
 
-ghost use Rattle.std.specs.Prelude.{◌≡◌, true, false, cond, Some, IfSome, ◌++◌, ◌+◌, ◌*◌, ◌<◌, ◌≤◌, ltb, length};
+ghost use Rattle.std.specs.Prelude.{◌≡◌, Bool, ℕ, false, cond, Some, IfSome, ◌++◌, ◌+◌, ◌*◌, ◌<◌, ◌≤◌, ltb, length};
 ghost use Rattle.words.specs.Words.{words, paste_w};
 ghost use Rattle.index_image.specs.Shape as at;
 ghost use Rattle.index_image.specs.Walk as walk;
 ghost use Rattle.index_image.specs.Rows.{entries_from};
 ghost use Rattle.kd_theory.specs.Bag.{keep};
 ghost use Rattle.kd_dimension.specs.Choice.{key_in, least_place, mark_in};
-ghost use Rattle.kd_sides.specs.Sides.{lower_of, on_side, lesses, others};
+ghost use Rattle.kd_sides.specs.Sides.{lower_of, on_side, lesses, others, Says, Takes, Gathered};
 
 use index_image::Shape;
+use index_image::image::ReadyImage;
+use kd_dimension::Average;
 
-// Whether entry e is on the side that is wanted: the less side, if `want` is true.
-fn wanted(image: &[u8], s: Shape, d: usize, x: u32, want: bool, e: usize) -> bool
-    requires ready { walk.Ready (words image.now) s }
-    requires d_bound { (d < walk.dims s) × (e < s.entries) }
-    ensures { result ≡ on_side (key_in (words image.now) s) d x want e }
-{
-    let below = kd_dimension::key_in(image, s, d, e) < u64::from(x);
-    below == want
-}
-
-// Writes those of the c entries from place lo on that are on the side wanted, in their order, from word `at` of `out` on. Returns how many they are.
-fn gather(
-    image: &[u8],
-    s: Shape,
-    d: usize,
-    x: u32,
-    want: bool,
+// Writes those of the c entries from place lo on that `on` takes, in their order, from word `at` of `out` on. Returns how many they are.
+fn gather<F: Fn(usize) -> bool>(
+    image: &ReadyImage<'_>,
     lo: usize,
     c: usize,
+    on: F,
     out: &mut [u8],
     at: usize,
 ) -> usize
-    requires ready { walk.Ready (words image.now) s }
-    requires d_bound { (d < walk.dims s) × (lo + c ≤ s.entries) }
-    requires c_in_bounds { 4 * (at + length (keep (on_side (key_in (words image.now) s) d x want) (entries_from (words image.now) s lo c))) ≤ length out.old }
-    ensures value { result ≡ length (keep (on_side (key_in (words image.now) s) d x want) (entries_from (words image.now) s lo c)) }
-    ensures out_after { out.new ≡ paste_w out.old at (keep (on_side (key_in (words image.now) s) d x want) (entries_from (words image.now) s lo c)) }
+    requires lo_bound { lo + c ≤ image.now.shape.entries }
+    requires asked { (e : ℕ) → e < image.now.shape.entries → F.pre on e }
+    requires taken { Takes (F.post on) image.now.shape.entries (entries_from (words image.now.bytes.now) image.now.shape lo c) at (length out.old) }
+    ensures { (p : ℕ → Bool) → Says (F.post on) image.now.shape.entries p → Gathered p (entries_from (words image.now.bytes.now) image.now.shape lo c) at out.old out.new result }
 {
-    let p = s.permutation_at() + lo;
+    let p = image.shape.permutation_at() + lo;
     let mut n = 0;
     for i in 0..c {
-        let e = words::get(image, p + i);
-        if wanted(image, s, d, x, want, e as usize) {
+        let e = words::get(image.bytes, p + i);
+        if on(e as usize) {
             words::put(out, at + n, e);
             n += 1;
         }
@@ -53,68 +41,66 @@ fn gather(
 }
 
 // Puts those of the c entries from place lo on that are on the less side first, each side in its order. Returns how many they are.
-pub fn part_entries(image: &mut [u8], s: Shape, d: usize, x: u32, lo: usize, c: usize) -> usize
+pub fn part_entries(image: &mut [u8], s: Shape, average: Average, lo: usize, c: usize) -> usize
     requires ready { walk.Ready (words image.old) s }
-    requires d_bound { (d < walk.dims s) × (lo + c ≤ s.entries) }
-    ensures value { result ≡ length (lesses (words image.old) s d x lo c) }
-    ensures image_after { image.new ≡ paste_w image.old (at.permutation_at s + lo) (lesses (words image.old) s d x lo c ++ others (words image.old) s d x lo c) }
+    requires d_bound { (average.dim < walk.dims s) × (lo + c ≤ s.entries) }
+    ensures value { result ≡ length (lesses (words image.old) s average.dim average.value lo c) }
+    ensures image_after { image.new ≡ paste_w image.old (at.permutation_at s + lo) (lesses (words image.old) s average.dim average.value lo c ++ others (words image.old) s average.dim average.value lo c) }
 {
+    // No heap: room for the entries of the largest index, 4,096 words.
     let mut scratch = [0u8; 16384];
-    let n = gather(image, s, d, x, true, lo, c, &mut scratch, 0);
-    let m = gather(image, s, d, x, false, lo, c, &mut scratch, n);
-    let e = 4 * (n + m);
-    words::runs::paste(image, s.permutation_at() + lo, &scratch[..e]);
+    let ready = ReadyImage {
+        bytes: image,
+        shape: s,
+    };
+    let less = |e| kd_dimension::key_in(&ready, average.dim, e) < u64::from(average.value);
+    let n = gather(&ready, lo, c, less, &mut scratch, 0);
+    let m = gather(&ready, lo, c, |e| !less(e), &mut scratch, n);
+    words::runs::paste(image, s.permutation_at() + lo, &scratch[..4 * (n + m)]);
     n
 }
 
 // Of entry e and the one so far the one of the lower label, if that of e is not below x.
-fn lower(image: &[u8], s: Shape, x: u32, e: usize, best: Option<usize>) -> Option<usize>
-    requires ready { walk.Ready (words image.now) s }
-    requires kind_value { (s.kind ≡ 1) × (e < s.entries) }
-    requires best_bound { IfSome best (λ b. b < s.entries) }
-    ensures value { result ≡ cond (ltb (walk.label (words image.now) s e) x) best (Some (lower_of (walk.label (words image.now) s) e best)) }
-    ensures bound { IfSome result (λ b. b < s.entries) }
+fn lower(image: &ReadyImage<'_>, x: u32, e: usize, best: Option<usize>) -> Option<usize>
+    requires kind_value { (image.now.shape.kind ≡ 1) × (e < image.now.shape.entries) }
+    requires best_bound { IfSome best (λ b. b < image.now.shape.entries) }
+    ensures value { result ≡ cond (ltb (walk.label (words image.now.bytes.now) image.now.shape e) x) best (Some (lower_of (walk.label (words image.now.bytes.now) image.now.shape) e best)) }
+    ensures bound { IfSome result (λ b. b < image.now.shape.entries) }
 {
-    let l = index_image::stored::label_in(image, s, e);
+    let l = image.label(e);
     if l < u64::from(x) {
         return best;
     }
     let Some(b) = best else {
         return Some(e);
     };
-    if l < index_image::stored::label_in(image, s, b) {
-        Some(e)
-    } else {
-        best
-    }
+    if l < image.label(b) { Some(e) } else { best }
 }
 
 // The first of least label among those of the c entries from place lo on whose label is not below x.
-fn first_least(image: &[u8], s: Shape, x: u32, lo: usize, c: usize) -> Option<usize>
-    requires ready { walk.Ready (words image.now) s }
-    requires kind_value { (s.kind ≡ 1) × (lo + c ≤ s.entries) }
-    ensures value { result ≡ least_place (walk.label (words image.now) s) (keep (on_side (key_in (words image.now) s) 0 x false) (entries_from (words image.now) s lo c)) }
-    ensures bound { IfSome result (λ e. e < s.entries) }
+fn first_least(image: &ReadyImage<'_>, x: u32, lo: usize, c: usize) -> Option<usize>
+    requires { (image.now.shape.kind ≡ 1) × (lo + c ≤ image.now.shape.entries) }
+    ensures value { result ≡ least_place (walk.label (words image.now.bytes.now) image.now.shape) (keep (on_side (key_in (words image.now.bytes.now) image.now.shape) 0 x false) (entries_from (words image.now.bytes.now) image.now.shape lo c)) }
+    ensures bound { IfSome result (λ e. e < image.now.shape.entries) }
 {
-    let p = s.permutation_at() + lo;
+    let p = image.shape.permutation_at() + lo;
     let mut best = None;
     for i in 0..c {
-        let e = words::get(image, p + i) as usize;
-        best = lower(image, s, x, e, best);
+        let e = words::get(image.bytes, p + i) as usize;
+        best = lower(image, x, e, best);
     }
     best
 }
 
-// The key of a branch that parts the c entries from place lo on in dimension d at x.
-pub fn mark(image: &[u8], s: Shape, d: usize, x: u32, lo: usize, c: usize) -> u32
-    requires ready { walk.Ready (words image.now) s }
-    requires c_bound { lo + c ≤ s.entries }
-    ensures { result ≡ mark_in (words image.now) s d x (others (words image.now) s d x lo c) }
+// The key of a branch that parts the c entries from place lo on at an average.
+pub fn mark(image: &ReadyImage<'_>, average: Average, lo: usize, c: usize) -> u32
+    requires { lo + c ≤ image.now.shape.entries }
+    ensures { result ≡ mark_in (words image.now.bytes.now) image.now.shape average.dim average.value (others (words image.now.bytes.now) image.now.shape average.dim average.value lo c) }
 {
-    if s.kind == 0 || d != 0 {
-        return x;
+    if image.shape.kind == 0 || average.dim != 0 {
+        return average.value;
     }
-    match first_least(image, s, x, lo, c) {
+    match first_least(image, average.value, lo, c) {
         Some(e) => e as u32,
         None => 0,
     }

@@ -6,4 +6,7 @@ use Rattle.kd_dimension.proofs.Choosing.{Tried}
 use Rattle.kd_dimension.proofs.choose.Given as goal
 
 abbrev pub invariant-loop-i : goal.invariant-loop-i
-invariant-loop-i l = Tried (key_in (words l.image) l.s) (mark_in (words l.image) l.s) (walk.dims l.s) l.dim (entries_from (words l.image) l.s l.lo l.c) l.i
+invariant-loop-i l =
+    let W = words l.image in
+    let s = l.fn.s in
+    Tried (key_in W s) (mark_in W s) (walk.dims s) l.dim (entries_from W s l.lo l.c) l.i

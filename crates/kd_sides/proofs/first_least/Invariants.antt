@@ -3,4 +3,4 @@ use Rattle.kd_sides.proofs.Parting.{Lowest}
 use Rattle.kd_sides.proofs.first_least.Given as goal
 
 abbrev pub invariant-loop-i : goal.invariant-loop-i
-invariant-loop-i l = Lowest (words l.image) l.s l.x l.lo l.i l.best
+invariant-loop-i l = Lowest (words l.image.bytes.now) l.image.shape l.x l.lo l.i l.best

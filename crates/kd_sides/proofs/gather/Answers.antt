@@ -1,39 +1,54 @@
-use Rattle.std.proofs.Common.{◌+◌, sym, ◌∙◌, arith}
+use Rattle.std.proofs.Common.{◌≡◌, ◌+◌, sym, ◌∙◌, arith}
 use Rattle.index_image.proofs.Places.{place-room}
 use Rattle.kd_dimension.proofs.Choosing.{place}
 use Rattle.kd_sides.proofs.Parting.{gather_none, gather-room, gather-taken, gather-left}
-use Rattle.kd_sides.proofs.gather.Goals.{then-wanted, else-wanted}
+use Rattle.kd_sides.proofs.gather.Goals.{After-get-e, then-on, else-on}
 use Rattle.kd_sides.proofs.gather.Goals as goal
 
 pub loop-i-init : goal.loop-i-init
-loop-i-init c = gather_none _ _ _ _ _ _
+loop-i-init g c = (omega arith, λ p a. gather_none _ _ _ _ _ _)
 
 pub get-e-requires : goal.get-e-requires
-get-e-requires c =
-    omega (arith, place-room c.args.image.now c.args.s c.requires.ready (c.args.lo + c.args.c) c.requires.d_bound.1)
+get-e-requires g c =
+    omega (arith, place-room c.args.image.now.bytes.now c.args.image.now.shape c.args.image.now.ready (c.args.lo + c.args.c) c.requires.lo_bound)
 
-pub wanted-requires-clause-d_bound : goal.wanted-requires-clause-d_bound
-wanted-requires-clause-d_bound c = (
-  c.requires.d_bound.0,
-  (place _ _ c.requires.ready _ _ _ _ _ c.requires.d_bound.1 c.loop-i-test.true c.permutation_at.ensures c.get-e.ensures).small,
-)
+pub on-requires : goal.on-requires
+on-requires g c =
+    let e = place _ _ c.args.image.now.ready _ _ _ _ _ c.requires.lo_bound c.loop-i-test.true c.permutation_at.ensures c.get-e.ensures in
+    c.requires.asked _ e.small
 
 pub put-requires : goal.put-requires
-put-requires c =
-    gather-room _ _ _ _ _ _ _ _ _ _ _ c.requires.ready c.requires.d_bound.1 c.loop-i-test.true _ c.permutation_at.ensures
-    c.get-e.ensures c.loop-i.invariant c.requires.c_in_bounds (sym c.wanted.ensures ∙ c.if-wanted.true)
+put-requires g c =
+    let R = c.args.image.now.ready in
+    let e = place _ _ R _ _ _ _ _ c.requires.lo_bound c.loop-i-test.true c.permutation_at.ensures c.get-e.ensures in
+    let t = c.requires.taken in
+    gather-room _ _ _ _ _ _ _ _ _ _ _ R c.requires.lo_bound c.loop-i-test.true _ c.permutation_at.ensures c.get-e.ensures
+    (c.loop-i.invariant.1 t.p t.says) (sym (t.says _ _ e.small c.on.ensures) ∙ c.if-on.true) t.room
 
 pub loop-i-preserved : goal.loop-i-preserved
-loop-i-preserved c = elim c.if-wanted.branch [
-  | then-wanted w ↦
-      rw (w.out-is, w.n-is) (
-      gather-taken _ _ _ _ _ _ _ _ _ _ _ c.requires.ready c.requires.d_bound.1 c.loop-i-test.true _ c.permutation_at.ensures
-      c.get-e.ensures c.loop-i.invariant c.requires.c_in_bounds _ (sym c.wanted.ensures ∙ w.if-wanted.true)
-      w.put.auto.s w.put.ensures
+loop-i-preserved g c =
+    let R = c.args.image.now.ready in
+    let e = place _ _ R _ _ _ _ _ c.requires.lo_bound c.loop-i-test.true c.permutation_at.ensures c.get-e.ensures in
+    let t = c.requires.taken in
+    elim c.if-on.branch [
+      | then-on w ↦ rw (w.out-is, w.n-is) (
+        omega (arith, c.loop-i.invariant.0),
+        λ p says.
+            let room = gather-room _ _ _ _ _ _ _ _ _ _ _ R c.requires.lo_bound c.loop-i-test.true _ c.permutation_at.ensures c.get-e.ensures
+            (c.loop-i.invariant.1 t.p t.says) (sym (t.says _ _ e.small c.on.ensures) ∙ w.if-on.true) t.room in
+            gather-taken _ _ _ _ _ _ _ _ _ _ _ R c.requires.lo_bound c.loop-i-test.true _ c.permutation_at.ensures c.get-e.ensures
+            (c.loop-i.invariant.1 p says) _ (sym (says _ _ e.small c.on.ensures) ∙ w.if-on.true) room w.put.auto.s w.put.ensures,
       )
-  | else-wanted w ↦
-      rw (w.out-is, w.n-is) (
-      gather-left _ _ _ _ _ _ _ _ _ _ _ c.requires.ready c.requires.d_bound.1 c.loop-i-test.true _ c.permutation_at.ensures
-      c.get-e.ensures c.loop-i.invariant c.requires.c_in_bounds (sym c.wanted.ensures ∙ w.if-wanted.false)
+      | else-on w ↦ rw (w.out-is, w.n-is) (
+        omega (arith, c.loop-i.invariant.0),
+        λ p says.
+            gather-left _ _ _ _ _ _ _ _ _ _ _ R c.requires.lo_bound c.loop-i-test.true _ c.permutation_at.ensures c.get-e.ensures
+            (c.loop-i.invariant.1 p says) (sym (says _ _ e.small c.on.ensures) ∙ w.if-on.false),
       )
-]
+    ]
+
+pub returns : goal.returns
+returns g c = λ p says.
+    let i = c.loop-i.invariant.1 p says in
+    let e : c.loop-i.i ≡ c.args.c = omega arith in
+    record { count = rw e at i.count; bytes = rw e at i.bytes }

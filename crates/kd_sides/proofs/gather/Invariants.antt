@@ -1,8 +1,11 @@
+use Rattle.std.proofs.Common.{◌≤◌, ℕ, Bool}
 use Rattle.words.specs.Words.{words}
-use Rattle.kd_dimension.specs.Choice.{key_in}
-use Rattle.kd_sides.specs.Sides.{on_side}
-use Rattle.kd_sides.proofs.Parting.{Gathered}
+use Rattle.kd_sides.specs.Sides.{Says}
+use Rattle.kd_sides.proofs.Parting.{Gathering}
 use Rattle.kd_sides.proofs.gather.Given as goal
 
 abbrev pub invariant-loop-i : goal.invariant-loop-i
-invariant-loop-i l = Gathered (words l.image) l.s (on_side (key_in (words l.image) l.s) l.d l.x l.want) l.lo l.i l.initial.out l.out l.at l.n
+invariant-loop-i g l =
+    (l.n ≤ l.i)
+    × ((p : ℕ → Bool) → Says (goal.F-post g l.on) l.image.shape.entries p
+    → Gathering (words l.image.bytes.now) l.image.shape p l.lo l.i l.initial.out l.out l.at l.n)
