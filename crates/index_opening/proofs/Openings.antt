@@ -3,14 +3,13 @@ use mathlib.Core.Path.{◌≡◌, refl, sym, ap, ◌∙◌}
 use mathlib.Core.List.{List, [], ◌∷◌, ◌++◌, append_assoc}
 use Prim.Native.Nat.{ℕ, zero, suc, ◌+◌, ◌-◌, ◌*◌, ◌≤◌}
 use native.Mathlib.Omega.{arith}
-use lib.ListN.{length, take, drop, length-append, length-take, length-drop}
+use lib.ListN.{length, take, drop, length-append}
 use borrow.Rule.Slice.PartMut.{put_mid}
 use Rattle.words.specs.Words.{put_w, paste_w}
 use Rattle.words.specs.Tables.{zeros, table}
 use Rattle.words.proofs.Drafts.{lent_back}
 use Rattle.words.proofs.Laws.{paste_w-nil, six-written}
 use Rattle.words.proofs.Tables.{length-zeros, zeros-add, paste_w-append}
-use Rattle.monomial.specs.Sizes.{Sizes}
 use Rattle.divmask.specs.Mask.{mask}
 use Rattle.divmask.specs.Tracker.{Maxima}
 use Rattle.divmask.proofs.Masks.{fields-zero, fields-skip}
@@ -23,6 +22,7 @@ use Rattle.index_theory.specs.State.{Kind, power_in, opened}
 use Rattle.index_image.specs.Layout.{code, header, slot, gcd_powers, gcd_of, node_words, tree_words, label_words, encode}
 use Rattle.index_image.specs.Shape as at
 use Rattle.index_image.specs.declared.Shape.{Shape}
+use Rattle.index_image.proofs.Bounds.{ratio-labels}
 use Rattle.index_image.proofs.Gcds.{Powers, gcd-none}
 use Rattle.index_opening.specs.Kinds.{index_kind}
 
@@ -58,31 +58,19 @@ empty-length m c =
 kind-one : (s : Shape) → at.InRange s → (s.kind ≡ 0 → ⊥) → s.kind ≡ 1
 kind-one s R z = omega (arith, z, R.kind-to)
 
-labels-long : (s : Shape) → s.kind ≡ 1 → at.labels_size s ≡ labels.size s.variables s.capacity
-labels-long s e = rw e (omega arith)
-
-labels-room : (s : Shape) → at.labels_at s + at.labels_size s ≤ at.size s
-labels-room s = omega arith
-
-pub asked-labels : (s : Shape) → at.InRange s → Sizes s.variables s.capacity
-asked-labels s R = record { vars-from = R.vars-from; vars-to = R.vars-to; cap-from = R.cap-from; cap-to = R.cap-to }
-
 module _ (bs : List ℕ) (s : Shape) (R : at.InRange s) (room : 4 * at.size s ≤ length bs) (z : s.kind ≡ 0 → ⊥) where
-  pub part-long : 4 * labels.size s.variables s.capacity ≡ 4 * at.labels_size s
-  part-long = ap (λ n. 4 * n) (sym (labels-long s (kind-one s R z)))
+  module _ (a b : ℕ) (ends : (a ≡ 4 * at.labels_at s) × (b ≡ 4 * (at.labels_at s + at.labels_size s))) where
+    part_len : b - a ≡ 4 * at.labels_size s
+    part_len = omega arith
 
-  pub part_room : (a b : ℕ) → a ≡ at.labels_at s → b ≡ at.labels_size s → 4 * labels.size s.variables s.capacity ≤ length (take (4 * a + 4 * b - 4 * a) (drop (4 * a) bs))
-  part_room a b ea eb =
-      let t = length-take (4 * a + 4 * b - 4 * a) (drop (4 * a) bs) in
-      omega (arith, t, length-drop (4 * a) bs, part-long, labels-room s)
-
-  pub labels-written : (a k : ℕ) (ys : List ℕ) → a ≡ 4 * at.labels_at s → k ≡ 4 * at.labels_size s → ys ≡ paste_w (take k (drop a bs)) 0 (labels.encode (map.empty s.variables s.capacity))
-      → put_mid a k bs ys ≡ paste_w bs (at.labels_at s) (label_words (index_kind s.kind) (map.empty s.variables s.capacity))
-  labels-written a k ys ea ek ey =
-      let l = map.empty s.variables s.capacity in
-      let long : length (labels.encode l) ≡ at.labels_size s = empty-length s.variables s.capacity ∙ sym (labels-long s (kind-one s R z)) in
-      rw (ea, all_of s.kind l (kind-one s R z))
-      (lent_back bs (at.labels_at s) (at.labels_size s) k ys (labels.encode l) ek (omega (arith, labels-room s)) (omega arith) (rw ea at ey))
+    pub labels-written : (ys : List ℕ) → ys ≡ paste_w (take (b - a) (drop a bs)) 0 (labels.encode (map.empty s.variables s.capacity))
+        → put_mid a (b - a) bs ys ≡ paste_w bs (at.labels_at s) (label_words (index_kind s.kind) (map.empty s.variables s.capacity))
+    labels-written ys ey =
+        let l = map.empty s.variables s.capacity in
+        let long : length (labels.encode l) ≡ at.labels_size s = empty-length s.variables s.capacity ∙ sym (ratio-labels s R (kind-one s R z)) in
+        rw (all_of s.kind l (kind-one s R z)) (ap (λ i. put_mid i (b - a) bs ys) ends.0
+        ∙ lent_back bs (at.labels_at s) (at.labels_size s) (b - a) ys (labels.encode l) part_len (omega arith) (omega arith)
+        (ey ∙ ap (λ i. paste_w (take (b - a) (drop i bs)) 0 (labels.encode l)) ends.0))
 
 -- ---- all tables: what is written from the front on is one list
 six-pieces : (b₀ b₁ b₂ b₃ b₄ b₅ b₆ h x y z u v : List ℕ) (i j k l n : ℕ) → i ≡ length h → j ≡ i + length x → k ≡ j + length y → l ≡ k + length z → n ≡ l + length u → 4 * n ≤ length b₀

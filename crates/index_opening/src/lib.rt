@@ -1,4 +1,5 @@
-// The opening: an index that holds nothing, written from the front of the image to its end, each word once.
+// The opening: an index that holds nothing, written from the front of the image to its end, each word once. The functions take the image's
+// bytes and its numbers: a struct that knows that they fit would owe it again after each write.
 #![tactic(auto)]
 
 ghost use Rattle.std.specs.Prelude.{◌≡◌, [], ◌∷◌, ◌*◌, ◌≤◌, length};
@@ -34,12 +35,9 @@ fn open_labels(image: &mut [u8], s: Shape)
     requires s_in_bounds { 4 * at.size s ≤ length image.old }
     ensures { image.new ≡ paste_w image.old (at.labels_at s) (label_words (index_kind s.kind) (empty s.variables s.capacity)) }
 {
-    if s.kind == 0 {
-        return;
+    if s.kind != 0 {
+        fast_compare::open(&mut image[s.labels()], s.variables, s.capacity);
     }
-    let a = 4 * s.labels_at();
-    let b = a + 4 * s.labels_size();
-    fast_compare::open(&mut image[a..b], s.variables, s.capacity);
 }
 
 // Writes the image of an index that holds nothing.

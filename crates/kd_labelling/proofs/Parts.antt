@@ -1,14 +1,12 @@
 -- The label map as a part of the image: lent, changed and read again. Assumes nothing.
 use mathlib.Core.Path.{◌≡◌, sym, ap, ◌∙◌}
-use mathlib.Core.List.{List, ◌++◌}
+use mathlib.Core.List.{List}
 use Prim.Native.Nat.{ℕ, ◌+◌, ◌-◌, ◌*◌, ◌≤◌, ◌<◌}
 use native.Mathlib.Omega.{arith}
 use lib.ListN.{length, get_or, take, drop, length-take, length-drop}
-use lib.Seq.{take_at, drop_at, length-take-le}
 use borrow.Rule.Slice.PartMut.{put_mid}
 use Rattle.std.proofs.Common.{Result, Ok, Err}
 use Rattle.words.specs.Words.{words, paste_w}
-use Rattle.words.proofs.Laws.{length-paste_w}
 use Rattle.monomial.specs.Monomial.{Canonical}
 use Rattle.monomial.specs.Operations.{result_words}
 use Rattle.monomial.specs.declared.ordered_ops.Op.{Op}
@@ -54,53 +52,38 @@ settled-whole l v val good = go (map.answer l v)
         let s = after-shape (map.rebuild l) v in
         record { valid = after-valid (map.rebuild l) v (rebuild-valid l val) good; vars = s.0; cap = s.1 }
 
--- ---- the part
-module _ (bs : List ℕ) (s : Shape) (R : at.InRange s) (room : 4 * at.size s ≤ length bs) (one : s.kind ≡ 1) (x y : ℕ) (ex : x ≡ at.labels_at s) (ey : y ≡ at.labels_size s)
+-- ---- the part, from byte a up to byte b
+module _ (bs : List ℕ) (s : Shape) (R : at.InRange s) (room : 4 * at.size s ≤ length bs) (one : s.kind ≡ 1) (a b : ℕ) (ends : (a ≡ 4 * at.labels_at s) × (b ≡ 4 * (at.labels_at s + at.labels_size s)))
     (v : map.Value) (good : map.Good s.variables v) where
-  part-is : take (4 * x + 4 * y - 4 * x) (drop (4 * x) bs) ≡ label_bytes bs s
-  part-is =
-      let e : 4 * x + 4 * y - 4 * x ≡ 4 * at.labels_size s = omega arith in
-      ap (λ (i : ℕ). take i (drop (4 * x) bs)) e ∙ ap (λ (i : ℕ). take (4 * at.labels_size s) (drop (4 * i) bs)) ex
+  part_len : b - a ≡ 4 * at.labels_size s
+  part_len = omega arith
 
-  pub lent-ready : labels.SoundFor s.variables s.capacity (label_bytes bs s)
-      → labels.Sound (take (4 * x + 4 * y - 4 * x) (drop (4 * x) bs)) × map.Good (get_or (words (take (4 * x + 4 * y - 4 * x) (drop (4 * x) bs))) 1 0) v
-  lent-ready S =
-      rw part-is (record { state = S.state; is = S.is }, rw (vars-of (label_bytes bs s) S.state S.is ∙ S.vars) good)
+  part-is : take (b - a) (drop a bs) ≡ label_bytes bs s
+  part-is = rw (part_len, ends.0)
 
-  module _ (ys : List ℕ) (done : (l : map.State) → labels.Is l (take (4 * x + 4 * y - 4 * x) (drop (4 * x) bs))
-      → ys ≡ paste_w (take (4 * x + 4 * y - 4 * x) (drop (4 * x) bs)) 0 (labels.encode (settled l v)))
+  pub lent-good : labels.SoundFor s.variables s.capacity (label_bytes bs s) → map.Good (get_or (words (take (b - a) (drop a bs))) 1 0) v
+  lent-good S = rw (part-is, vars-of (label_bytes bs s) S.state S.is ∙ S.vars) good
+
+  module _ (ys : List ℕ) (done : (l : map.State) → labels.Is l (take (b - a) (drop a bs)) → ys ≡ paste_w (take (b - a) (drop a bs)) 0 (labels.encode (settled l v)))
       (l : map.State) (M : MapIs (words bs) s l) where
-    pub is-l : labels.Is l (take (4 * x + 4 * y - 4 * x) (drop (4 * x) bs))
+    pub is-l : labels.Is l (take (b - a) (drop a bs))
     is-l = rw part-is (is-map bs s R room one l M)
 
     W' : Whole l (settled l v)
     W' = settled-whole l v M.valid (rw M.vars good)
 
-    long : length (labels.encode (settled l v)) ≡ y
-    long = encode-length (settled l v) W'.valid ∙ rw (W'.vars, W'.cap, M.vars, M.cap) (sym (ey ∙ ratio-labels s R one))
+    long : length (labels.encode (settled l v)) ≡ at.labels_size s
+    long = encode-length (settled l v) W'.valid ∙ rw (W'.vars, W'.cap, M.vars, M.cap) (sym (ratio-labels s R one))
 
-    fits : 4 * (x + y) ≤ length bs
-    fits = omega arith
-
-    part-long : length (take (4 * x + 4 * y - 4 * x) (drop (4 * x) bs)) ≡ 4 * y
-    part-long = simp (length-take, length-drop) (omega (arith, fits))
-
-    ys-long : length ys ≡ 4 * x + 4 * y - 4 * x
-    ys-long = ap length (done l is-l) ∙ length-paste_w _ 0 (labels.encode (settled l v)) (omega (arith, long, part-long)) ∙ omega (arith, part-long)
-
-    back : take (4 * x + 4 * y - 4 * x) (drop (4 * x) (put_mid (4 * x) (4 * x + 4 * y - 4 * x) bs ys)) ≡ ys
-    back = rw (drop_at (take (4 * x) bs) (ys ++ drop (4 * x + 4 * y - 4 * x) (drop (4 * x) bs)) (4 * x) (length-take-le (4 * x) bs (omega (arith, fits))))
-        (take_at ys _ (4 * x + 4 * y - 4 * x) ys-long)
-
-    pub read_again : labels.Is (settled l v) (take (4 * x + 4 * y - 4 * x) (drop (4 * x) (put_mid (4 * x) (4 * x + 4 * y - 4 * x) bs ys)))
+    pub read_again : labels.Is (settled l v) ys
     read_again =
-        rw (back, done l is-l) (pasted (settled l v) W'.valid (take (4 * x + 4 * y - 4 * x) (drop (4 * x) bs)) (omega (arith, part-long, encode-length (settled l v) W'.valid, long)))
+        let part_long : length (take (b - a) (drop a bs)) ≡ 4 * at.labels_size s = simp (length-take, length-drop) (omega arith) in
+        rw (done l is-l) (pasted (settled l v) W'.valid (take (b - a) (drop a bs)) (omega (arith, encode-length (settled l v) W'.valid, long)))
 
-    pub labels-are : (r : ℕ) → r ≡ row_of (settled l v) v → Labels s l v r bs (put_mid (4 * x) (4 * x + 4 * y - 4 * x) bs ys)
+    pub labels-are : (r : ℕ) → r ≡ row_of (settled l v) v → Labels s l v r bs (put_mid a (b - a) bs ys)
     labels-are r er = record {
       row = er;
-      bytes = lent_back bs x y (4 * x + 4 * y - 4 * x) ys (labels.encode (settled l v)) (omega arith) fits (omega (arith, long)) (done l is-l)
-          ∙ ap (λ (i : ℕ). paste_w bs i (labels.encode (settled l v))) ex;
+      bytes = ap (λ (i : ℕ). put_mid i (b - a) bs ys) ends.0 ∙ (lent_back bs (at.labels_at s) (at.labels_size s) (b - a) ys (labels.encode (settled l v)) part_len (omega arith) (omega (arith, long)) (done l is-l ∙ ap (λ (i : ℕ). paste_w (take (b - a) (drop i bs)) 0 (labels.encode (settled l v))) ends.0));
     }
 
 -- ---- the ratio of a signature and an lm

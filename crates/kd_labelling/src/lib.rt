@@ -13,8 +13,8 @@ ghost use Rattle.index_image.specs.Door.{label_bytes};
 ghost use Rattle.index_image.proofs.Labels.{MapIs};
 ghost use Rattle.kd_labelling.specs.Labelling.{settled, Labels};
 
-use fast_compare::Unlabelled;
-use index_image::{Shape, fields};
+use fast_compare::{ComparerMap, Unlabelled};
+use index_image::Shape;
 
 // Gives a value a label; where none is free the labels are dealt afresh, once.
 pub fn settle(labels: &mut [u8], index: u32, ratio: &[u8])
@@ -28,31 +28,30 @@ pub fn settle(labels: &mut [u8], index: u32, ratio: &[u8])
     }
 }
 
-// The row of a value.
-pub fn row_of(labels: &[u8], index: u32, ratio: &[u8]) -> usize
-    requires sound { layout.Sound labels.now }
-    requires canonical { Canonical 2 4096 (words ratio.now) }
-    ensures { (l : map.State) → layout.Is l labels.now → result ≡ row_of l (map.value_of index (words ratio.now)) }
+// The row of a value; 0 where it has none.
+pub fn row_of(labels: &ComparerMap<'_>, index: u32, ratio: &[u8]) -> usize
+    requires { Canonical 2 4096 (words ratio.now) }
+    ensures { (l : map.State) → layout.Is l labels.now.bytes.now → result ≡ row_of l (map.value_of index (words ratio.now)) }
 {
-    match fast_compare::search(labels, index, ratio) {
-        Ok(p) => fast_compare::row_at(labels, p),
+    match labels.search(index, ratio) {
+        Ok(p) => labels.row_at(p),
         Err(_) => 0,
     }
 }
 
 // The row of a value that was settled in a map of n rows: the last one where it is new, else the one where it is found.
-fn settled_row(labels: &[u8], n: usize, index: u32, ratio: &[u8]) -> usize
-    requires sound { layout.Sound labels.now }
-    requires canonical { Canonical 2 4096 (words ratio.now) }
-    ensures { (l : map.State) → map.Valid l → n ≡ length l.rows → layout.Is (settled l (map.value_of index (words ratio.now))) labels.now → result ≡ row_of (settled l (map.value_of index (words ratio.now))) (map.value_of index (words ratio.now)) }
+fn settled_row(labels: &ComparerMap<'_>, n: usize, index: u32, ratio: &[u8]) -> usize
+    requires { Canonical 2 4096 (words ratio.now) }
+    ensures { (l : map.State) → map.Valid l → n ≡ length l.rows → layout.Is (settled l (map.value_of index (words ratio.now))) labels.now.bytes.now → result ≡ row_of (settled l (map.value_of index (words ratio.now))) (map.value_of index (words ratio.now)) }
 {
-    if n < fast_compare::count(labels) {
+    if n < labels.count() {
         return n;
     }
     row_of(labels, index, ratio)
 }
 
-// Gives a ratio a row and a label in the label map of the image, and returns the row.
+// Gives a ratio a row and a label in the label map of the image, and returns the row. The image is written, so it is lent as bytes: a struct
+// that knows it would owe what it knows after each word.
 pub fn label_ratio(image: &mut [u8], s: Shape, index: u32, ratio: &[u8]) -> usize
     requires in_range { shape.InRange s }
     requires s_in_bounds { 4 * shape.size s ≤ length image.old }
@@ -61,14 +60,14 @@ pub fn label_ratio(image: &mut [u8], s: Shape, index: u32, ratio: &[u8]) -> usiz
     requires good { map.Good s.variables (map.value_of index (words ratio.now)) }
     ensures { (l : map.State) → MapIs (words image.old) s l → Labels s l (map.value_of index (words ratio.now)) result image.old image.new }
 {
-    let a = 4 * s.labels_at();
-    let b = a + 4 * s.labels_size();
-    let n = fast_compare::count(&image[a..b]);
-    settle(&mut image[a..b], index, ratio);
-    settled_row(&image[a..b], n, index, ratio)
+    let labels = &mut image[s.labels()];
+    let n = ComparerMap { bytes: labels }.count();
+    settle(labels, index, ratio);
+    settled_row(&ComparerMap { bytes: labels }, n, index, ratio)
 }
 
-// The same for the ratio of a signature and an lm.
+// The same for the ratio of a signature and an lm, which is made in an array on the stack, since the library has no heap. A closure that is
+// handed the ratio, for `kd_query::ends_of_quotient` too, would be no plainer than these lines: what is done with it changes the image here.
 pub fn label_entry(image: &mut [u8], s: Shape, index: u32, sign: &[u8], lm: &[u8]) -> usize
     requires in_range { shape.InRange s }
     requires s_in_bounds { 4 * shape.size s ≤ length image.old }
@@ -83,18 +82,4 @@ pub fn label_entry(image: &mut [u8], s: Shape, index: u32, sign: &[u8], lm: &[u8
     let n = monomial::fraction_division(sign, lm, &mut made);
     let e = 4 * n;
     label_ratio(image, s, index, &made[..e])
-}
-
-// The label of a row.
-pub fn label_at(image: &[u8], s: Shape, row: usize) -> u64
-    requires in_range { shape.InRange s }
-    requires s_in_bounds { 4 * shape.size s ≤ length image.now }
-    requires kind_value { (s.kind ≡ 1) × (row < s.capacity) }
-    ensures { result ≡ get_or (words image.now) (shape.label_at s row) 0 }
-{
-    let m = s.variables;
-    u64::from(words::get(
-        image,
-        s.labels_at() + (fields::LABELS + row * (m + fields::LABEL_ROW) + (m + fields::LABEL)),
-    ))
 }

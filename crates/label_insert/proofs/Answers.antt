@@ -5,7 +5,7 @@ use Prim.Native.Nat.{ℕ, ◌+◌, ◌-◌, ◌/◌, ◌≤◌, ◌<◌}
 use native.Mathlib.Omega.{arith}
 use lib.ListN.{length, get_or}
 use Rattle.std.proofs.Common.{Result, Ok, Err}
-use Rattle.words.specs.Words.{paste_w}
+use Rattle.words.specs.Words.{words, paste_w}
 use Rattle.words.proofs.Laws.{Bytes}
 use Rattle.fast_compare.specs.Labels.{lowest, highest, sorted}
 use Rattle.fast_compare.specs.Map.{Value, cmp, State, value, label, place, answer, stored}
@@ -14,9 +14,18 @@ use Rattle.fast_compare.specs.declared.Comparer.{Comparer}
 use Rattle.fast_compare.specs.declared.Comparer.TheVariants.{Known, New}
 use Rattle.fast_compare.specs.declared.Unlabelled.{Unlabelled}
 use Rattle.fast_compare.specs.declared.Unlabelled.TheVariants.{Full, NoLabel}
+use Rattle.fast_compare.proofs.Exact.{count_of}
 use Rattle.fast_compare.proofs.Maps.{answer-known, answer-full, answer-none, answer-new, after-as, stored_same}
-use Rattle.fast_compare.proofs.Giving.{at_place, before-place, known-row, free-no, free-yes, half_is}
+use Rattle.fast_compare.proofs.Giving.{at_place, before-place, known-row, place-few, free-no, free-yes, half_is}
 use Rattle.label_insert.proofs.Storing.{holds}
+
+-- ---- a place lies within the order
+module _ (bs : List ℕ) (st : State) (q : Value) (i : Is st bs) (p : ℕ) where
+  pub known-place : Ok p ≡ place st.rows q → p < get_or (words bs) 3 0
+  known-place e = omega (arith, (known-row st q i.valid p (at_place st q p e)).0, count_of bs st i)
+
+  pub new-place : Err p ≡ place st.rows q → p ≤ get_or (words bs) 3 0
+  new-place e = omega (arith, place-few st q i.valid p (before-place st q p e).place_is, count_of bs st i)
 
 -- ---- answers that change nothing
 module _ (bs : List ℕ) (st : State) (q : Value) (b : Bytes bs) (i : Is st bs) where

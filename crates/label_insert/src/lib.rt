@@ -2,43 +2,39 @@
 #![tactic(auto)]
 
 ghost use Rattle.std.specs.Prelude.{◌≡◌, ℕ, Ok, Err, ◌+◌, ◌*◌, ◌<◌, ◌≤◌, length, get_or};
-ghost use Rattle.std.proofs.Math.Option.{none};
 ghost use Rattle.words.specs.Words.{words, paste_w};
 ghost use Rattle.fast_compare.specs.Labels as Labels;
-ghost use Rattle.fast_compare.specs.Labels.{below, known};
+ghost use Rattle.fast_compare.specs.Labels.{below};
 ghost use Rattle.fast_compare.specs.Map as Map;
 ghost use Rattle.fast_compare.specs.Map.{State, Value, value_of, value, cmp, Good, place, stored};
 ghost use Rattle.fast_compare.specs.Layout.{encode, Is, Sound, Gave};
 
-use fast_compare::{Comparer, Unlabelled};
+use fast_compare::{Comparer, ComparerMap, Unlabelled};
+use std::ops::Range;
 
-// The least label above that of the lower neighbour of a value with p values below it; where it has none 0, the least label of all.
-fn lowest(map: &[u8], p: usize) -> u64
-    requires sound { Sound map.now }
-    requires p_bound { p ≤ get_or (words map.now) 3 0 }
-    ensures upper_bound { result ≤ 4294967296 }
-    ensures value { (st : State) → Is st map.now → (q : Value) → p ≡ below cmp (value st.rows) (length st.rows) q → result ≡ Labels.lowest cmp (value st.rows) (Map.label st.rows) (length st.rows) q }
+// The labels that lie strictly between those of the neighbours of a new value with p values below it: from 0 on where it has no lower
+// neighbour, and below 2^32 where it has no upper one.
+fn free_labels(map: &ComparerMap<'_>, p: usize) -> Range<u64>
+    requires { p ≤ get_or (words map.now.bytes.now) 3 0 }
+    ensures end_bound { result.end ≤ 4294967296 }
+    ensures start { (st : State) → Is st map.now.bytes.now → (q : Value) → Err p ≡ place st.rows q → result.start ≡ Labels.lowest cmp (value st.rows) (Map.label st.rows) (length st.rows) q }
+    ensures end { (st : State) → Is st map.now.bytes.now → (q : Value) → Err p ≡ place st.rows q → result.end ≡ Labels.highest cmp (value st.rows) (Map.label st.rows) (length st.rows) q }
 {
-    if p == 0 {
-        return 0;
-    }
-    u64::from(fast_compare::label_at(map, p - 1)) + 1
+    let start = if p == 0 {
+        0
+    } else {
+        u64::from(map.label_at(p - 1)) + 1
+    };
+    let end = if p == map.count() {
+        4294967296
+    } else {
+        u64::from(map.label_at(p))
+    };
+    start..end
 }
 
-// The label of the upper neighbour of a new value with p values below it; 2^32 where it has none.
-fn highest(map: &[u8], p: usize) -> u64
-    requires sound { Sound map.now }
-    requires p_bound { p ≤ get_or (words map.now) 3 0 }
-    ensures upper_bound { result ≤ 4294967296 }
-    ensures value { (st : State) → Is st map.now → (q : Value) → p ≡ below cmp (value st.rows) (length st.rows) q → known cmp (value st.rows) (length st.rows) q ≡ none → result ≡ Labels.highest cmp (value st.rows) (Map.label st.rows) (length st.rows) q }
-{
-    if p == fast_compare::count(map) {
-        return 4294967296;
-    }
-    u64::from(fast_compare::label_at(map, p))
-}
-
-// Stores a new row, with p values below its own, behind the others.
+// Stores a new row, with p values below its own, behind the others. This function and the others that change a map take its bytes: a struct
+// that knows them as a sound map would owe that again after each word that is written.
 fn store(map: &mut [u8], p: usize, index: u32, ratio: &[u8], label: u32)
     requires sound { Sound map.old }
     requires good { Good (get_or (words map.old) 1 0) (value_of index (words ratio.now)) }
@@ -64,15 +60,15 @@ fn add(map: &mut [u8], p: usize, index: u32, ratio: &[u8]) -> Result<Comparer, U
     requires p_bound { p ≤ get_or (words map.old) 3 0 }
     ensures { (st : State) → Is st map.old → Err p ≡ place st.rows (value_of index (words ratio.now)) → Gave st (value_of index (words ratio.now)) result map.old map.new }
 {
-    if words::get(map, 2) as usize <= fast_compare::count(map) {
+    let read = ComparerMap { bytes: map };
+    if words::get(map, 2) as usize <= read.count() {
         return Err(Unlabelled::Full);
     }
-    let lo = lowest(map, p);
-    let hi = highest(map, p);
-    if hi <= lo {
+    let free = free_labels(&read, p);
+    if free.is_empty() {
         return Err(Unlabelled::NoLabel);
     }
-    let label = ((lo + hi - 1) / 2) as u32;
+    let label = ((free.start + free.end - 1) / 2) as u32;
     store(map, p, index, ratio, label);
     Ok(Comparer::New(label))
 }
@@ -83,8 +79,9 @@ pub fn get_comparer(map: &mut [u8], index: u32, ratio: &[u8]) -> Result<Comparer
     requires good { Good (get_or (words map.old) 1 0) (value_of index (words ratio.now)) }
     ensures { (st : State) → Is st map.old → Gave st (value_of index (words ratio.now)) result map.old map.new }
 {
-    match fast_compare::search(map, index, ratio) {
-        Ok(p) => Ok(Comparer::Known(fast_compare::label_at(map, p))),
+    let read = ComparerMap { bytes: map };
+    match read.search(index, ratio) {
+        Ok(p) => Ok(Comparer::Known(read.label_at(p))),
         Err(p) => add(map, p, index, ratio),
     }
 }

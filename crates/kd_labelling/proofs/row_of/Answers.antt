@@ -1,16 +1,14 @@
-use native.Mathlib.Omega.{arith}
 use Rattle.words.specs.Words.{words}
 use Rattle.fast_compare.specs.Map.{value_of}
-use Rattle.fast_compare.proofs.Giving.{at_place, known-row}
-use Rattle.fast_compare.proofs.Exact.{count_of}
+use Rattle.fast_compare.proofs.Exact.{sound-known}
+use Rattle.label_insert.proofs.Answers.{known-place}
 use Rattle.kd_labelling.proofs.Settling.{row-at-place, no_row}
 use Rattle.kd_labelling.proofs.row_of.Goals as goal
 
-pub row_at-requires-clause-position_bound : goal.row_at-requires-clause-position_bound
-row_at-requires-clause-position_bound c =
-    let s = c.requires.sound in
-    let q = value_of c.args.index (words c.args.ratio.now) in
-    omega (arith, (known-row s.state q s.is.valid c.in-Ok.p (at_place s.state q c.in-Ok.p (c.in-Ok.ensures s.state s.is))).0, count_of c.args.labels.now s.state s.is)
+pub row_at-requires : goal.row_at-requires
+row_at-requires c =
+    let s = sound-known c.args.labels.now.sound in
+    record { position_bound = known-place c.args.labels.now.bytes.now s.state _ s.is c.in-Ok.p (c.in-Ok.ensures s.state s.is) }
 
 pub returns-in-Ok : goal.returns-in-Ok
 returns-in-Ok c =

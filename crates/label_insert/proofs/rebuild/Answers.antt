@@ -1,3 +1,4 @@
+use Rattle.std.proofs.Common.{rules}
 use lib.ListN.{length}
 use native.Mathlib.Omega.{arith}
 use Prim.Native.Nat.{ℕ, ◌+◌, ◌*◌, ◌≤◌}
@@ -47,7 +48,7 @@ overflow_add-order-2 c = let f = fit_at (goal.at.overflow_add-order-2 c).After-g
 
 pub loop-k-init : goal.loop-k-init
 loop-k-init c =
-    respace-start c.args.map.now (λ j. (c.slice_known-1.given j).fits)
+    respace-start c.args.map.now (search rules)
 
 pub overflow_add-order-in-loop-k : goal.overflow_add-order-in-loop-k
 overflow_add-order-in-loop-k c = let f = fit_at (goal.at.overflow_add-order-in-loop-k c).After-get-n in omega (arith, f.rows, f.few, f.cap)

@@ -1,3 +1,4 @@
+use Rattle.std.proofs.Common.{rules}
 use mathlib.Core.List.{List}
 use native.Mathlib.Omega.{arith}
 use mathlib.Core.Path.{◌∙◌}
@@ -122,7 +123,7 @@ returns c =
     let ev = get.ensures ∙ vars-of bs st i in
     let ek = get2.ensures ∙ cap-of bs st i in
     let et = get3.ensures ∙ count_of bs st i in
-    stored-call bs st (λ j. (c.slice_known-1.given j).fits) i (omega (arith, c.requires.p_bound.1, vars-of bs st i, cap-of bs st i, count_of bs st i)) q
+    stored-call bs st (search rules) i (omega (arith, c.requires.p_bound.1, vars-of bs st i, cap-of bs st i, count_of bs st i)) q
     c.args.label c.args.p (rw (vars-of bs st i) at c.requires.good) e get.result get2.result get3.result index-IsWord.result
     insert.new.s put.new.s paste.new.s put2.new.s put3.new.s ev ek et index-IsWord.ensures insert.ensures put.ensures
     paste.ensures put2.ensures put3.ensures
