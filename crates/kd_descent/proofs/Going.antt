@@ -5,12 +5,12 @@ use mathlib.Core.List.{List, [], ◌++◌, append_assoc, append-nil}
 use Prim.Native.Nat.{ℕ, suc, ◌+◌, ◌-◌, ◌*◌, ◌≤◌, ◌<◌}
 use native.Mathlib.Omega.{arith}
 use native.Mathlib.Nat.{add-mul, zero-mul, suc-mul, mul-le-mul_right}
-use lib.ListN.{length, get_or, drop, length-append}
+use lib.ListN.{length, get_or, length-append}
 use Rattle.words.specs.Words.{words, paste_w}
 use Rattle.words.specs.Tables.{part}
 use Rattle.words.proofs.Laws.{Bytes, length-words, length-paste_w, paste_w-before}
 use Rattle.words.proofs.Tables.{part-append, row_fits}
-use Rattle.monomial.specs.Monomial.{Canonical, front}
+use Rattle.monomial.specs.Monomial.{Canonical}
 use Rattle.kd_theory.specs.Tree.{Tree, leaf, branch, inorder, nodes, count, Keys, insert, place_of, put_at}
 use Rattle.index_image.specs.Layout.{node_words, tree_words}
 use Rattle.index_image.specs.Shape as at
@@ -21,9 +21,8 @@ use Rattle.index_image.proofs.Bounds.{entry-inside, ratio-width, ratio-labels}
 use Rattle.index_image.proofs.Places.{row-behind}
 use Rattle.index_image.proofs.Encoding.{node-length, tree-length}
 use Rattle.index_image.proofs.Trees.{nodes-branch}
-use Rattle.index_image.specs.Rows.{monomial_in}
-use Rattle.kd_slots.specs.Slots.{gcd_words}
-use Rattle.kd_descent.specs.Growing.{Keyed, way_of, grown, Growth, keys, grown_rows, place}
+use Rattle.kd_slots.specs.Slots.{Mapped, gcd_words}
+use Rattle.kd_descent.specs.Growing.{Row, Keyed, way_of, grown, Growth, keys, grown_rows, place}
 use Rattle.kd_descent.specs.declared.Way.TheVariants.{Leaf, On}
 use Rattle.words.proofs.Pasting.{part-before, paste-same}
 use Rattle.kd_theory.proofs.PlaceLaws.{insert-less, insert-other, insert-inorder, place_inside}
@@ -89,7 +88,10 @@ way-leaf K e (branch d k l r) p h = absurd (go (K.below d k e) h)
     go true q = apart q
     go false q = apart q
 
-module _ (bs : List ℕ) (s : Shape) (R : at.InRange s) (room : 4 * at.size s ≤ length bs) (lm : List ℕ) (lab : ℕ) (g : Growth (words bs) s lm lab 0) where
+module _ {bs : List ℕ} {s : Shape} (M : Mapped bs s) {lm : List ℕ} {lab : ℕ} (g : Growth (words bs) s lm lab 0) where
+  abbrev R : at.InRange s
+  R = M.range
+
   abbrev W : List ℕ
   W = words bs
 
@@ -147,7 +149,7 @@ module _ (bs : List ℕ) (s : Shape) (R : at.InRange s) (room : 4 * at.size s �
   going_start b =
       let t = g.tree in
       let n = nodes t * w in
-      let fits : 4 * (root + n) ≤ length bs = omega (arith, rows_fit) in
+      let fits : 4 * (root + n) ≤ length bs = omega (arith, rows_fit, M.room) in
       let same : paste_w bs root (rows t) ≡ bs = ap (paste_w bs root) (sym g.rows) ∙ paste-same bs root n b fits in
       record {
         tree = t;
@@ -164,7 +166,7 @@ module _ (bs : List ℕ) (s : Shape) (R : at.InRange s) (room : 4 * at.size s �
         place_is = omega arith;
       }
 
-  module _ (im : List ℕ) (k lo : ℕ) (G : Going im k lo) where
+  module _ {im : List ℕ} {k lo : ℕ} (G : Going im k lo) where
     abbrev body : List ℕ
     body = G.above ++ (rows G.tree ++ G.under)
 
@@ -172,7 +174,7 @@ module _ (bs : List ℕ) (s : Shape) (R : at.InRange s) (room : 4 * at.size s �
     body-long = length-append G.above _ ∙ omega (arith, length-append (rows G.tree) G.under, long G.tree, G.all)
 
     body-fits : 4 * (root + length body) ≤ length bs
-    body-fits = omega (arith, body-long, rows_fit)
+    body-fits = omega (arith, body-long, rows_fit, M.room)
 
     pub kept-length : length im ≡ length bs
     kept-length = ap length G.now ∙ length-paste_w bs root body (omega (arith, body-fits))
@@ -218,32 +220,30 @@ module _ (bs : List ℕ) (s : Shape) (R : at.InRange s) (room : 4 * at.size s �
     }
 
     abbrev pub room-now : 4 * at.size s ≤ length im
-    room-now = omega (arith, kept-length)
+    room-now = omega (arith, kept-length, M.room)
 
-    row_here : Here im s R room-now lm lab k growth-here G.tree
-    row_here = here im s R room-now lm lab k growth-here
+    row_here : Here im s R room-now growth-here G.tree
+    row_here = here im s R room-now growth-here
 
     -- ---- what the row at hand needs to grow
     pub record Ready : Type 0 where
       pub row : k < s.nodes
-      pub room-is : 4 * at.size s ≤ length im
-      pub maxima : map_maxima (words im) s ≡ map_maxima (words bs) s
-      pub fits : at.node_at s k + (at.node_width s.variables) ≤ at.size s
-      pub slot : front 1 s.variables 0 (drop (at.node_at s k + 5) (words im)) ≡ 0 → ⊥
+      pub mapped : Mapped im s
+      pub grows : Row (words im) s (at.node_at s k)
       pub counted : get_or (words im) (at.node_at s k + 2) 0 < s.capacity
-      pub holds : part (words im) (at.node_at s k + 4) (s.variables + 2) ≡ gcd_words s.variables (map_maxima (words im) s) (monomial_in (words im) s.variables (at.node_at s k + 5))
 
     pub ready : Ready
     ready =
-        let r = in_rows im s R room-now lm lab k growth-here in
+        let r = in_rows im s R room-now growth-here in
         record {
           row = r;
-          room-is = room-now;
-          maxima = map-kept;
-          fits = (spot s R k r).fits;
-          slot = row_here.row.slot.some;
+          mapped = record { range = R; room = room-now; map = rw map-kept M.map };
+          grows = record {
+            inside = (spot s R k r).fits;
+            gcd = row_here.row.slot.some;
+            masked = row_here.row.holds ∙ ap (gcd_words m (map_maxima (words im) s)) (sym row_here.row.slot.is);
+          };
           counted = omega (arith, row_here.row.count-is, G.few, g.few);
-          holds = row_here.row.holds ∙ ap (gcd_words m (map_maxima (words im) s)) (sym row_here.row.slot.is);
         }
 
     -- ---- the row grown

@@ -86,7 +86,7 @@ pub record Spot (s : Shape) (k : ℕ) : Type 0 where
 pub spot : (s : Shape) → at.InRange s → (k : ℕ) → k < s.nodes → Spot s k
 spot s R k h = record { fits = omega (arith, row_fits k (2 * s.capacity - 1) (at.node_width s.variables) (omega (arith, R.nodes-to))); small = size_small s R }
 
-module _ (bs : List ℕ) (s : Shape) (R : at.InRange s) (room : 4 * at.size s ≤ length bs) (lm : List ℕ) (lab k : ℕ) (g : Growth (words bs) s lm lab k) where
+module _ (bs : List ℕ) (s : Shape) (R : at.InRange s) (room : 4 * at.size s ≤ length bs) {lm : List ℕ} {lab k : ℕ} (g : Growth (words bs) s lm lab k) where
   abbrev W : List ℕ
   W = words bs
 
@@ -107,6 +107,9 @@ module _ (bs : List ℕ) (s : Shape) (R : at.InRange s) (room : 4 * at.size s �
 
   pub spot-here : Spot s k
   spot-here = spot s R k in_rows
+
+  pub row_room : 4 * (at.node_at s k + at.node_width s.variables) ≤ length bs
+  row_room = omega (arith, spot-here.fits, room)
 
   long : (t : Tree) → length (tree_words m xs pw t) ≡ nodes t * (at.node_width m)
   long t = tree-length m xs pw R.vars-to g.power-absent t

@@ -1,8 +1,8 @@
 -- One entry more in the node rows of an image: the way from the root to a leaf, and the rows on it. Assumes nothing.
-use Rattle.std.specs.Prelude.{◌≡◌, Bool, cond, List, [], ◌∷◌, ℕ, zero, suc, ◌+◌, ◌-◌, ◌*◌, ◌≤◌, ◌<◌, ltb, eqb, length, get_or}
+use Rattle.std.specs.Prelude.{◌≡◌, Bool, cond, List, [], ◌∷◌, ℕ, zero, suc, ◌+◌, ◌-◌, ◌*◌, ◌≤◌, ◌<◌, ltb, eqb, length, get_or, drop}
 use Rattle.words.specs.Words.{paste_w}
 use Rattle.words.specs.Tables.{part}
-use Rattle.monomial.specs.Monomial.{pow}
+use Rattle.monomial.specs.Monomial.{front, pow}
 use Rattle.monomial.specs.Operations.{result_words}
 use Rattle.monomial.specs.declared.ordered_ops.Op.TheVariants.{Gcd}
 use Rattle.kd_theory.specs.Tree.{Tree, leaf, branch, nodes, count, Keys, insert, place_of}
@@ -12,7 +12,7 @@ use Rattle.index_image.specs.Walk as walk
 use Rattle.index_image.specs.Walk.{map_maxima, row_in, dims, KeyOk}
 use Rattle.index_image.specs.Rows.{monomial_in}
 use Rattle.index_image.specs.declared.Shape.{Shape}
-use Rattle.kd_slots.specs.Slots.{gcd_words}
+use Rattle.kd_slots.specs.Slots.{gcd_width, gcd_words}
 use Rattle.kd_descent.specs.declared.Way.{Way}
 use Rattle.kd_descent.specs.declared.Way.TheVariants.{Leaf, On}
 
@@ -37,6 +37,12 @@ way_of K e (leaf es) = Leaf (length es)
 way_of K e (branch d k l r) = cond (K.below d k e) (On 1 0) (On (suc (nodes l)) (count l))
 
 -- ---- a row with one entry more, whose lm is `lm`
+-- the row at word i is within the image, and has a gcd and the gcd's mask
+pub record Row (W : List ℕ) (s : Shape) (i : ℕ) : Type 0 where
+  pub inside : i + at.node_width s.variables ≤ at.size s
+  pub gcd : front 1 s.variables 0 (drop (at.gcd_at i) W) ≡ 0 → ⊥
+  pub masked : part W (at.node_mask_at i) (gcd_width s.variables) ≡ gcd_words s.variables (map_maxima W s) (monomial_in W s.variables (at.gcd_at i))
+
 -- the gcd of a row's c entries and lm; of no entries it is lm
 unfoldable pub grown_gcd : List ℕ → ℕ → ℕ → ℕ → List ℕ → List ℕ
 grown_gcd W m i c lm = cond (eqb c 0) lm (result_words Gcd (monomial_in W m (at.gcd_at i)) lm)

@@ -33,6 +33,7 @@ use Rattle.index_image.proofs.Images as of
 use Rattle.index_image.proofs.Images.{labels-of-ratios}
 use Rattle.index_image.proofs.Keys.{tree-words-ext, by-numbers}
 use Rattle.index_image.proofs.Once.{once-below}
+use Rattle.kd_slots.specs.Slots.{Mapped}
 use Rattle.kd_descent.specs.Growing.{below_in, keys_by, Keyed, Growth, grown_rows, place}
 use Rattle.kd_descent.specs.Growing as growing
 use Rattle.kd_insert.specs.Inserting.{Hangs, hung}
@@ -79,12 +80,13 @@ unfolding over
 head-over a b c d e f r = refl
 
 -- ---- what `hang` leaves
-pub hung-is : (bs a b d : List ℕ) (s : Shape) (lm : List ℕ) (lab q p : ℕ) (g : Growth (words bs) s lm lab 0) → at.InRange s → 4 * at.size s ≤ length bs
+pub hung-is : (bs a b d : List ℕ) (s : Shape) (lm : List ℕ) (lab q p : ℕ) (g : Growth (words bs) s lm lab 0) → Mapped bs s
     → count g.tree ≡ s.entries → s.entries < s.capacity
     → q ≡ at.permutation_at s → p ≡ place g → a ≡ paste_w bs (at.node_at s 0) (grown_rows g) → b ≡ paste_w a (q + p) (s.entries ∷ part (words a) (q + p) (q + s.entries - (q + p)))
     → d ≡ put_w b at.length_at (s.entries + 1) → length b ≡ length bs → d ≡ hung bs s lm lab g
 unfolding hung
-hung-is bs a b d s lm lab q p g R room all few eq ep ea eb ed lb =
+hung-is bs a b d s lm lab q p g M all few eq ep ea eb ed lb =
+    let room = M.room in
     let pl = place_inside (growing.keys g) g.entry g.tree in
     let n = s.entries in
     let x = at.permutation_at s + place g in

@@ -7,13 +7,14 @@ use native.Mathlib.Nat.{zero-mul}
 use lib.ListN.{length}
 use Rattle.words.specs.Words.{words, paste_w}
 use Rattle.words.specs.Tables.{part}
-use Rattle.words.proofs.Laws.{Bytes, length-paste_w}
+use Rattle.words.proofs.Laws.{Bytes, Words, length-paste_w}
+use Rattle.words.proofs.Tables.{small-each}
 use Rattle.words.proofs.Joined.{moved}
 use Rattle.monomial.specs.Monomial.{Canonical}
 use Rattle.monomial.proofs.Canon.{front-end}
 use Rattle.monomial.proofs.Powers.{canonical-length}
 use Rattle.divmask.specs.Tracker.{Maxima, updated}
-use Rattle.divmask.proofs.Growth.{updated-length}
+use Rattle.divmask.proofs.Growth.{updated-length, updated-good}
 use Rattle.fast_compare.specs.Map as map
 use Rattle.kd_theory.specs.Tree.{inorder, nodes}
 use Rattle.index_theory.specs.Entries.{Entry, one}
@@ -25,36 +26,33 @@ use Rattle.index_image.specs.Walk.{map_maxima}
 use Rattle.index_image.specs.Head.{HeadOk}
 use Rattle.index_image.specs.declared.Shape.{Shape}
 use Rattle.index_image.proofs.Bounds.{entry-inside, width-least}
+use Rattle.kd_slots.specs.Slots.{Mapped}
 use Rattle.kd_slots.proofs.Writing.{masked-length}
 use Rattle.index_image.proofs.Heads.{same_shape}
 use Rattle.index_image.proofs.Shapes.{code-monomial}
 use Rattle.index_image.proofs.Images as of
 use Rattle.kd_insert.specs.Inserting.{Room, Inserted, Hangs, hung}
-use Rattle.words.proofs.Pasting.{part-before, part-after}
+use Rattle.words.proofs.Pasting.{part-before, part-after, part-pasted}
 use Rattle.words.proofs.Drafts.{Draft}
 use Rattle.kd_insert.proofs.Inserts.{half, hangs, finish}
 use Rattle.kd_insert.proofs.Halves.{start, half-made}
 
 -- ---- what an image with room tells
 pub record Basics (bs : List ℕ) (s : Shape) : Type 0 where
-  pub range : at.InRange s
-  pub room : 4 * at.size s ≤ length bs
+  pub mapped : Mapped bs s
   pub present : Maxima s.variables (part (words bs) at.maxima_at s.variables)
-  pub map : Maxima s.variables (map_maxima (words bs) s)
 
 pub basics-of : (bs : List ℕ) (st : State) (I : Is st bs) → Basics bs (shape_of st)
 basics-of bs st I = record {
-  range = of.range bs st I;
-  room = I.room;
+  mapped = record { range = of.range bs st I; room = I.room; map = rw (of.pieces bs st I).map I.valid.map-good };
   present = rw (of.pieces bs st I).maxima I.valid.maxima-good;
-  map = rw (of.pieces bs st I).map I.valid.map-good;
 }
 
 pub shape_is : (bs : List ℕ) (s : Shape) → HeadOk (words bs) (length bs) s → (st : State) → Is st bs → shape_of st ≡ s
 shape_is bs s h st I = same_shape (words bs) (length bs) (shape_of st) s (of.head_ok bs st I) h
 
-pub basics : (bs : List ℕ) (s : Shape) → Room bs s → Basics bs s
-basics bs s R = rw (shape_is bs s R.head R.sound.state R.sound.is) at (basics-of bs R.sound.state R.sound.is)
+pub basics : {bs : List ℕ} {s : Shape} → Room bs s → Basics bs s
+basics {bs} {s} R = rw (shape_is bs s R.head R.sound.state R.sound.is) at (basics-of bs R.sound.state R.sound.is)
 
 -- ---- the maxima of the map stay when the present ones are raised
 pub map-tracked : (bs im : List ℕ) (s : Shape) (lm : List ℕ) → Basics bs s → im ≡ paste_w bs at.maxima_at (updated lm (part (words bs) at.maxima_at s.variables))
@@ -63,8 +61,29 @@ map-tracked bs im s lm b e =
     let m = s.variables in
     let us = updated lm (part (words bs) at.maxima_at m) in
     let l : length us ≡ m = updated-length lm (part (words bs) at.maxima_at m) ∙ b.present.one_each in
-    let r = b.room in
+    let r = b.mapped.room in
     (ap length e ∙ length-paste_w bs at.maxima_at us (omega arith), rw e (part-after bs at.maxima_at us (at.map_at m) m (omega arith) (omega arith)))
+
+-- the stages keep what the next one needs
+maxima-small : (m : ℕ) (xs : List ℕ) → Maxima m xs → Words xs
+maxima-small m xs h = (small-each xs (λ i k. omega (arith, h.high i (omega (arith, h.one_each))))).each
+
+pub tracked-is : (im im' : List ℕ) (s : Shape) (ws : List ℕ) → Basics im s → Canonical 1 s.variables ws → im' ≡ paste_w im at.maxima_at (updated ws (part (words im) at.maxima_at s.variables))
+    → part (words im') at.maxima_at s.variables ≡ updated ws (part (words im) at.maxima_at s.variables)
+tracked-is im im' s ws b can e =
+    let m = s.variables in
+    let us = updated ws (part (words im) at.maxima_at m) in
+    let good = updated-good m ws (part (words im) at.maxima_at m) can b.present in
+    let l : length us ≡ m = good.one_each in
+    rw e (ap (part (words (paste_w im at.maxima_at us)) at.maxima_at) (sym l) ∙ part-pasted im at.maxima_at us (maxima-small m us good) (omega (arith, b.mapped.room)))
+
+pub basics-tracked : {im im' : List ℕ} {s : Shape} {ws : List ℕ} → Basics im s → Canonical 1 s.variables ws
+    → im' ≡ paste_w im at.maxima_at (updated ws (part (words im) at.maxima_at s.variables)) → Basics im' s
+basics-tracked {im} {im'} {s} {ws} b can e =
+    let t = map-tracked im im' s ws b e in record {
+      mapped = record { range = b.mapped.range; room = omega (arith, t.0, b.mapped.room); map = rw t.1 b.mapped.map };
+      present = rw (tracked-is im im' s ws b can e) (updated-good s.variables ws (part (words im) at.maxima_at s.variables) can b.present);
+    }
 
 -- ---- a monomial index has no labels
 no-labels : (k : Kind) (l : map.State) (e : Entry) → k ≡ monomials → labelled k l e ≡ l
@@ -131,13 +150,13 @@ module _ (bs : List ℕ) (B : Bytes bs) (st : State) (I : Is st bs) (lm : List �
   made = half-made bs st I e good ofk few bs im1 im2 (rw (no-labels st.kind st.labels e k) (start bs st I e good ofk few B)) e1' e2'
 
   row-long : length (entry_words st.kind m st.map_maxima l' e) ≡ at.masked_width m
-  row-long = ap length (sym row_is) ∙ masked-length m st.map_maxima lm [] (canonical-length 1 m lm (omega arith) (omega (arith, b.map.few)) can) ∙ omega arith
+  row-long = ap length (sym row_is) ∙ masked-length m st.map_maxima lm [] (canonical-length 1 m lm (omega arith) (omega (arith, b.mapped.map.few)) can) ∙ omega arith
 
   row-in : at.entry_at s n + at.masked_width m ≤ at.permutation_at s
-  row-in = omega (arith, entry-inside s b.range n few, width-least s b.range)
+  row-in = omega (arith, entry-inside s b.mapped.range n few, width-least s b.mapped.range)
 
   fits : 4 * (at.entry_at s n + length (entry_words st.kind m st.map_maxima l' e)) ≤ length im1
-  fits = omega (arith, row-long, row-in, map1.0, b.room)
+  fits = omega (arith, row-long, row-in, map1.0, b.mapped.room)
 
   long2 : length im2 ≡ length bs
   long2 = ap length e2' ∙ length-paste_w im1 (at.entry_at s n) _ (omega (arith, fits)) ∙ map1.0
@@ -150,7 +169,7 @@ module _ (bs : List ℕ) (B : Bytes bs) (st : State) (I : Is st bs) (lm : List �
   kept i j h =
       let us = updated lm (part (words bs) at.maxima_at m) in
       let l : length us ≡ m = updated-length lm (part (words bs) at.maxima_at m) ∙ b.present.one_each in
-      let r = b.room in
+      let r = b.mapped.room in
       ap (λ (x : List ℕ). part (words x) i j) e2'
       ∙ part-after im1 (at.entry_at s n) (entry_words st.kind m st.map_maxima l' e) i j (omega (arith, row-long, row-in)) fits
       ∙ ap (λ (x : List ℕ). part (words x) i j) e1 ∙ part-after bs at.maxima_at us i j (omega arith) (omega arith)
@@ -172,22 +191,22 @@ module _ (bs : List ℕ) (B : Bytes bs) (st : State) (I : Is st bs) (lm : List �
       (f (hangs bs st I e good ofk few im2 made map2 nodes2 perm2 long2 0 not-one (λ z. not-one z) (λ z. not-one z)))
 
 -- ---- the same for the shape in the header
-abbrev First : List ℕ → List ℕ → List ℕ → List ℕ → Shape → Type 0
+abbrev pub First : List ℕ → List ℕ → List ℕ → List ℕ → Shape → Type 0
 First bs lm im1 im2 s =
     (im1 ≡ paste_w bs at.maxima_at (updated lm (part (words bs) at.maxima_at s.variables)))
     × ((im2 ≡ paste_w im1 (at.entry_at s s.entries) (masked s.variables (map_maxima (words im1) s) lm []))
     × ((Canonical 1 s.variables lm) × ((s.kind ≡ 0) × (s.entries < s.capacity))))
 
-pub monomial-hangs : (bs im1 im2 lm : List ℕ) (s : Shape) → Bytes bs → Room bs s → First bs lm im1 im2 s → Hangs (words im2) s lm 0
-monomial-hangs bs im1 im2 lm s B R f =
+pub monomial-hangs : {bs im1 im2 lm : List ℕ} {s : Shape} → Room bs s → Bytes bs → First bs lm im1 im2 s → Hangs (words im2) s lm 0
+monomial-hangs {bs} {im1} {im2} {lm} {s} R B f =
     let st = R.sound.state in
     let q = shape_is bs s R.head st R.sound.is in
     let g : First bs lm im1 im2 (shape_of st) = subst (λ (x : Shape). First bs lm im1 im2 x) (sym q) f in
     subst (λ (x : Shape). Hangs (words im2) x lm 0) q (hangs2 bs B st R.sound.is lm g.1.1.0 (code-monomial st.kind g.1.1.1.0) g.1.1.1.1 im1 im2 g.0 g.1.0)
 
-pub monomial-inserted : (bs im1 im2 im3 lm : List ℕ) (s : Shape) → Bytes bs → Room bs s → First bs lm im1 im2 s
+pub monomial-inserted : {bs im1 im2 im3 lm : List ℕ} {s : Shape} → Room bs s → Bytes bs → First bs lm im1 im2 s
     → ((h : Hangs (words im2) s lm 0) → im3 ≡ hung im2 s lm 0 h.growth) → Inserted (plain lm) s.entries bs im3
-monomial-inserted bs im1 im2 im3 lm s B R f h = record {
+monomial-inserted {bs} {im1} {im2} {im3} {lm} {s} R B f h = record {
   number = λ st I. ap (λ (x : Shape). x.entries) (sym (shape_is bs s R.head st I));
   bytes = λ st I.
       let q = shape_is bs s R.head st I in

@@ -7,12 +7,12 @@ use native.Mathlib.Nat.{zero-mul}
 use lib.ListN.{length, get_or}
 use Rattle.words.specs.Words.{words, paste_w}
 use Rattle.words.specs.Tables.{part, over}
-use Rattle.words.proofs.Laws.{Bytes, Words, length-paste_w, paste_w-before}
+use Rattle.words.proofs.Laws.{Bytes, length-paste_w, paste_w-before}
 use Rattle.words.proofs.Joined.{moved}
-use Rattle.words.proofs.Tables.{row_fits, over-all, small-each}
+use Rattle.words.proofs.Tables.{row_fits, over-all}
 use Rattle.monomial.specs.Monomial.{Canonical}
-use Rattle.divmask.specs.Tracker.{Maxima, updated}
-use Rattle.divmask.proofs.Growth.{updated-length, updated-good}
+use Rattle.divmask.specs.Tracker.{updated}
+use Rattle.divmask.proofs.Growth.{updated-length}
 use Rattle.fast_compare.specs.Map as map
 use Rattle.fast_compare.specs.Layout as labels
 use Rattle.fast_compare.proofs.Exact.{encode-small}
@@ -44,44 +44,16 @@ use Rattle.words.proofs.Drafts.{Draft, draft-step}
 use Rattle.kd_insert.proofs.Inserts.{half, lengths, hangs, finish}
 use Rattle.kd_insert.proofs.Halves as halves
 use Rattle.kd_insert.proofs.Halves.{start, with_labels, half-made}
-use Rattle.kd_insert.proofs.Monomials.{Basics, basics-of, shape_is}
+use Rattle.kd_insert.proofs.Monomials.{Basics, basics-of, tracked-is, shape_is}
 
--- ---- maxima are words
-maxima-small : (m : ℕ) (xs : List ℕ) → Maxima m xs → Words xs
-maxima-small m xs h = (small-each xs (λ i k. omega (arith, h.high i (omega (arith, h.one_each))))).each
-
--- ---- the stages keep what the next one needs
+-- the map and the maxima stay when the labels are written
 pub basics-labelled : (bs im : List ℕ) (s : Shape) (ws : List ℕ) → Basics bs s → length im ≡ length bs → im ≡ paste_w bs (at.labels_at s) ws → Basics im s
 basics-labelled bs im s ws b l e =
-    let r = b.room in
+    let r = b.mapped.room in
     let fit : 4 * at.labels_at s ≤ length bs = omega arith in
     let present : part (words im) at.maxima_at s.variables ≡ part (words bs) at.maxima_at s.variables = rw e (part-before bs (at.labels_at s) ws at.maxima_at s.variables fit (omega arith)) in
     let map_is : map_maxima (words im) s ≡ map_maxima (words bs) s = rw e (part-before bs (at.labels_at s) ws (at.map_at s.variables) s.variables fit (omega arith)) in
-    record { range = b.range; room = omega arith; present = rw present b.present; map = rw map_is b.map }
-
-pub basics-tracked : (im im' : List ℕ) (s : Shape) (ws : List ℕ) → Basics im s → Canonical 1 s.variables ws
-    → im' ≡ paste_w im at.maxima_at (updated ws (part (words im) at.maxima_at s.variables)) → Basics im' s
-basics-tracked im im' s ws b can e =
-    let m = s.variables in
-    let us = updated ws (part (words im) at.maxima_at m) in
-    let good = updated-good m ws (part (words im) at.maxima_at m) can b.present in
-    let l : length us ≡ m = good.one_each in
-    let r = b.room in
-    let fit : 4 * (at.maxima_at + length us) ≤ length im = omega arith in
-    let present : part (words im') at.maxima_at m ≡ us = rw e (ap (part (words (paste_w im at.maxima_at us)) at.maxima_at) (sym l) ∙ part-pasted im at.maxima_at us (maxima-small m us good) fit) in
-    let map_is : map_maxima (words im') s ≡ map_maxima (words im) s = rw e (part-after im at.maxima_at us (at.map_at m) m (omega arith) (omega arith)) in
-    let long : length im' ≡ length im = ap length e ∙ length-paste_w im at.maxima_at us (omega arith) in
-    record { range = b.range; room = omega arith; present = rw present good; map = rw map_is b.map }
-
-pub tracked-is : (im im' : List ℕ) (s : Shape) (ws : List ℕ) → Basics im s → Canonical 1 s.variables ws → im' ≡ paste_w im at.maxima_at (updated ws (part (words im) at.maxima_at s.variables))
-    → part (words im') at.maxima_at s.variables ≡ updated ws (part (words im) at.maxima_at s.variables)
-tracked-is im im' s ws b can e =
-    let m = s.variables in
-    let us = updated ws (part (words im) at.maxima_at m) in
-    let good = updated-good m ws (part (words im) at.maxima_at m) can b.present in
-    let l : length us ≡ m = good.one_each in
-    let r = b.room in
-    rw e (ap (part (words (paste_w im at.maxima_at us)) at.maxima_at) (sym l) ∙ part-pasted im at.maxima_at us (maxima-small m us good) (omega arith))
+    record { mapped = record { range = b.mapped.range; room = omega arith; map = rw map_is b.mapped.map }; present = rw present b.present }
 
 -- ---- a ratio index
 has-label : (k : Kind) (l : map.State) (e : Entry) → k ≡ ratioed → labelled k l e ≡ settled l (ratio_of e)
@@ -166,7 +138,7 @@ module _ (bs : List ℕ) (B : Bytes bs) (st : State) (I : Is st bs) (i : ℕ) (s
   cap' = settles.cap ∙ I.valid.labels-cap
 
   map-long : length (labels.encode l') ≡ at.labels_size s
-  map-long = encode-length l' settles.valid ∙ rw (vars', cap') (sym (ratio-labels s b.range C.one))
+  map-long = encode-length l' settles.valid ∙ rw (vars', cap') (sym (ratio-labels s b.mapped.range C.one))
 
   done : Labels s l v r bs im0
   done = C.labels-done l (of.map_is bs st I k)
@@ -181,7 +153,7 @@ module _ (bs : List ℕ) (B : Bytes bs) (st : State) (I : Is st bs) (i : ℕ) (s
   map-in = omega (arith, map-long)
 
   map-fits : 4 * (at.labels_at s + length (labels.encode l')) ≤ length bs
-  map-fits = omega (arith, map-long, b.room)
+  map-fits = omega (arith, map-long, b.mapped.room)
 
   long0 : length im0 ≡ length bs
   long0 = ap length e0 ∙ length-paste_w bs (at.labels_at s) (labels.encode l') (omega (arith, map-fits))
@@ -202,7 +174,7 @@ module _ (bs : List ℕ) (B : Bytes bs) (st : State) (I : Is st bs) (i : ℕ) (s
       let ws = updated lm us in
       let lu : length us ≡ m = updated-length sign (part (words im0) at.maxima_at m) ∙ b0.present.one_each in
       let lw : length ws ≡ m = updated-length lm us ∙ lu in
-      let r0 = b0.room in
+      let r0 = b0.mapped.room in
       let z : im1 ≡ paste_w (paste_w im0 at.maxima_at us) at.maxima_at ws = C.lm-tracked ∙ rw (tracked-is im0 ima s sign b0 C.sign-canonical C.sign-tracked, C.sign-tracked) in
       let t : paste_w (paste_w im0 at.maxima_at us) at.maxima_at ws ≡ paste_w im0 at.maxima_at (over us 0 ws) = paste-in im0 at.maxima_at us 0 ws (omega arith) (omega arith) in
       z ∙ t ∙ ap (paste_w im0 at.maxima_at) (over-all us ws (omega arith)) ∙ rw (present0, both st.kind e st.maxima k)
@@ -211,7 +183,7 @@ module _ (bs : List ℕ) (B : Bytes bs) (st : State) (I : Is st bs) (i : ℕ) (s
   mx-long = (lengths bs st I e good ofk few).maxima
 
   mx-fits : 4 * (at.maxima_at + length mx) ≤ length im0
-  mx-fits = omega (arith, mx-long, b0.room)
+  mx-fits = omega (arith, mx-long, b0.mapped.room)
 
   long1 : length im1 ≡ length bs
   long1 = ap length e1 ∙ length-paste_w im0 at.maxima_at mx (omega (arith, mx-fits)) ∙ long0
@@ -229,13 +201,13 @@ module _ (bs : List ℕ) (B : Bytes bs) (st : State) (I : Is st bs) (i : ℕ) (s
   e2 = C.row_written ∙ rw (map1, row_is, whole_row st.kind m st.map_maxima l' e k)
 
   row-long : length row ≡ at.entry_width s
-  row-long = entry_length st.kind m st.map_maxima l' e b.range.vars-to good
+  row-long = entry_length st.kind m st.map_maxima l' e b.mapped.range.vars-to good
 
   row-in : at.entry_at s n + at.entry_width s ≤ at.permutation_at s
-  row-in = entry-inside s b.range n few
+  row-in = entry-inside s b.mapped.range n few
 
   row-fits-in : 4 * (at.entry_at s n + length row) ≤ length im1
-  row-fits-in = omega (arith, row-long, row-in, long1, b.room)
+  row-fits-in = omega (arith, row-long, row-in, long1, b.mapped.room)
 
   long2 : length im2 ≡ length bs
   long2 = ap length e2 ∙ length-paste_w im1 (at.entry_at s n) row (omega (arith, row-fits-in)) ∙ long1
@@ -273,7 +245,7 @@ module _ (bs : List ℕ) (B : Bytes bs) (st : State) (I : Is st bs) (i : ℕ) (s
   perm2 : part (words im2) (at.permutation_at s) n ≡ inorder st.tree
   perm2 =
       kept (at.permutation_at s) n (omega arith) ∙ ap (λ (x : List ℕ). part (words x) (at.permutation_at s) n) e0
-      ∙ part-before bs (at.labels_at s) (labels.encode l') (at.permutation_at s) n (omega (arith, map-fits)) (omega (arith, b.range.few))
+      ∙ part-before bs (at.labels_at s) (labels.encode l') (at.permutation_at s) n (omega (arith, map-fits)) (omega (arith, b.mapped.range.few))
       ∙ (of.pieces bs st I).permutation
 
   -- ---- the label map
@@ -289,10 +261,10 @@ module _ (bs : List ℕ) (B : Bytes bs) (st : State) (I : Is st bs) (i : ℕ) (s
   maps2 = record { valid = settles.valid; vars = vars'; cap = cap'; is = kept (at.labels_at s) (at.labels_size s) (omega arith) ∙ there }
 
   room0 : 4 * at.size s ≤ length im0
-  room0 = omega (arith, long0, b.room)
+  room0 = omega (arith, long0, b.mapped.room)
 
   room2 : 4 * at.size s ≤ length im2
-  room2 = omega (arith, long2, b.room)
+  room2 = omega (arith, long2, b.mapped.room)
 
   has : (j : ℕ) × (j < length l'.rows) × (map.value l'.rows j ≡ ratio_of e)
   has = settles.has
@@ -310,7 +282,7 @@ module _ (bs : List ℕ) (B : Bytes bs) (st : State) (I : Is st bs) (i : ℕ) (s
   lab2 z =
       rw (entry_new es (numbered n e))
       (label-of l' settles.valid (ratio_of e) has.0 has.1 has.2
-      ∙ sym (label-at im0 s b.range room0 C.one l' map0 has.0 has.1)
+      ∙ sym (label-at im0 s b.mapped.range room0 C.one l' map0 has.0 has.1)
       ∙ ap (λ (j : ℕ). get_or (words im0) (at.label_at s j) 0) (sym row-at) ∙ sym C.label-read)
 
   -- ---- the entries that were there
@@ -322,7 +294,7 @@ module _ (bs : List ℕ) (B : Bytes bs) (st : State) (I : Is st bs) (i : ℕ) (s
     q = at.row_at s x
 
     q-in : q < at.entry_at s n
-    q-in = omega (arith, ratio-width s b.range C.one, row_fits x n (at.entry_width s) h)
+    q-in = omega (arith, ratio-width s b.mapped.range C.one, row_fits x n (at.entry_width s) h)
 
     row_kept : row_in (words im2) s x ≡ row_in (words bs) s x
     row_kept =
@@ -341,7 +313,7 @@ module _ (bs : List ℕ) (B : Bytes bs) (st : State) (I : Is st bs) (i : ℕ) (s
     labels2 =
         let z = settles.old o.0 o.1 in
         rw (entry_old es (numbered n e) x h, row_here)
-        (label-of l' settles.valid (ratio_of (entry_at es x)) o.0 z.0 (z.1 ∙ o.2) ∙ sym (label-at im2 s b.range room2 C.one l' maps2 o.0 z.0))
+        (label-of l' settles.valid (ratio_of (entry_at es x)) o.0 z.0 (z.1 ∙ o.2) ∙ sym (label-at im2 s b.mapped.range room2 C.one l' maps2 o.0 z.0))
 
   pub ratio-hangs : Hangs (words im2) (shape_of st) lm lab
   ratio-hangs = hangs bs st I e good ofk few im2 made map2 nodes2 perm2 long2 lab lab2 (λ z. labels2) (λ z. rows2)
@@ -352,8 +324,8 @@ module _ (bs : List ℕ) (B : Bytes bs) (st : State) (I : Is st bs) (i : ℕ) (s
       (f (hangs bs st I e good ofk few im2 made map2 nodes2 perm2 long2 lab lab2 (λ z. labels2) (λ z. rows2)))
 
 -- ---- the same for the shape in the header
-pub label-ready : (bs : List ℕ) (s : Shape) → Room bs s → s.kind ≡ 1 → labels.SoundFor s.variables s.capacity (label_bytes bs s)
-label-ready bs s R one =
+pub label-ready : {bs : List ℕ} {s : Shape} → Room bs s → s.kind ≡ 1 → labels.SoundFor s.variables s.capacity (label_bytes bs s)
+label-ready {bs} {s} R one =
     let st = R.sound.state in
     let I = R.sound.is in
     let q = shape_is bs s R.head st I in
@@ -361,14 +333,14 @@ label-ready bs s R one =
     subst (λ (x : Shape). labels.SoundFor x.variables x.capacity (label_bytes bs x)) q
     (of_map bs (shape_of st) (of.range bs st I) I.room one' st.labels (of.map_is bs st I (code-ratio st.kind one')))
 
-module _ (bs : List ℕ) (B : Bytes bs) (s : Shape) (R : Room bs s) (i : ℕ) (sign lm im0 : List ℕ) (r : ℕ) where
-  -- ---- once the labels are done
-  pub record Early : Type 0 where
-    pub small : r < s.capacity
-    pub basics : Basics im0 s
+-- once the labels are done
+pub record Early (im0 : List ℕ) (s : Shape) (r : ℕ) : Type 0 where
+  pub small : r < s.capacity
+  pub basics : Basics im0 s
 
+module _ {bs : List ℕ} {s : Shape} (R : Room bs s) (B : Bytes bs) {i : ℕ} {sign lm im0 : List ℕ} {r : ℕ} where
   pub early : s.kind ≡ 1 → i < 268435456 → Canonical 1 s.variables sign → Canonical 1 s.variables lm
-      → ((l : map.State) → MapIs (words bs) s l → Labels s l (quotient_of i sign lm) r bs im0) → Early
+      → ((l : map.State) → MapIs (words bs) s l → Labels s l (quotient_of i sign lm) r bs im0) → Early im0 s r
   early one hi cs cl d =
       let st = R.sound.state in
       let I = R.sound.is in
@@ -396,7 +368,7 @@ module _ (bs : List ℕ) (B : Bytes bs) (s : Shape) (R : Room bs s) (i : ℕ) (s
       }
 
   -- ---- once all is written but the tree
-  module _ (lab : ℕ) (ima im1 im2 : List ℕ) (C : Calls bs i sign lm im0 r lab ima im1 im2 s) where
+  module _ {lab : ℕ} {ima im1 im2 : List ℕ} (C : Calls bs i sign lm im0 r lab ima im1 im2 s) where
     calls-for : (st : State) → Is st bs → Calls bs i sign lm im0 r lab ima im1 im2 (shape_of st)
     calls-for st I = subst (λ (x : Shape). Calls bs i sign lm im0 r lab ima im1 im2 x) (sym (shape_is bs s R.head st I)) C
 
@@ -406,8 +378,8 @@ module _ (bs : List ℕ) (B : Bytes bs) (s : Shape) (R : Room bs s) (i : ℕ) (s
         let I = R.sound.is in
         subst (λ (x : Shape). Hangs (words im2) x lm lab) (shape_is bs s R.head st I) (ratio-hangs bs B st I i sign lm im0 r lab ima im1 im2 (calls-for st I))
 
-    pub ratio-inserted : (im3 : List ℕ) → ((h : Hangs (words im2) s lm lab) → im3 ≡ hung im2 s lm lab h.growth) → Inserted (signed i sign lm) s.entries bs im3
-    ratio-inserted im3 h = record {
+    pub ratio-inserted : {im3 : List ℕ} → ((h : Hangs (words im2) s lm lab) → im3 ≡ hung im2 s lm lab h.growth) → Inserted (signed i sign lm) s.entries bs im3
+    ratio-inserted {im3} h = record {
       number = λ st I. ap (λ (x : Shape). x.entries) (sym (shape_is bs s R.head st I));
       bytes = λ st I.
           let q = shape_is bs s R.head st I in

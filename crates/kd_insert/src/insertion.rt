@@ -6,34 +6,31 @@ ghost use Rattle.monomial.specs.Monomial.{Canonical};
 ghost use Rattle.divmask.specs.Tracker.{Maxima, updated};
 ghost use Rattle.index_theory.specs.Calls.{plain};
 ghost use Rattle.index_image.specs.Shape as shape;
-ghost use Rattle.index_image.specs.Walk.{map_maxima};
+ghost use Rattle.kd_slots.specs.Slots.{Mapped, Lent};
 ghost use Rattle.kd_descent.specs.Growing.{Growth, place};
 ghost use Rattle.kd_insert.specs.Inserting.{Room, Inserted, signed, Hangs, hung};
 
+use index_image::image::Image;
 use index_image::{Shape, fields};
 use power_table::Dense;
 
 // Runs `update` on the present maxima.
 pub fn track(image: &mut [u8], s: Shape, monomial: &[u8])
-    requires in_range { shape.InRange s }
-    requires s_in_bounds { 4 * shape.size s ≤ length image.old }
+    requires room { 4 * shape.map_at s.variables ≤ length image.old }
     requires maxima { Maxima s.variables (part (words image.old) shape.maxima_at s.variables) }
     requires canonical { Canonical 1 s.variables (words monomial.now) }
     ensures { image.new ≡ paste_w image.old shape.maxima_at (updated (words monomial.now) (part (words image.old) shape.maxima_at s.variables)) }
 {
     let m = s.variables;
     let a = 4 * fields::HEADER;
-    let b = a + 4 * m;
-    divmask::tracker::update(&mut image[a..b], m as u32, monomial);
+    divmask::tracker::update(&mut image[a..a + 4 * m], m as u32, monomial);
 }
 
 // Puts the place s.entries, whose entry has this lm and label, into the tree and the permutation, and counts it in the header.
+// `Mapped` is a clause, no ghost field beside the `&mut`: see `kd_slots::write_masked`. The powers are in an array, since there is no heap.
 pub fn hang(image: &mut [u8], s: Shape, lm: &[u8], label: u64)
-    requires in_range { shape.InRange s }
-    requires s_in_bounds { 4 * shape.size s ≤ length image.old }
-    requires maxima { Maxima s.variables (map_maxima (words image.old) s) }
-    requires canonical { Canonical 1 s.variables (words lm.now) }
-    requires lm_len { length lm.now % 4 ≡ 0 }
+    requires mapped { Mapped image.old s }
+    requires lent { Lent s.variables lm.now }
     requires entries_lt_capacity { s.entries < s.capacity }
     requires hangs { Hangs (words image.old) s (words lm.now) label }
     ensures { (h : Hangs (words image.old) s (words lm.now) label) → image.new ≡ hung image.old s (words lm.now) label h.growth }
@@ -66,7 +63,8 @@ pub fn insert_monomial(image: &mut [u8], s: Shape, lm: &[u8]) -> usize
     n
 }
 
-// Inserts an entry of a ratio index, and returns its number.
+// Inserts an entry of a ratio index, and returns its number. It shares `track` and `hang` with `insert_monomial`; one function for both
+// would branch on the kind at each step between them.
 pub fn insert_ratio(image: &mut [u8], s: Shape, index: u32, sign: &[u8], lm: &[u8]) -> usize
     requires room { Room image.old s }
     requires kind_value { s.kind ≡ 1 }
@@ -77,7 +75,11 @@ pub fn insert_ratio(image: &mut [u8], s: Shape, index: u32, sign: &[u8], lm: &[u
 {
     let n = s.entries;
     let row = kd_labelling::label_entry(image, s, index, sign, lm);
-    let label = kd_labelling::label_at(image, s, row);
+    let labelled = Image {
+        bytes: image,
+        shape: s,
+    };
+    let label = labelled.row_label(row);
     track(image, s, sign);
     track(image, s, lm);
     kd_slots::write_ratio_row(image, s, s.entry_at(n), index, sign, lm, row as u32);

@@ -1,7 +1,7 @@
 // Monomials written into slots, and their masks.
 #![tactic(auto)]
 
-ghost use Rattle.std.specs.Prelude.{◌≡◌, [], ◌+◌, ◌*◌, ◌%◌, ◌≤◌, ◌<◌, length};
+ghost use Rattle.std.specs.Prelude.{◌≡◌, [], ◌+◌, ◌*◌, ◌≤◌, ◌<◌, length};
 ghost use Rattle.words.specs.Words.{words, paste_w};
 ghost use Rattle.monomial.specs.Monomial.{Canonical, pow};
 ghost use Rattle.divmask.specs.Mask.{mask};
@@ -9,16 +9,17 @@ ghost use Rattle.divmask.specs.Tracker.{Maxima};
 ghost use Rattle.index_image.specs.Layout.{slot, masked};
 ghost use Rattle.index_image.specs.Shape as shape;
 ghost use Rattle.index_image.specs.Walk.{map_maxima};
-ghost use Rattle.kd_slots.specs.Slots.{gcd_words, ratio_row};
+ghost use Rattle.kd_slots.specs.Slots.{Mapped, Lent, gcd_words, ratio_row};
 
-use index_image::{Shape, fields, stored};
+use index_image::image::Image;
+use index_image::{Shape, fields};
 
 // Writes a monomial's words and zeros behind them into the slot at word i.
+// `Lent` is a clause: a struct of the bytes and the variables would need one too, that the variables are those of the image.
 pub fn write_slot(image: &mut [u8], i: usize, variables: usize, monomial: &[u8])
     requires variables_bound { variables ≤ 64 }
-    requires canonical { Canonical 1 variables (words monomial.now) }
-    requires monomial_len { length monomial.now % 4 ≡ 0 }
-    requires variables_in_bounds { 4 * (i + shape.slot_width variables) ≤ length image.old }
+    requires lent { Lent variables monomial.now }
+    requires inside { 4 * (i + shape.slot_width variables) ≤ length image.old }
     ensures { image.new ≡ paste_w image.old i (slot variables (words monomial.now)) }
 {
     let n = monomial.len() / 4;
@@ -27,54 +28,43 @@ pub fn write_slot(image: &mut [u8], i: usize, variables: usize, monomial: &[u8])
 }
 
 // The mask of a monomial, by the map of the image.
-pub fn mask_of(image: &[u8], s: Shape, monomial: &[u8]) -> u32
-    requires in_range { shape.InRange s }
-    requires s_in_bounds { 4 * shape.size s ≤ length image.now }
-    requires maxima { Maxima s.variables (map_maxima (words image.now) s) }
-    requires canonical { Canonical 1 s.variables (words monomial.now) }
-    ensures { result ≡ mask s.variables (map_maxima (words image.now) s) (pow 1 (words monomial.now)) }
+pub fn mask_of(image: &Image<'_>, monomial: &[u8]) -> u32
+    requires maxima { Maxima image.now.shape.variables (map_maxima (words image.now.bytes.now) image.now.shape) }
+    requires canonical { Canonical 1 image.now.shape.variables (words monomial.now) }
+    ensures { result ≡ mask image.now.shape.variables (map_maxima (words image.now.bytes.now) image.now.shape) (pow 1 (words monomial.now)) }
 {
-    let m = s.variables;
-    let x = 4 * (fields::HEADER + m);
-    let y = x + 4 * m;
-    divmask::map(&image[x..y], m as u32, monomial)
+    divmask::map(image.map(), image.shape.variables as u32, monomial)
 }
 
 // Writes the slot at word i, and behind it mask and short exponent vector.
+// `Mapped` is a clause: a struct that holds the `&mut` would need two, that its reference and its numbers stay, and with the map asks where each write begins.
 pub fn write_masked(image: &mut [u8], s: Shape, i: usize, monomial: &[u8])
-    requires in_range { shape.InRange s }
-    requires s_in_bounds { 4 * shape.size s ≤ length image.old }
-    requires maxima { Maxima s.variables (map_maxima (words image.old) s) }
-    requires canonical { Canonical 1 s.variables (words monomial.now) }
-    requires monomial_len { length monomial.now % 4 ≡ 0 }
-    requires variables_bound { i + shape.masked_width s.variables ≤ shape.size s }
+    requires mapped { Mapped image.old s }
+    requires lent { Lent s.variables monomial.now }
+    requires inside { i + shape.masked_width s.variables ≤ shape.size s }
     ensures { image.new ≡ paste_w image.old i (masked s.variables (map_maxima (words image.old) s) (words monomial.now) []) }
 {
-    let masks = stored::masks_of(image, s, monomial);
+    let masks = Image {
+        bytes: image,
+        shape: s,
+    }
+    .masks_of(monomial);
     write_slot(image, i, s.variables, monomial);
-    words::put(
-        image,
-        i + (s.variables + fields::MASK),
-        (masks % 4294967296) as u32,
-    );
-    words::put(
-        image,
-        i + (s.variables + fields::VECTOR),
-        (masks / 4294967296) as u32,
-    );
+    words::pairs::put(image, i + (s.variables + fields::MASK), masks);
 }
 
 // Writes the mask and the gcd of the node at word `at`.
 pub fn write_gcd(image: &mut [u8], s: Shape, at: usize, gcd: &[u8])
-    requires in_range { shape.InRange s }
-    requires s_in_bounds { 4 * shape.size s ≤ length image.old }
-    requires maxima { Maxima s.variables (map_maxima (words image.old) s) }
-    requires canonical { Canonical 1 s.variables (words gcd.now) }
-    requires gcd_len { length gcd.now % 4 ≡ 0 }
-    requires variables_bound { at + shape.node_width s.variables ≤ shape.size s }
+    requires mapped { Mapped image.old s }
+    requires lent { Lent s.variables gcd.now }
+    requires inside { at + shape.node_width s.variables ≤ shape.size s }
     ensures { image.new ≡ paste_w image.old (shape.node_mask_at at) (gcd_words s.variables (map_maxima (words image.old) s) (words gcd.now)) }
 {
-    let mask = mask_of(image, s, gcd);
+    let now = Image {
+        bytes: image,
+        shape: s,
+    };
+    let mask = mask_of(&now, gcd);
     words::put(image, at + fields::NODE_MASK, mask);
     write_slot(image, at + fields::GCD, s.variables, gcd);
 }
@@ -89,13 +79,11 @@ pub fn write_ratio_row(
     lm: &[u8],
     row: u32,
 )
-    requires in_range { shape.InRange s }
-    requires s_in_bounds { 4 * shape.size s ≤ length image.old }
-    requires maxima { Maxima s.variables (map_maxima (words image.old) s) }
-    requires canonical { (Canonical 1 s.variables (words sign.now)) × (length sign.now % 4 ≡ 0) }
-    requires canonical_2 { (Canonical 1 s.variables (words lm.now)) × (length lm.now % 4 ≡ 0) }
+    requires mapped { Mapped image.old s }
+    requires sign_lent { Lent s.variables sign.now }
+    requires lm_lent { Lent s.variables lm.now }
     requires index_bound { index < 268435456 }
-    requires variables_bound { (shape.entries_at s.variables ≤ i) × (i + shape.width_of 1 s.variables ≤ shape.size s) }
+    requires inside { (shape.entries_at s.variables ≤ i) × (i + shape.width_of 1 s.variables ≤ shape.size s) }
     ensures { image.new ≡ paste_w image.old i (ratio_row s.variables (map_maxima (words image.old) s) index (words sign.now) (words lm.now) row) }
 {
     let m = s.variables;

@@ -6,8 +6,5 @@ use Rattle.kd_slots.proofs.write_gcd.Goals as goal
 
 pub returns : goal.returns
 returns c =
-    let mask-of = c.mask_of-mask in
-    let put = c.put in
-    gcd-written c.args.image.now c.args.at c.args.s.variables (map_maxima (words c.args.image.now) c.args.s)
-    (words c.args.gcd.now) put.new.s _ mask-of.result (omega (arith, c.requires.s_in_bounds, c.requires.variables_bound)) mask-of.ensures put.ensures
-    c.write_slot.ensures
+    gcd-written c.args.image.now c.args.at c.args.s.variables (map_maxima (words c.args.image.now) c.args.s) (words c.args.gcd.now) c.put.new.s _ c.mask_of-mask.result
+    (omega (arith, c.requires.mapped.room, c.requires.inside)) c.mask_of-mask.ensures c.put.ensures c.write_slot.ensures

@@ -1,64 +1,35 @@
 use native.Mathlib.Omega.{arith}
-use Rattle.kd_insert.proofs.Monomials.{basics, map-tracked, monomial-hangs, monomial-inserted}
-use Rattle.kd_slots.proofs.Writing.{map-entered}
-use Rattle.index_image.proofs.Bounds.{entry-inside, width-least}
-use mathlib.Core.Path.{◌∙◌}
 use Rattle.words.specs.Words.{words}
+use Rattle.index_image.proofs.Bounds.{entry-inside, width-least}
+use Rattle.kd_slots.proofs.Writing.{mapped_still}
+use Rattle.kd_insert.proofs.Monomials.{basics, basics-tracked, First, monomial-hangs, monomial-inserted}
+use Rattle.kd_insert.proofs.insertion.insert_monomial.Goals.{After-write_masked}
 use Rattle.kd_insert.proofs.insertion.insert_monomial.Goals as goal
 
-pub track-requires : goal.track-requires
-track-requires c = record { in_range = (basics c.args.image.now c.args.s c.requires.room).range; s_in_bounds = (basics c.args.image.now c.args.s c.requires.room).room; maxima = (basics c.args.image.now c.args.s c.requires.room).present; canonical = c.requires.canonical }
+-- the entry's row is written
+first : (c : After-write_masked) → First c.args.image.now (words c.args.lm.now) c.track.new.image c.write_masked.new.image c.args.s
+first c = (c.track.ensures, (rw c.entry_at.ensures at c.write_masked.ensures, (c.requires.canonical, (c.requires.kind_value, c.requires.room.few))))
+
+pub track-requires-clause-maxima : goal.track-requires-clause-maxima
+track-requires-clause-maxima c = (basics c.requires.room).present
 
 pub write_masked-requires : goal.write_masked-requires
 write_masked-requires c =
-    let track = c.track in
-    let b = basics c.args.image.now c.args.s c.requires.room in
-    let t = map-tracked c.args.image.now track.new.image c.args.s (words c.args.lm.now)
-    (basics c.args.image.now c.args.s c.requires.room) track.ensures in record {
-      in_range = b.range;
-      s_in_bounds = omega (arith, t.0, b.room);
-      maxima = rw t.1 b.map;
-      canonical = c.requires.canonical;
-      monomial_len = c.requires.lm_len;
-      variables_bound = omega (
-        arith,
-        c.entry_at.ensures,
-        entry-inside c.args.s b.range c.args.s.entries c.requires.room.few,
-        width-least c.args.s b.range,
-      );
+    let M = (basics-tracked (basics c.requires.room) c.requires.canonical c.track.ensures).mapped in record {
+      mapped = M;
+      lent = record { canonical = c.requires.canonical; whole = c.requires.lm_len };
+      inside = omega (arith, c.entry_at.ensures, entry-inside c.args.s M.range c.args.s.entries c.requires.room.few, width-least c.args.s M.range);
     }
 
 pub hang-requires : goal.hang-requires
 hang-requires c =
-    let track = c.track in
-    let entry_at = c.entry_at in
-    let write-masked = c.write_masked in
-    let b = basics c.args.image.now c.args.s c.requires.room in
-    let t = map-tracked c.args.image.now track.new.image c.args.s (words c.args.lm.now)
-    (basics c.args.image.now c.args.s c.requires.room) track.ensures in record {
-      in_range = b.range;
-      s_in_bounds = omega (arith, write-masked.auto.image, t.0, b.room);
-      maxima = rw (map-entered track.new.image write-masked.new.image c.args.s entry_at.result _
-          (omega (arith, t.0, b.room, entry_at.ensures, entry-inside c.args.s b.range c.args.s.entries c.requires.room.few))
-          (omega (arith, entry_at.ensures)) write-masked.ensures ∙ t.1) b.map;
-      canonical = c.requires.canonical;
-      lm_len = c.requires.lm_len;
+    let M = (basics-tracked (basics c.requires.room) c.requires.canonical c.track.ensures).mapped in record {
+      mapped = mapped_still c.track.new.image c.write_masked.new.image c.args.s c.entry_at.result _ M (omega (arith, c.entry_at.ensures))
+          (omega (arith, c.entry_at.ensures, entry-inside c.args.s M.range c.args.s.entries c.requires.room.few)) c.write_masked.auto.image c.write_masked.ensures;
+      lent = record { canonical = c.requires.canonical; whole = c.requires.lm_len };
       entries_lt_capacity = c.requires.room.few;
-      hangs = monomial-hangs c.args.image.now track.new.image write-masked.new.image (words c.args.lm.now) c.args.s
-          (λ j. (c.slice_known-1.given j).fits) c.requires.room (
-            track.ensures,
-            (rw entry_at.ensures at write-masked.ensures, (c.requires.canonical, (c.requires.kind_value, c.requires.room.few))),
-          );
+      hangs = monomial-hangs c.requires.room (λ j. grind arith) (first (goal.at.hang-requires c).After-write_masked);
     }
 
 pub returns : goal.returns
-returns c =
-    let track = c.track in
-    let entry_at = c.entry_at in
-    let write-masked = c.write_masked in
-    let hang = c.hang in
-    monomial-inserted c.args.image.now track.new.image write-masked.new.image hang.new.image (words c.args.lm.now) c.args.s
-    (λ j. (c.slice_known-1.given j).fits) c.requires.room (
-      track.ensures,
-      (rw entry_at.ensures at write-masked.ensures, (c.requires.canonical, (c.requires.kind_value, c.requires.room.few))),
-    ) hang.ensures
+returns c = monomial-inserted c.requires.room (λ j. grind arith) (first (goal.at.returns c).After-write_masked) c.hang.ensures

@@ -1,135 +1,74 @@
 use native.Mathlib.Omega.{arith}
 use Rattle.words.specs.Words.{words}
 use Rattle.index_image.proofs.Bounds.{entry-inside, ratio-width}
-use Rattle.kd_insert.proofs.Monomials.{basics}
-use Rattle.kd_slots.proofs.Writing.{map-entered}
-use Rattle.kd_insert.proofs.Ratios.{basics-tracked, label-ready, early, late, ratio-inserted}
+use Rattle.kd_slots.proofs.Writing.{mapped_still}
+use Rattle.kd_insert.proofs.Monomials.{Basics, basics-tracked}
+use Rattle.kd_insert.proofs.Ratios.{Calls, Early, label-ready, early, late, ratio-inserted}
+use Rattle.kd_insert.proofs.insertion.insert_ratio.Goals.{After-label_entry-row, After-track-2, After-write_ratio_row}
 use Rattle.kd_insert.proofs.insertion.insert_ratio.Goals as goal
 
-pub label_entry-row-requires : goal.label_entry-row-requires
-label_entry-row-requires c =
-    let b = basics c.args.image.now c.args.s c.requires.room in record { in_range = b.range; s_in_bounds = b.room; kind_value = c.requires.kind_value; sound_for = label-ready c.args.image.now c.args.s c.requires.room c.requires.kind_value; index_bound = c.requires.index_bound; canonical = c.requires.canonical.0; canonical_2 = c.requires.canonical_2.0 }
+labelled : (c : After-label_entry-row) → Early c.label_entry-row.new.image c.args.s c.label_entry-row.result
+labelled c = early c.requires.room (λ j. grind arith) c.requires.kind_value c.requires.index_bound c.requires.canonical.0 c.requires.canonical_2.0 c.label_entry-row.ensures
 
-pub label_at-label-requires : goal.label_at-label-requires
-label_at-label-requires c =
-    let label-entry = c.label_entry-row in
-    let b = early c.args.image.now (λ j. (c.slice_known-1.given j).fits) c.args.s c.requires.room c.args.index (words c.args.sign.now)
-    (words c.args.lm.now) label-entry.new.image label-entry.result c.requires.kind_value c.requires.index_bound c.requires.canonical.0
-    c.requires.canonical_2.0 label-entry.ensures in record { in_range = b.basics.range; s_in_bounds = b.basics.room; kind_value = (c.requires.kind_value, b.small) }
+tracked : (c : After-track-2) → Basics c.label_entry-row.new.image c.args.s → Basics c.track-2.new.image c.args.s
+tracked c b = basics-tracked (basics-tracked b c.requires.canonical.0 c.track.ensures) c.requires.canonical_2.0 c.track-2.ensures
 
-pub track-requires : goal.track-requires
-track-requires c =
-    let label-entry = c.label_entry-row in
-    let b = (early c.args.image.now (λ j. (c.slice_known-1.given j).fits) c.args.s c.requires.room c.args.index (words c.args.sign.now)
-    (words c.args.lm.now) label-entry.new.image label-entry.result c.requires.kind_value c.requires.index_bound c.requires.canonical.0
-    c.requires.canonical_2.0 label-entry.ensures).basics in record { in_range = b.range; s_in_bounds = b.room; maxima = b.present; canonical = c.requires.canonical.0 }
+-- all is written but the tree
+calls : (c : After-write_ratio_row) → Calls c.args.image.now c.args.index (words c.args.sign.now) (words c.args.lm.now) c.label_entry-row.new.image c.label_entry-row.result c.row_label-label.result
+    c.track.new.image c.track-2.new.image c.write_ratio_row.new.image c.args.s
+calls c = record {
+  one = c.requires.kind_value;
+  few = c.requires.room.few;
+  index-small = c.requires.index_bound;
+  sign-canonical = c.requires.canonical.0;
+  lm-canonical = c.requires.canonical_2.0;
+  labels-done = c.label_entry-row.ensures;
+  label-read = c.row_label-label.ensures;
+  sign-tracked = c.track.ensures;
+  lm-tracked = c.track-2.ensures;
+  row_written = rw c.entry_at.ensures at c.write_ratio_row.ensures;
+}
 
-pub track-requires-2 : goal.track-requires-2
-track-requires-2 c =
-    let label-entry = c.label_entry-row in
-    let track = c.track in
-    let b = basics-tracked label-entry.new.image track.new.image c.args.s (words c.args.sign.now)
-    (early c.args.image.now (λ j. (c.slice_known-1.given j).fits) c.args.s c.requires.room c.args.index (words c.args.sign.now)
-    (words c.args.lm.now) label-entry.new.image label-entry.result c.requires.kind_value c.requires.index_bound c.requires.canonical.0
-    c.requires.canonical_2.0 label-entry.ensures).basics c.requires.canonical.0 track.ensures in record { in_range = b.range; s_in_bounds = b.room; maxima = b.present; canonical = c.requires.canonical_2.0 }
+pub label_entry-row-requires-clause-sound_for : goal.label_entry-row-requires-clause-sound_for
+label_entry-row-requires-clause-sound_for c = label-ready c.requires.room c.requires.kind_value
+
+pub row_label-label-requires : goal.row_label-label-requires
+row_label-label-requires c = (c.requires.kind_value, (labelled (goal.at.row_label-label-requires c).After-label_entry-row).small)
+
+pub track-requires-clause-maxima : goal.track-requires-clause-maxima
+track-requires-clause-maxima c = (labelled (goal.at.track-requires-clause-maxima c).After-label_entry-row).basics.present
+
+pub track-requires-2-clause-maxima : goal.track-requires-2-clause-maxima
+track-requires-2-clause-maxima c =
+    (basics-tracked (labelled (goal.at.track-requires-2-clause-maxima c).After-label_entry-row).basics c.requires.canonical.0 c.track.ensures).present
 
 pub overflow_cast-row : goal.overflow_cast-row
-overflow_cast-row c =
-    let label-entry = c.label_entry-row in
-    omega (
-      arith,
-      (early c.args.image.now (λ j. (c.slice_known-1.given j).fits) c.args.s c.requires.room c.args.index
-          (words c.args.sign.now) (words c.args.lm.now) label-entry.new.image label-entry.result c.requires.kind_value c.requires.index_bound
-          c.requires.canonical.0 c.requires.canonical_2.0 label-entry.ensures).small,
-      c.requires.room.head.range.cap-to,
-    )
+overflow_cast-row c = omega (arith, (labelled (goal.at.overflow_cast-row c).After-label_entry-row).small, c.requires.room.head.range.cap-to)
 
 pub write_ratio_row-requires : goal.write_ratio_row-requires
 write_ratio_row-requires c =
-    let label-entry = c.label_entry-row in
-    let track = c.track in
-    let track2 = c.track-2 in
-    let b = basics-tracked track.new.image track2.new.image c.args.s (words c.args.lm.now)
-    (basics-tracked label-entry.new.image track.new.image c.args.s (words c.args.sign.now)
-    (early c.args.image.now (λ j. (c.slice_known-1.given j).fits) c.args.s c.requires.room c.args.index (words c.args.sign.now)
-    (words c.args.lm.now) label-entry.new.image label-entry.result c.requires.kind_value c.requires.index_bound c.requires.canonical.0
-    c.requires.canonical_2.0 label-entry.ensures).basics c.requires.canonical.0 track.ensures) c.requires.canonical_2.0 track2.ensures in record {
-      in_range = b.range;
-      s_in_bounds = b.room;
-      maxima = b.map;
-      canonical = (c.requires.canonical.0, c.requires.canonical.1);
-      canonical_2 = (c.requires.canonical_2.0, c.requires.canonical_2.1);
+    let a = goal.at.write_ratio_row-requires c in
+    let M = (tracked a.After-track-2 (labelled a.After-label_entry-row).basics).mapped in record {
+      mapped = M;
+      sign_lent = record { canonical = c.requires.canonical.0; whole = c.requires.canonical.1 };
+      lm_lent = record { canonical = c.requires.canonical_2.0; whole = c.requires.canonical_2.1 };
       index_bound = c.requires.index_bound;
-      variables_bound = (
+      inside = (
         omega (arith, c.entry_at.ensures),
-        omega (
-          arith,
-          c.entry_at.ensures,
-          entry-inside c.args.s b.range c.args.s.entries c.requires.room.few,
-          ratio-width c.args.s b.range c.requires.kind_value,
-        ),
+        omega (arith, c.entry_at.ensures, entry-inside c.args.s M.range c.args.s.entries c.requires.room.few, ratio-width c.args.s M.range c.requires.kind_value),
       );
     }
 
 pub hang-requires : goal.hang-requires
 hang-requires c =
-    let label-entry = c.label_entry-row in
-    let label-at = c.label_at-label in
-    let track = c.track in
-    let track2 = c.track-2 in
-    let entry_at = c.entry_at in
-    let write-ratio-row = c.write_ratio_row in
-    let b = basics-tracked track.new.image track2.new.image c.args.s (words c.args.lm.now)
-    (basics-tracked label-entry.new.image track.new.image c.args.s (words c.args.sign.now)
-    (early c.args.image.now (λ j. (c.slice_known-1.given j).fits) c.args.s c.requires.room c.args.index (words c.args.sign.now)
-    (words c.args.lm.now) label-entry.new.image label-entry.result c.requires.kind_value c.requires.index_bound c.requires.canonical.0
-    c.requires.canonical_2.0 label-entry.ensures).basics c.requires.canonical.0 track.ensures) c.requires.canonical_2.0 track2.ensures in record {
-      in_range = b.range;
-      s_in_bounds = omega (arith, write-ratio-row.auto.image, b.room);
-      maxima = rw (map-entered track2.new.image write-ratio-row.new.image c.args.s entry_at.result _
-          (omega (arith, b.room, entry_at.ensures, entry-inside c.args.s b.range c.args.s.entries c.requires.room.few))
-          (omega (arith, entry_at.ensures)) write-ratio-row.ensures) b.map;
-      canonical = c.requires.canonical_2.0;
-      lm_len = c.requires.canonical_2.1;
+    let a = goal.at.hang-requires c in
+    let M = (tracked a.After-track-2 (labelled a.After-label_entry-row).basics).mapped in record {
+      mapped = mapped_still c.track-2.new.image c.write_ratio_row.new.image c.args.s c.entry_at.result _ M (omega (arith, c.entry_at.ensures))
+          (omega (arith, c.entry_at.ensures, entry-inside c.args.s M.range c.args.s.entries c.requires.room.few)) c.write_ratio_row.auto.image c.write_ratio_row.ensures;
+      lent = record { canonical = c.requires.canonical_2.0; whole = c.requires.canonical_2.1 };
       entries_lt_capacity = c.requires.room.few;
-      hangs = late c.args.image.now (λ j. (c.slice_known-1.given j).fits) c.args.s c.requires.room c.args.index (words c.args.sign.now)
-          (words c.args.lm.now) label-entry.new.image label-entry.result label-at.result track.new.image track2.new.image write-ratio-row.new.image
-          (record {
-            one = c.requires.kind_value;
-            few = c.requires.room.few;
-            index-small = c.requires.index_bound;
-            sign-canonical = c.requires.canonical.0;
-            lm-canonical =
-                c.requires.canonical_2.0;
-            labels-done = label-entry.ensures;
-            label-read = label-at.ensures;
-            sign-tracked = track.ensures;
-            lm-tracked = track2.ensures;
-            row_written = rw entry_at.ensures at write-ratio-row.ensures;
-          });
+      hangs = late c.requires.room (λ j. grind arith) (calls a.After-write_ratio_row);
     }
 
 pub returns : goal.returns
-returns c =
-    let label-entry = c.label_entry-row in
-    let label-at = c.label_at-label in
-    let track = c.track in
-    let track2 = c.track-2 in
-    let entry_at = c.entry_at in
-    let write-ratio-row = c.write_ratio_row in
-    let hang = c.hang in
-    ratio-inserted c.args.image.now (λ j. (c.slice_known-1.given j).fits) c.args.s c.requires.room c.args.index (words c.args.sign.now)
-    (words c.args.lm.now) label-entry.new.image label-entry.result label-at.result track.new.image track2.new.image write-ratio-row.new.image
-    (record {
-      one = c.requires.kind_value;
-      few = c.requires.room.few;
-      index-small = c.requires.index_bound;
-      sign-canonical = c.requires.canonical.0;
-      lm-canonical =
-          c.requires.canonical_2.0;
-      labels-done = label-entry.ensures;
-      label-read = label-at.ensures;
-      sign-tracked = track.ensures;
-      lm-tracked = track2.ensures;
-      row_written = rw entry_at.ensures at write-ratio-row.ensures;
-    }) hang.new.image hang.ensures
+returns c = ratio-inserted c.requires.room (λ j. grind arith) (calls (goal.at.returns c).After-write_ratio_row) c.hang.ensures
