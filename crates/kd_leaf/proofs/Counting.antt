@@ -2,6 +2,8 @@
 use mathlib.Core.Path.{◌≡◌, refl, sym, ap, ◌∙◌}
 use mathlib.Core.Bool.{Bool, true, false, not, cond, ◌&&◌}
 use mathlib.Core.Option.{Option, none, some}
+use mathlib.Core.Logic.{∥∥₁_elim}
+use Rattle.std.proofs.Props.{props}
 use mathlib.Core.List.{List, [], ◌∷◌}
 use Prim.Native.Nat.{ℕ, zero, suc, ◌+◌, ◌*◌, ◌/◌, ◌%◌, ◌≤◌, ◌<◌, max}
 use native.Mathlib.Omega.{arith}
@@ -14,6 +16,7 @@ use Rattle.words.proofs.Laws.{length-words}
 use Rattle.words.proofs.Tables.{row_fits}
 use Rattle.monomial.specs.Monomial.{Canonical, Starts, first, front, pow}
 use Rattle.monomial.specs.Operations.{divides}
+use Rattle.divmask.proofs.Masks.{mask-small}
 use Rattle.divmask.specs.Mask.{mask, bit_counts, vector, within}
 use Rattle.kd_theory.specs.Bag.{Step}
 use Rattle.kd_theory.specs.Bifurcate.{least, least_of}
@@ -38,8 +41,9 @@ use Rattle.index_image.proofs.EntryWords.{no-ratio}
 use Rattle.kd_image.specs.HasTree.{Holds}
 use Rattle.kd_image.proofs.Reading.{entry-fits, entry-is, kind-one, ratios, label-of-entry, holds-ready, lm-of, mask-of}
 use Rattle.index_image.proofs.Asking.{rest-starts, rest-first}
-use Rattle.query_words.specs.Asked.{from_in, to_in, floor_in, slot_in, mask_at_in, option_of, search_of, label_at, slot_at, lowered, Asks}
-use Rattle.kd_leaf.specs.Counted.{Entered, may_at, divisor_at, counted, least_above}
+use Rattle.query_words.specs.Asked.{shape_in, search_in, mask_in, from_in, to_in, floor_in, slot_in, mask_at_in, option_of, search_of, label_at, slot_at, lowered, Asks}
+use Rattle.kd_leaf.specs.Visited.{Known, ReadyEntries}
+use Rattle.kd_leaf.specs.Counted.{may_at, divisor_at, counted, least_above}
 
 -- ---- masks
 one-may : (st : State) (q : List ℕ) (e : ℕ) → within (mask st.variables st.map_maxima (pow 1 (entry_at st.entries e).lm))
@@ -304,41 +308,71 @@ module _ (st : State) (r : Query) (ms : List ℕ) (s : Shape) (Q W : List ℕ) (
 
 -- ---- what the tests of an entry ask and tell
 pub record Tested (bs qs : List ℕ) (s : Shape) (e : ℕ) : Type 0 where
-  pub ready : walk.Ready (words bs) s
-  pub long : 368 ≤ length qs
   pub mask-small : mask_at_in (words qs) + e * get_or (words qs) 83 0 ≤ 1413206
   pub mask-room : 4 * (mask_at_in (words qs) + e * get_or (words qs) 83 0) + 8 ≤ length bs
+  pub mask-fits : get_or (words bs) (mask_at_in (words qs) + e * get_or (words qs) 83 0) 0 < 4294967296
   pub slot_small : slot_in (words qs) + e * get_or (words qs) 83 0 ≤ 1413206
   pub slot-room : 4 * (slot_in (words qs) + e * get_or (words qs) 83 0) ≤ length bs
   pub width : e * get_or (words qs) 83 0 ≡ e * at.entry_width s
   pub slot : front 1 s.variables 0 (drop (slot_in (words qs) + e * at.entry_width s) (words bs)) ≡ 0 → ⊥
 
-module _ (bs qs ms : List ℕ) (s : Shape) (e : ℕ) (E : Entered bs ms s (words qs) e) where
-  abbrev S : SlotIs E.state (words bs) s (by_lm E.request) e
-  S = my-slot E.state E.request ms s (words qs) (words bs) E.asks E.holds e E.inside
-
-  pub tested_at : Tested bs qs s e
-  tested_at =
-      let Q = words qs in
-      let sw = slot-word E.state E.request ms s Q (words bs) E.asks E.holds e E.inside in
-      let mw = mask_word E.state E.request ms s Q (words bs) E.asks E.holds e E.inside in
-      let w : e * get_or Q 83 0 ≡ e * at.entry_width s = ap (λ (x : ℕ). e * x) E.asks.laid.entry-width in
-      record {
-        ready = holds-ready E.state (words bs) s E.holds;
-        long = omega (arith, E.asks.laid.long, length-words qs);
-        mask-small = omega (arith, mw, S.small);
-        mask-room = omega (arith, mw, S.room, length-words bs);
-        slot_small = omega (arith, sw, w, S.small);
-        slot-room = omega (arith, sw, w, S.room, length-words bs);
-        width = w;
-        slot = rw sw S.some;
-      }
-
+-- what is known of an image and of what is asked of it
+pub record Facts (bs qs ms : List ℕ) (s : Shape) : Type 0 where
+  pub ready : walk.Ready (words bs) s
+  pub few : s.entries ≤ 4096
+  pub searches : search_in (words qs) ≤ 4
+  pub labelled : (search_in (words qs) ≡ 0 → ⊥) → s.kind ≡ 1
   pub canonical : Canonical 1 s.variables (words ms)
-  canonical = rw (E.holds.vars, E.asks.monomial) E.asks.canonical
+  pub mask-fits : mask_in (words qs) < 4294967296
+  pub tested : (e : ℕ) → e < s.entries → Tested bs qs s e
+  pub out : (e : ℕ) → e < s.entries → may_at (words bs) (words qs) e ≡ false → divisor_at (words bs) s (words qs) (words ms) e ≡ false
 
-  pub out-by-mask : may_at (words bs) (words qs) e ≡ false → divisor_at (words bs) s (words qs) (words ms) e ≡ false
-  out-by-mask w = masked-out E.state E.request ms s (words qs) (words bs) E.asks E.holds e E.inside w
+module _ (bs qs ms : List ℕ) (s : Shape) (K : Known bs ms s (words qs)) where
+  module _ (e : ℕ) (h : e < s.entries) where
+    abbrev S : SlotIs K.state (words bs) s (by_lm K.request) e
+    S = my-slot K.state K.request ms s (words qs) (words bs) K.asks K.holds e h
+
+    tested_at : Tested bs qs s e
+    tested_at =
+        let Q = words qs in
+        let sw = slot-word K.state K.request ms s Q (words bs) K.asks K.holds e h in
+        let mw = mask_word K.state K.request ms s Q (words bs) K.asks K.holds e h in
+        let w : e * get_or Q 83 0 ≡ e * at.entry_width s = ap (λ (x : ℕ). e * x) K.asks.laid.entry-width in
+        record {
+          mask-small = omega (arith, mw, S.small);
+          mask-room = omega (arith, mw, S.room, length-words bs);
+          mask-fits = rw (mw, S.masked) (mask-small K.state.variables K.state.map_maxima (pow 1 (cond (by_lm K.request) (entry_at K.state.entries e).lm (entry_at K.state.entries e).sign)));
+          slot_small = omega (arith, sw, w, S.small);
+          slot-room = omega (arith, sw, w, S.room, length-words bs);
+          width = w;
+          slot = rw sw S.some;
+        }
+
+  pub facts-of : Facts bs qs ms s
+  facts-of = record {
+    ready = holds-ready K.state (words bs) s K.holds;
+    few = omega (arith, K.holds.range.few, K.holds.range.cap-to);
+    searches = omega (arith, K.asks.search, at_most K.request);
+    labelled = λ n. kind-one K.state (words bs) s K.holds (K.asks.home ∙ labels-home K.request (λ y. n (K.asks.search ∙ y)));
+    canonical = rw (K.holds.vars, K.asks.monomial) K.asks.canonical;
+    mask-fits = rw K.asks.masked (mask-small K.state.variables K.state.map_maxima (pow 1 (dividend K.request)));
+    tested = tested_at;
+    out = λ e h. masked-out K.state K.request ms s (words qs) (words bs) K.asks K.holds e h;
+  }
+    where
+      at_most : (r : Query) → search_of r ≤ 4
+      at_most (containment q) = omega arith
+      at_most (reducing v q) = omega arith
+      at_most (high v q) = omega arith
+      at_most (low i s) = omega arith
+      at_most (singular i s l) = omega arith
+
+pub known : (bs ms : List ℕ) (s : Shape) (Q : List ℕ) (lo c best : ℕ) → ReadyEntries bs ms s Q lo c best → Known bs ms s Q
+known bs ms s Q lo c best w = record { state = w.state; request = w.request; asks = w.asks; holds = w.holds }
+
+-- whichever the state and the request are
+pub facts : (bs qs ms : List ℕ) → ∥ Known bs ms (shape_in (words qs)) (words qs) ∥₁ → Facts bs qs ms (shape_in (words qs))
+facts bs qs ms k = ∥∥₁_elim k (hlevel props) (λ K. facts-of bs qs ms (shape_in (words qs)) K)
 
 and-false : (a : Bool) → a && false ≡ false
 and-false true = refl
@@ -376,23 +410,23 @@ pair-within a b c d x y h k e f =
     let v : y / 4294967296 ≡ d = omega arith in
     rw (p, q, u, v) refl
 
-pub may-is : (W Q : List ℕ) (e p x y : ℕ) (b : Bool) → ((i : ℕ) → get_or W i 0 < 4294967296) → ((i : ℕ) → get_or Q i 0 < 4294967296) → p ≡ mask_at_in Q + e * get_or Q 83 0
+pub may-is : (W Q : List ℕ) (e p x y : ℕ) (b : Bool) → get_or W (mask_at_in Q + e * get_or Q 83 0) 0 < 4294967296 → get_or Q 68 0 < 4294967296 → p ≡ mask_at_in Q + e * get_or Q 83 0
     → x ≡ get_or W p 0 + 4294967296 * get_or W (p + 1) 0 → y ≡ get_or Q 68 0 + 4294967296 * get_or Q 69 0
     → b ≡ within (x % 4294967296) (y % 4294967296) && within (x / 4294967296) (y / 4294967296) → b ≡ may_at W Q e
 unfolding may_at
-may-is W Q e p x y b hw hq ep ex ey eb = eb ∙ pair-within (get_or W p 0) (get_or W (p + 1) 0) (get_or Q 68 0) (get_or Q 69 0) x y (hw p) (hq 68) ex ey ∙ rw ep refl
+may-is W Q e p x y b hw hq ep ex ey eb = eb ∙ pair-within (get_or W p 0) (get_or W (p + 1) 0) (get_or Q 68 0) (get_or Q 69 0) x y (rw ep hw) hq ex ey ∙ rw ep refl
 
 -- ---- the monomial that is divided by
-module _ (bs qs ms : List ℕ) (s : Shape) (e : ℕ) (E : Entered bs ms s (words qs) e) (p k : ℕ) (h : length bs ≤ 4 * p + k) (ep : p ≡ slot_in (words qs) + e * get_or (words qs) 83 0) where
+module _ (bs qs ms : List ℕ) (s : Shape) (e : ℕ) (E : Facts bs qs ms s) (he : e < s.entries) (p k : ℕ) (h : length bs ≤ 4 * p + k) (ep : p ≡ slot_in (words qs) + e * get_or (words qs) 83 0) where
   place_is : p ≡ slot_in (words qs) + e * at.entry_width s
-  place_is = omega (arith, (tested_at bs qs ms s e E).width)
+  place_is = omega (arith, (E.tested e he).width)
 
   some-there : front 1 s.variables 0 (drop p (words bs)) ≡ 0 → ⊥
-  some-there = rw place_is (tested_at bs qs ms s e E).slot
+  some-there = rw place_is (E.tested e he).slot
 
   pub both-start : Starts 1 4096 (words (take k (drop (4 * p) bs))) × Starts 1 4096 (words ms)
-  both-start = (rest-starts bs s.variables p k h some-there, starts-wide (starts-whole (canonical bs qs ms s e E)))
+  both-start = (rest-starts bs s.variables p k h some-there, starts-wide (starts-whole E.canonical))
 
   pub divides-read : (b : Bool) → b ≡ divides (first 1 (words (take k (drop (4 * p) bs)))) (first 1 (words ms)) → b ≡ divisor_at (words bs) s (words qs) (words ms) e
   unfolding divisor_at
-  divides-read b d = d ∙ rw (rest-first bs s.variables p k h some-there, first-whole (canonical bs qs ms s e E), place_is) refl
+  divides-read b d = d ∙ rw (rest-first bs s.variables p k h some-there, first-whole E.canonical, place_is) refl

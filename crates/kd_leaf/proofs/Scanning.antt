@@ -1,13 +1,14 @@
 -- The loops over a leaf's entries: what is left of the fold, and one entry more. Assumes nothing.
 use mathlib.Core.Path.{◌≡◌, refl, sym, ap, ◌∙◌}
 use mathlib.Core.Bool.{Bool, true, false, not}
-use mathlib.Core.Option.{Option}
+use mathlib.Core.Option as math
 use mathlib.Core.List.{List, [], ◌∷◌}
 use Prim.Native.Nat.{ℕ, zero, suc, ◌+◌, ◌-◌, ◌≤◌, ◌<◌, max}
 use native.Mathlib.Omega.{arith}
 use lib.Dec.{ltb}
 use lib.ListN.{length, get_or, drop, drop_of_length-le}
 use borrow.Author.Tests.{lt-ltb, le-ltb}
+use Rattle.std.specs.Prelude.{Option, None, Some, IfSome, MatchOption}
 use Rattle.words.specs.Words.{words}
 use Rattle.words.proofs.Laws.{word-and-rest}
 use Rattle.words.proofs.Tables.{part-get, length_part}
@@ -15,7 +16,7 @@ use Rattle.kd_theory.specs.Bag.{Step, fold_until}
 use Rattle.kd_theory.specs.Tree.{start}
 use Rattle.kd_theory.proofs.BagLaws.{fold-stopped}
 use Rattle.index_theory.specs.State.{State, ratioed}
-use Rattle.index_theory.specs.Searches.{Query, containment, reducing, high, low, singular, process}
+use Rattle.index_theory.specs.Searches.{Query, process}
 use Rattle.index_image.specs.Shape as at
 use Rattle.index_image.specs.Rows.{entries_from}
 use Rattle.index_image.specs.Walk as walk
@@ -23,10 +24,10 @@ use Rattle.index_image.specs.Walk.{label}
 use Rattle.index_image.specs.declared.Shape.{Shape}
 use Rattle.index_image.proofs.Places.{place-fits}
 use Rattle.kd_image.specs.HasTree.{Holds}
-use Rattle.kd_image.proofs.Reading.{holds-ready, kind-one}
+use Rattle.kd_image.proofs.Reading.{holds-ready}
 use Rattle.query_words.specs.Asked.{search_in, from_in, floor_in, option_of, search_of, Asks}
-use Rattle.kd_leaf.specs.Counted.{Entered, divisor_at, counted, least_above}
-use Rattle.kd_leaf.specs.Visited.{ReadyEntries, Visited}
+use Rattle.kd_leaf.specs.Counted.{divisor_at, counted, least_above}
+use Rattle.kd_leaf.specs.Visited.{absent, here, later, First, Visited}
 use Rattle.kd_leaf.proofs.Counting.{labels-home, stops, goes_on_lem, floor-goes, contained-is, counted_is, largest-is, step-miss, step-hit}
 
 -- what is left of the fold after i entries
@@ -40,21 +41,37 @@ Scanning bs ms s Q lo c best found i =
 pub Made : (bs ms : List ℕ) (s : Shape) (Q : List ℕ) (e found found' : ℕ) (on : Bool) → Type 0
 Made bs ms s Q e found found' on = (st : State) (r : Query) → Asks st r ms s Q → Holds st (words bs) s → record { acc = option_of found'; on = on } ≡ process st.entries r (option_of found) e
 
-fold-first : (f : Option ℕ → ℕ → Step (Option ℕ)) (a : Option ℕ) (e : ℕ) (es : List ℕ) (s : Step (Option ℕ)) → s ≡ f a e → fold_until f (start a) (e ∷ es) ≡ fold_until f s es
+-- what either answer of a test makes of an entry
+pub Decides : (bs ms : List ℕ) (s : Shape) (Q : List ℕ) (best e : ℕ) (passes : Bool) → Type 0
+Decides bs ms s Q best e passes = (passes ≡ false → Made bs ms s Q e best best true) × (passes ≡ true → Made bs ms s Q e best (e + 1) false)
+
+fold-first : (f : math.Option ℕ → ℕ → Step (math.Option ℕ)) (a : math.Option ℕ) (e : ℕ) (es : List ℕ) (s : Step (math.Option ℕ)) → s ≡ f a e → fold_until f (start a) (e ∷ es) ≡ fold_until f s es
 unfolding fold_until
 fold-first f a e es s h = rw h refl
 
-fold-none : (f : Option ℕ → ℕ → Step (Option ℕ)) (s : Step (Option ℕ)) → fold_until f s [] ≡ s
+fold-none : (f : math.Option ℕ → ℕ → Step (math.Option ℕ)) (s : Step (math.Option ℕ)) → fold_until f s [] ≡ s
 unfolding fold_until
 fold-none f s = refl
+
+-- ---- the c entries from place lo on
+module _ (bs : List ℕ) (s : Shape) (lo c : ℕ) (inside : lo + c ≤ s.entries) (R : walk.Ready (words bs) s) where
+  many : length (entries_from (words bs) s lo c) ≡ c
+  many = length_part (words bs) (at.permutation_at s + lo) c (omega (arith, place-fits (words bs) s R (lo + c) inside))
+
+  pub entry-next : (i e : ℕ) → i < c → e ≡ get_or (words bs) (at.permutation_at s + (lo + i)) 0
+      → drop i (entries_from (words bs) s lo c) ≡ e ∷ drop (i + 1) (entries_from (words bs) s lo c)
+  entry-next i e b ee =
+      let es = entries_from (words bs) s lo c in
+      let j : at.permutation_at s + (lo + i) ≡ at.permutation_at s + lo + i = omega arith in
+      word-and-rest es i e (omega (arith, many)) (ee ∙ ap (λ (k : ℕ). get_or (words bs) k 0) j ∙ sym (part-get (words bs) (at.permutation_at s + lo) c i b))
+
+  pub entries-end : (i : ℕ) → c ≤ i → drop i (entries_from (words bs) s lo c) ≡ []
+  entries-end i b = drop_of_length-le (entries_from (words bs) s lo c) {i = i} (omega (arith, many))
 
 module _ (bs ms : List ℕ) (s : Shape) (Q : List ℕ) (lo c best : ℕ) (inside : lo + c ≤ s.entries) where
   pub scan-none : Scanning bs ms s Q lo c best best 0
   unfolding Scanning
   scan-none st r a h = refl
-
-  many : (st : State) → Holds st (words bs) s → length (entries_from (words bs) s lo c) ≡ c
-  many st h = length_part (words bs) (at.permutation_at s + lo) c (omega (arith, place-fits (words bs) s (holds-ready st (words bs) s h) (lo + c) inside))
 
   module _ (found i e : ℕ) (S : Scanning bs ms s Q lo c best found i) (b : i < c) (ee : e ≡ get_or (words bs) (at.permutation_at s + (lo + i)) 0) where
     scan-one : (found' : ℕ) (on : Bool) → Made bs ms s Q e found found' on → (st : State) (r : Query) → Asks st r ms s Q → Holds st (words bs) s
@@ -63,9 +80,7 @@ module _ (bs ms : List ℕ) (s : Shape) (Q : List ℕ) (lo c best : ℕ) (inside
     unfolding Scanning Made
     scan-one found' on v st r a h =
         let es = entries_from (words bs) s lo c in
-        let j : at.permutation_at s + (lo + i) ≡ at.permutation_at s + lo + i = omega arith in
-        let is : e ≡ get_or es i 0 = ee ∙ ap (λ (k : ℕ). get_or (words bs) k 0) j ∙ sym (part-get (words bs) (at.permutation_at s + lo) c i b) in
-        let d : drop i es ≡ e ∷ drop (i + 1) es = word-and-rest es i e (omega (arith, many st h)) is in
+        let d = entry-next bs s lo c inside (holds-ready st (words bs) s h) i e b ee in
         S st r a h ∙ rw d (fold-first (process st.entries r) (option_of found) e (drop (i + 1) es) (record { acc = option_of found'; on = on }) (v st r a h))
 
     pub scan-more : (found' : ℕ) → Made bs ms s Q e found found' true → Scanning bs ms s Q lo c best found' (i + 1)
@@ -83,8 +98,7 @@ module _ (bs ms : List ℕ) (s : Shape) (Q : List ℕ) (lo c best : ℕ) (inside
   pub scan-end : (found i best' : ℕ) (on : Bool) → Scanning bs ms s Q lo c best found i → c ≤ i → best' ≡ found → on ≡ true → found ≤ s.entries → Visited bs ms s Q lo c best best' on
   unfolding Scanning Visited
   scan-end found i best' on S b e t l st r a h =
-      let es = entries_from (words bs) s lo c in
-      let d : drop i es ≡ [] = drop_of_length-le es {i = i} (omega (arith, many st h)) in
+      let d = entries-end bs s lo c inside (holds-ready st (words bs) s h) i b in
       record { is = rw (e, t) (sym (S st r a h ∙ rw d (fold-none (process st.entries r) (start (option_of found))))); small = omega arith }
 
 -- ---- one entry, by the search
@@ -99,6 +113,10 @@ module _ (bs ms : List ℕ) (s : Shape) (Q : List ℕ) (e found : ℕ) (he : e <
     contained-hit f st r a h =
         step-hit st r ms s Q (words bs) a h e he found hit false (contained-is st r ms s Q (words bs) a h e he found (sym a.search ∙ z) ∙ sym t) f
         (stops st.entries r e (λ y. omega (arith, a.search)) (λ x y. omega (arith, a.search)))
+
+    pub contained-decides : Decides bs ms s Q found e hit
+    unfolding Decides
+    contained-decides = (contained-miss, contained-hit)
 
   home : (st : State) (r : Query) → Asks st r ms s Q → (search_in Q ≡ 0 → ⊥) → st.kind ≡ ratioed
   home st r a n = a.home ∙ labels-home r (λ y. n (a.search ∙ y))
@@ -116,6 +134,10 @@ module _ (bs ms : List ℕ) (s : Shape) (Q : List ℕ) (e found : ℕ) (he : e <
     counted_stop o f st r a h =
         step-hit st r ms s Q (words bs) a h e he found hit false (counted_is st r ms s Q (words bs) a h e he (home st r a n) found (not-largest st r a) ∙ sym t) f
         (stops st.entries r e (λ y. o (a.search ∙ y)) (not-largest st r a))
+
+    pub singular-decides : (search_in Q ≡ 1 → ⊥) → Decides bs ms s Q found e hit
+    unfolding Decides
+    singular-decides o = (counted-miss, counted_stop o)
 
     -- a reducer: its label against the floor
     by-floor : (on : Bool) → search_in Q ≡ 1 → hit ≡ true → not (ltb (label (words bs) s e) (floor_in Q)) ≡ on → Made bs ms s Q e found (e + 1) on
@@ -144,29 +166,50 @@ module _ (bs ms : List ℕ) (s : Shape) (Q : List ℕ) (e found : ℕ) (he : e <
         (omega (arith, a.search)) (omega (arith, a.search)) ∙ sym t) f
         (goes_on_lem st.entries r e (omega (arith, a.search)) (omega (arith, a.search)))
 
--- ---- what the loops' calls ask
-module _ (bs ms : List ℕ) (s : Shape) (Q : List ℕ) (lo c best : ℕ) (w : ReadyEntries bs ms s Q lo c best) where
-  pub entries-ready : walk.Ready (words bs) s
-  entries-ready = holds-ready w.state (words bs) s w.holds
+-- ---- a search for the first entry that passes a test
+module _ (answers : ℕ → Bool → Type 0) (es : List ℕ) (i : ℕ) (rest : (found : Option ℕ) → First answers (drop i es) found → First answers es found) where
+  module _ (e : ℕ) (d : drop i es ≡ e ∷ drop (i + 1) es) where
+    pub first-hit : answers e true → First answers es (Some e)
+    first-hit p = rest (Some e) (rw d (here e (drop (i + 1) es) p))
 
-  pub entered : (e : ℕ) → e < s.entries → Entered bs ms s Q e
-  entered e h = record { state = w.state; request = w.request; asks = w.asks; holds = w.holds; inside = h }
+    pub first-miss : answers e false → (found : Option ℕ) → First answers (drop (i + 1) es) found → First answers es found
+    first-miss p found f = rest found (rw d (later e (drop (i + 1) es) found p f))
 
-  pub has-labels : (search_in Q ≡ 0 → ⊥) → s.kind ≡ 1
-  has-labels n = kind-one w.state (words bs) s w.holds (w.asks.home ∙ labels-home w.request (λ y. n (w.asks.search ∙ y)))
+  pub first-end : drop i es ≡ [] → First answers es None
+  first-end d = rest None (rw d absent)
 
-  pub few-entries : s.entries ≤ 4096
-  few-entries = omega (arith, w.holds.range.few, w.holds.range.cap-to)
+-- what is found passes
+pub first-passes : (answers : ℕ → Bool → Type 0) (P : ℕ → Type 0) → ((e : ℕ) → answers e true → P e) → (es : List ℕ) (found : Option ℕ) → First answers es found → IfSome found P
+first-passes answers P f _ _ absent = tt
+first-passes answers P f _ _ (here e es p) = f e p
+first-passes answers P f _ _ (later e es found p q) = first-passes answers P f es found q
 
-  pub five-searches : search_in Q ≤ 4
-  five-searches = omega (arith, w.asks.search, at_most w.request)
-    where
-      at_most : (r : Query) → search_of r ≤ 4
-      at_most (containment q) = omega arith
-      at_most (reducing v q) = omega arith
-      at_most (high v q) = omega arith
-      at_most (low i s) = omega arith
-      at_most (singular i s l) = omega arith
+first-fold : (bs ms : List ℕ) (s : Shape) (Q : List ℕ) (best : ℕ) (answers : ℕ → Bool → Type 0) → ((e : ℕ) (b : Bool) → answers e b → Decides bs ms s Q best e b)
+    → (es : List ℕ) (found : Option ℕ) → First answers es found → (best' : ℕ) (on : Bool) → MatchOption found ((best' ≡ best) × (on ≡ true)) (λ e. (best' ≡ e + 1) × (on ≡ false))
+    → (st : State) (r : Query) → Asks st r ms s Q → Holds st (words bs) s
+    → record { acc = option_of best'; on = on } ≡ fold_until (process st.entries r) (start (option_of best)) es
+unfolding Made Decides
+first-fold bs ms s Q best answers d _ _ absent best' on m st r a h = rw (m.0, m.1) (sym (fold-none (process st.entries r) (start (option_of best))))
+first-fold bs ms s Q best answers d _ _ (here e es p) best' on m st r a h =
+    let f = process st.entries r in
+    rw (m.0, m.1) (sym (fold-first f (option_of best) e es (record { acc = option_of (e + 1); on = false }) ((d e true p).1 refl st r a h)
+    ∙ fold-stopped f (record { acc = option_of (e + 1); on = false }) es refl))
+first-fold bs ms s Q best answers d _ _ (later e es found p q) best' on m st r a h =
+    first-fold bs ms s Q best answers d es found q best' on m st r a h
+    ∙ sym (fold-first (process st.entries r) (option_of best) e es (start (option_of best)) ((d e false p).0 refl st r a h))
+
+pub first-visited : (bs ms : List ℕ) (s : Shape) (Q : List ℕ) (lo c best : ℕ) (answers : ℕ → Bool → Type 0) → ((e : ℕ) → answers e true → e < s.entries)
+    → ((e : ℕ) (b : Bool) → answers e b → Decides bs ms s Q best e b) → (found : Option ℕ) → First answers (entries_from (words bs) s lo c) found → best ≤ s.entries
+    → (best' : ℕ) (on : Bool) → MatchOption found ((best' ≡ best) × (on ≡ true)) (λ e. (best' ≡ e + 1) × (on ≡ false)) → Visited bs ms s Q lo c best best' on
+unfolding Visited
+first-visited bs ms s Q lo c best answers inside decides found f hb best' on m st r a h = record {
+  is = first-fold bs ms s Q best answers decides (entries_from (words bs) s lo c) found f best' on m st r a h;
+  small = within found (first-passes answers (λ e. e < s.entries) inside (entries_from (words bs) s lo c) found f) m;
+}
+  where
+    within : (found : Option ℕ) → IfSome found (λ e. e < s.entries) → MatchOption found ((best' ≡ best) × (on ≡ true)) (λ e. (best' ≡ e + 1) × (on ≡ false)) → best' ≤ s.entries
+    within None u m = omega (arith, m.0)
+    within (Some e) u m = omega (arith, u, m.0)
 
 -- ---- from which label on an entry is larger
 module _ (lb : ℕ → ℕ) (from best : ℕ) where

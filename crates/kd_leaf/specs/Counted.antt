@@ -1,26 +1,14 @@
 -- What a leaf's loops ask of an entry. Assumes nothing.
-use Rattle.std.specs.Prelude.{Bool, ◌&&◌, List, ℕ, zero, suc, ◌+◌, ◌*◌, ◌<◌, max, leb, ltb, get_or}
-use Rattle.words.specs.Words.{words}
+use Rattle.std.specs.Prelude.{Bool, ◌&&◌, List, ℕ, zero, suc, ◌+◌, ◌*◌, max, leb, ltb, get_or}
 use Rattle.monomial.specs.Operations.{divides}
 use Rattle.divmask.specs.Mask.{within}
-use Rattle.index_theory.specs.State.{State}
-use Rattle.index_theory.specs.Searches.{Query}
 use Rattle.index_image.specs.Shape as at
 use Rattle.index_image.specs.Rows.{monomial_in}
 use Rattle.index_image.specs.Walk.{label}
 use Rattle.index_image.specs.declared.Shape.{Shape}
-use Rattle.kd_image.specs.HasTree.{Holds}
-use Rattle.query_words.specs.Asked.{mask_in, vector_in, slot_in, mask_at_in, entry_width_in, to_in, Asks}
+use Rattle.query_words.specs.Asked.{mask_in, vector_in, slot_in, mask_at_in, entry_width_in, to_in}
 
--- entry e is one of those that the query is asked of
-pub record Entered (bs ms : List ℕ) (s : Shape) (Q : List ℕ) (e : ℕ) : Type 0 where
-  pub state : State
-  pub request : Query
-  pub asks : Asks state request ms s Q
-  pub holds : Holds state (words bs) s
-  pub inside : e < s.entries
-
--- its mask and short exponent vector leave it open that it divides
+-- the mask and short exponent vector of entry e leave it open that it divides
 unfoldable pub may_at : (W Q : List ℕ) → ℕ → Bool
 may_at W Q e = within (get_or W (mask_at_in Q + e * entry_width_in Q) 0) (mask_in Q) && within (get_or W (mask_at_in Q + e * entry_width_in Q + 1) 0) (vector_in Q)
 

@@ -1,5 +1,5 @@
 -- What a visit of entries asks and promises. Assumes nothing.
-use Rattle.std.specs.Prelude.{◌≡◌, Bool, List, ℕ, ◌+◌, ◌≤◌}
+use Rattle.std.specs.Prelude.{◌≡◌, Bool, true, false, Option, None, Some, List, [], ◌∷◌, ℕ, ◌+◌, ◌≤◌}
 use Rattle.words.specs.Words.{words}
 use Rattle.kd_theory.specs.Bag.{fold_until}
 use Rattle.kd_theory.specs.Tree.{start}
@@ -10,6 +10,13 @@ use Rattle.index_image.specs.declared.Shape.{Shape}
 use Rattle.kd_image.specs.HasTree.{Holds}
 use Rattle.query_words.specs.Asked.{option_of, Asks}
 
+-- some state stands in the image, and some request in the query's words and the monomial
+pub record Known (bs ms : List ℕ) (s : Shape) (Q : List ℕ) : Type 0 where
+  pub state : State
+  pub request : Query
+  pub asks : Asks state request ms s Q
+  pub holds : Holds state (words bs) s
+
 -- the tables stand, and c entries from place lo on
 pub record ReadyEntries (bs ms : List ℕ) (s : Shape) (Q : List ℕ) (lo c best : ℕ) : Type 0 where
   pub state : State
@@ -18,6 +25,12 @@ pub record ReadyEntries (bs ms : List ℕ) (s : Shape) (Q : List ℕ) (lo c best
   pub holds : Holds state (words bs) s
   pub inside : lo + c ≤ s.entries
   pub small : best ≤ s.entries
+
+-- the first of some entries that passes a test
+pub data First (answers : ℕ → Bool → Type 0) : List ℕ → Option ℕ → Type 0 where
+  absent : First answers [] None
+  here : (e : ℕ) (es : List ℕ) → answers e true → First answers (e ∷ es) (Some e)
+  later : (e : ℕ) (es : List ℕ) (found : Option ℕ) → answers e false → First answers es found → First answers (e ∷ es) found
 
 -- entries are visited, one after the other
 pub record Stepped (st : State) (r : Query) (s : Shape) (es : List ℕ) (best best' : ℕ) (on : Bool) : Type 0 where

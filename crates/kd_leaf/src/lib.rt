@@ -5,151 +5,182 @@ pub mod step;
 
 ghost use Rattle.std.specs.Prelude.{◌≡◌, true, ◌&&◌, ℕ, ◌+◌, ◌*◌, ◌<◌, ◌≤◌, leb, ltb, length};
 ghost use Rattle.words.specs.Words.{words};
+ghost use Rattle.index_image.specs.Rows.{entries_from};
 ghost use Rattle.index_image.specs.Walk as walk;
-ghost use Rattle.query_words.specs.Asked.{shape_in, search_in, from_in, Laid};
+ghost use Rattle.query_words.specs.Asked.{shape_in, search_in, from_in};
 ghost use Rattle.kd_leaf.specs.Packed.{rows_of, best_of, on_of};
-ghost use Rattle.kd_leaf.specs.Visited.{ReadyEntries, Visited};
-ghost use Rattle.kd_leaf.specs.Counted.{may_at, divisor_at, counted, least_above, Entered};
+ghost use Rattle.kd_leaf.specs.Visited.{Known, ReadyEntries, First, Visited};
+ghost use Rattle.kd_leaf.specs.Counted.{may_at, divisor_at, counted, least_above};
 
 use query_words as query;
-use query_words::Search;
+use query_words::{Query, Search};
 
-// Whether mask and short exponent vector of entry e leave it open that it divides.
-fn may(image: &[u8], q: &[u8], m: &[u8], e: usize) -> bool
-    requires { Entered image.now m.now (shape_in (words q.now)) (words q.now) e }
-    ensures { result ≡ may_at (words image.now) (words q.now) e }
-{
-    let at = query::num(q, query::MASK_AT) + e * query::num(q, query::ENTRY_WIDTH);
-    divmask::pairs::within(
-        words::pairs::get(image, at),
-        words::pairs::get(q, query::MASK),
-    )
+// What is asked of an image: a query's words, and the monomial that is to be divided.
+#[derive(Clone, Copy)]
+struct Asked<'a> {
+    image: &'a [u8],
+    query: Query<'a>,
+    monomial: &'a [u8],
+    ghost known: { ∥ Known image.now monomial.now (shape_in (words query.bytes.now)) (words query.bytes.now) ∥₁ },
 }
 
-// Whether entry e divides, the mask left open.
-fn divides(image: &[u8], q: &[u8], m: &[u8], e: usize) -> bool
-    requires { Entered image.now m.now (shape_in (words q.now)) (words q.now) e }
-    ensures { result ≡ divisor_at (words image.now) (shape_in (words q.now)) (words q.now) (words m.now) e }
-{
-    let at = 4 * (query::num(q, query::SLOT) + e * query::num(q, query::ENTRY_WIDTH));
-    monomial::divides(&image[at..], m)
-}
-
-// Whether entry e divides.
-fn is_divisor(image: &[u8], q: &[u8], m: &[u8], e: usize) -> bool
-    requires { Entered image.now m.now (shape_in (words q.now)) (words q.now) e }
-    ensures { result ≡ divisor_at (words image.now) (shape_in (words q.now)) (words q.now) (words m.now) e }
-{
-    may(image, q, m, e) && divides(image, q, m, e)
-}
-
-// Whether entry e divides and has a label from `least` on that counts. Masks are asked first, then labels.
-fn counts(image: &[u8], q: &[u8], m: &[u8], e: usize, least: u64) -> bool
-    requires entered { Entered image.now m.now (shape_in (words q.now)) (words q.now) e }
-    requires q_value { (shape_in (words q.now)).kind ≡ 1 }
-    ensures { result ≡ counted (words image.now) (shape_in (words q.now)) (words q.now) (words m.now) least e }
-{
-    if !may(image, q, m, e) {
-        return false;
+impl Asked<'_> {
+    // Whether mask and short exponent vector of entry e leave it open that it divides.
+    fn may(&self, e: usize) -> bool
+        requires { e < (shape_in (words self.now.query.bytes.now)).entries }
+        ensures { result ≡ may_at (words self.now.image.now) (words self.now.query.bytes.now) e }
+    {
+        let at = self.query.num(query::MASK_AT) + e * self.query.num(query::ENTRY_WIDTH);
+        divmask::pairs::within(
+            words::pairs::get(self.image, at),
+            self.query.pair(query::MASK),
+        )
     }
-    let l = query::label(image, q, e);
-    least <= l && l < words::pairs::get(q, query::TO) && divides(image, q, m, e)
-}
 
-// Stops at the first divisor.
-fn contained(image: &[u8], q: &[u8], m: &[u8], lo: usize, c: usize, acc: u64) -> u64
-    requires ready_entries { ReadyEntries image.now m.now (shape_in (words q.now)) (words q.now) lo c (best_of acc) }
-    requires acc_value { (on_of acc ≡ true) × (search_in (words q.now) ≡ 0) }
-    ensures { Visited image.now m.now (shape_in (words q.now)) (words q.now) lo c (best_of acc) (best_of result) (on_of result) × (rows_of result ≡ rows_of acc) }
-{
-    for i in 0..c {
-        let e = query::entry_at(image, q, lo + i);
-        if is_divisor(image, q, m, e) {
-            return step::stopped(acc, e + 1);
+    // Whether entry e divides, the mask left open.
+    fn divides(&self, e: usize) -> bool
+        requires { e < (shape_in (words self.now.query.bytes.now)).entries }
+        ensures { result ≡ divisor_at (words self.now.image.now) (shape_in (words self.now.query.bytes.now)) (words self.now.query.bytes.now) (words self.now.monomial.now) e }
+    {
+        let at = 4 * (self.query.num(query::SLOT) + e * self.query.num(query::ENTRY_WIDTH));
+        monomial::divides(&self.image[at..], self.monomial)
+    }
+
+    // Whether entry e divides.
+    fn is_divisor(&self, e: usize) -> bool
+        requires { e < (shape_in (words self.now.query.bytes.now)).entries }
+        ensures { result ≡ divisor_at (words self.now.image.now) (shape_in (words self.now.query.bytes.now)) (words self.now.query.bytes.now) (words self.now.monomial.now) e }
+    {
+        self.may(e) && self.divides(e)
+    }
+
+    // Whether entry e divides and has a label from `least` on that counts. Masks are asked first, then labels.
+    fn counts(&self, e: usize, least: u64) -> bool
+        requires inside { e < (shape_in (words self.now.query.bytes.now)).entries }
+        requires labelled { (shape_in (words self.now.query.bytes.now)).kind ≡ 1 }
+        ensures { result ≡ counted (words self.now.image.now) (shape_in (words self.now.query.bytes.now)) (words self.now.query.bytes.now) (words self.now.monomial.now) least e }
+    {
+        if !self.may(e) {
+            return false;
         }
+        let l = self.query.label(self.image, e);
+        least <= l && l < self.query.pair(query::TO) && self.divides(e)
     }
-    acc
-}
 
-// Stops at the first that counts. One loop for this and `contained`, given the test as a closure, would be no plainer: its contract would have
-// to say what either answer of the test makes of each search.
-fn singular(image: &[u8], q: &[u8], m: &[u8], lo: usize, c: usize, acc: u64) -> u64
-    requires ready_entries { ReadyEntries image.now m.now (shape_in (words q.now)) (words q.now) lo c (best_of acc) }
-    requires acc_value { (on_of acc ≡ true) × (search_in (words q.now) ≡ 4) }
-    ensures { Visited image.now m.now (shape_in (words q.now)) (words q.now) lo c (best_of acc) (best_of result) (on_of result) × (rows_of result ≡ rows_of acc) }
-{
-    let from = words::pairs::get(q, query::FROM);
-    for i in 0..c {
-        let e = query::entry_at(image, q, lo + i);
-        if counts(image, q, m, e, from) {
-            return step::stopped(acc, e + 1);
+    // From which label on an entry counts that is to be larger than the one found.
+    fn least_above(&self, found: usize) -> u64
+        requires labelled { (shape_in (words self.now.query.bytes.now)).kind ≡ 1 }
+        requires found_bound { found ≤ (shape_in (words self.now.query.bytes.now)).entries }
+        ensures { result ≡ least_above (walk.label (words self.now.image.now) (shape_in (words self.now.query.bytes.now))) (from_in (words self.now.query.bytes.now)) found }
+    {
+        let from = self.query.pair(query::FROM);
+        if found == 0 {
+            return from;
         }
+        from.max(self.query.label(self.image, found - 1) + 1)
     }
-    acc
-}
 
-// Stops at the first regular one, and keeps the last singular one.
-fn reducer(image: &[u8], q: &[u8], m: &[u8], lo: usize, c: usize, acc: u64) -> u64
-    requires ready_entries { ReadyEntries image.now m.now (shape_in (words q.now)) (words q.now) lo c (best_of acc) }
-    requires acc_value { (on_of acc ≡ true) × (search_in (words q.now) ≡ 1) }
-    ensures { Visited image.now m.now (shape_in (words q.now)) (words q.now) lo c (best_of acc) (best_of result) (on_of result) × (rows_of result ≡ rows_of acc) }
-{
-    let from = words::pairs::get(q, query::FROM);
-    let mut found = step::best(acc);
-    for i in 0..c {
-        let e = query::entry_at(image, q, lo + i);
-        if counts(image, q, m, e, from) {
-            if query::label(image, q, e) < words::pairs::get(q, query::FLOOR) {
-                return step::stopped(acc, e + 1);
+    // The first of the c entries from place lo on that passes the test.
+    fn first<F: Fn(usize) -> bool>(&self, lo: usize, c: usize, test: F) -> Option<usize>
+        requires inside { lo + c ≤ (shape_in (words self.now.query.bytes.now)).entries }
+        requires callable { (e : ℕ) → e < (shape_in (words self.now.query.bytes.now)).entries → F.pre test e }
+        ensures { First (λ e passes. (e < (shape_in (words self.now.query.bytes.now)).entries) × F.post test e passes) (entries_from (words self.now.image.now) (shape_in (words self.now.query.bytes.now)) lo c) result }
+    {
+        for i in 0..c {
+            let e = self.query.entry_at(self.image, lo + i);
+            if test(e) {
+                return Some(e);
             }
-            found = e + 1;
+        }
+        None
+    }
+
+    // Stops at the first divisor.
+    fn contained(&self, lo: usize, c: usize, acc: u64) -> u64
+        requires inside { lo + c ≤ (shape_in (words self.now.query.bytes.now)).entries }
+        requires acc_value { (best_of acc ≤ (shape_in (words self.now.query.bytes.now)).entries) × (on_of acc ≡ true) }
+        requires searched { search_in (words self.now.query.bytes.now) ≡ 0 }
+        ensures { Visited self.now.image.now self.now.monomial.now (shape_in (words self.now.query.bytes.now)) (words self.now.query.bytes.now) lo c (best_of acc) (best_of result) (on_of result) × (rows_of result ≡ rows_of acc) }
+    {
+        step::after(acc, self.first(lo, c, |e| self.is_divisor(e)))
+    }
+
+    // Stops at the first that counts.
+    fn singular(&self, lo: usize, c: usize, acc: u64) -> u64
+        requires inside { lo + c ≤ (shape_in (words self.now.query.bytes.now)).entries }
+        requires acc_value { (best_of acc ≤ (shape_in (words self.now.query.bytes.now)).entries) × (on_of acc ≡ true) }
+        requires searched { search_in (words self.now.query.bytes.now) ≡ 4 }
+        ensures { Visited self.now.image.now self.now.monomial.now (shape_in (words self.now.query.bytes.now)) (words self.now.query.bytes.now) lo c (best_of acc) (best_of result) (on_of result) × (rows_of result ≡ rows_of acc) }
+    {
+        let from = self.query.pair(query::FROM);
+        step::after(acc, self.first(lo, c, |e| self.counts(e, from)))
+    }
+
+    // Stops at the first regular one, and keeps the last singular one.
+    fn reducer(&self, lo: usize, c: usize, acc: u64) -> u64
+        requires inside { lo + c ≤ (shape_in (words self.now.query.bytes.now)).entries }
+        requires acc_value { (best_of acc ≤ (shape_in (words self.now.query.bytes.now)).entries) × (on_of acc ≡ true) }
+        requires searched { search_in (words self.now.query.bytes.now) ≡ 1 }
+        ensures { Visited self.now.image.now self.now.monomial.now (shape_in (words self.now.query.bytes.now)) (words self.now.query.bytes.now) lo c (best_of acc) (best_of result) (on_of result) × (rows_of result ≡ rows_of acc) }
+    {
+        let from = self.query.pair(query::FROM);
+        let mut found = step::best(acc);
+        for i in 0..c {
+            let e = self.query.entry_at(self.image, lo + i);
+            if self.counts(e, from) {
+                if self.query.label(self.image, e) < self.query.pair(query::FLOOR) {
+                    return step::stopped(acc, e + 1);
+                }
+                found = e + 1;
+            }
+        }
+        step::going(acc, found)
+    }
+
+    // The first of the largest label: only an entry of a larger one than that found is divided.
+    fn largest(&self, lo: usize, c: usize, acc: u64) -> u64
+        requires inside { lo + c ≤ (shape_in (words self.now.query.bytes.now)).entries }
+        requires acc_value { (best_of acc ≤ (shape_in (words self.now.query.bytes.now)).entries) × (on_of acc ≡ true) }
+        requires searched { (2 ≤ search_in (words self.now.query.bytes.now)) × (search_in (words self.now.query.bytes.now) ≤ 3) }
+        ensures { Visited self.now.image.now self.now.monomial.now (shape_in (words self.now.query.bytes.now)) (words self.now.query.bytes.now) lo c (best_of acc) (best_of result) (on_of result) × (rows_of result ≡ rows_of acc) }
+    {
+        let mut found = step::best(acc);
+        let mut least = self.least_above(found);
+        for i in 0..c {
+            let e = self.query.entry_at(self.image, lo + i);
+            if self.counts(e, least) {
+                found = e + 1;
+                least = self.least_above(found);
+            }
+        }
+        step::going(acc, found)
+    }
+
+    // Visits the c entries from place lo on.
+    fn visit(&self, lo: usize, c: usize, acc: u64) -> u64
+        requires inside { lo + c ≤ (shape_in (words self.now.query.bytes.now)).entries }
+        requires acc_value { (best_of acc ≤ (shape_in (words self.now.query.bytes.now)).entries) × (on_of acc ≡ true) }
+        ensures { Visited self.now.image.now self.now.monomial.now (shape_in (words self.now.query.bytes.now)) (words self.now.query.bytes.now) lo c (best_of acc) (best_of result) (on_of result) × (rows_of result ≡ rows_of acc) }
+    {
+        match self.query.search() {
+            Search::Contained => self.contained(lo, c, acc),
+            Search::Reducer => self.reducer(lo, c, acc),
+            Search::High | Search::Low => self.largest(lo, c, acc),
+            Search::Singular => self.singular(lo, c, acc),
         }
     }
-    step::going(acc, found)
-}
-
-// From which label on an entry counts that is to be larger than the one found.
-fn least_above(image: &[u8], q: &[u8], found: usize) -> u64
-    requires laid { Laid (words q.now) (shape_in (words q.now)) }
-    requires ready { walk.Ready (words image.now) (shape_in (words q.now)) }
-    requires q_value { ((shape_in (words q.now)).kind ≡ 1) × (found ≤ (shape_in (words q.now)).entries) }
-    ensures { result ≡ least_above (walk.label (words image.now) (shape_in (words q.now))) (from_in (words q.now)) found }
-{
-    let from = words::pairs::get(q, query::FROM);
-    if found == 0 {
-        return from;
-    }
-    from.max(query::label(image, q, found - 1) + 1)
-}
-
-// The first of the largest label: only an entry of a larger one than that found is divided.
-fn largest(image: &[u8], q: &[u8], m: &[u8], lo: usize, c: usize, acc: u64) -> u64
-    requires ready_entries { ReadyEntries image.now m.now (shape_in (words q.now)) (words q.now) lo c (best_of acc) }
-    requires bound { (2 ≤ search_in (words q.now)) × (search_in (words q.now) ≤ 3) }
-    ensures { Visited image.now m.now (shape_in (words q.now)) (words q.now) lo c (best_of acc) (best_of result) (on_of result) × (rows_of result ≡ rows_of acc) }
-{
-    let mut found = step::best(acc);
-    let mut least = least_above(image, q, found);
-    for i in 0..c {
-        let e = query::entry_at(image, q, lo + i);
-        if counts(image, q, m, e, least) {
-            found = e + 1;
-            least = least_above(image, q, found);
-        }
-    }
-    step::going(acc, found)
 }
 
 // Visits the c entries from place lo on.
-pub fn search(image: &[u8], q: &[u8], m: &[u8], lo: usize, c: usize, acc: u64) -> u64
-    requires ready_entries { ReadyEntries image.now m.now (shape_in (words q.now)) (words q.now) lo c (best_of acc) }
+pub fn search(image: &[u8], q: Query<'_>, m: &[u8], lo: usize, c: usize, acc: u64) -> u64
+    requires ready_entries { ReadyEntries image.now m.now (shape_in (words q.bytes.now)) (words q.bytes.now) lo c (best_of acc) }
     requires acc_value { on_of acc ≡ true }
-    ensures { Visited image.now m.now (shape_in (words q.now)) (words q.now) lo c (best_of acc) (best_of result) (on_of result) × (rows_of result ≡ rows_of acc) }
+    ensures { Visited image.now m.now (shape_in (words q.entry.bytes.now)) (words q.entry.bytes.now) lo c (best_of acc) (best_of result) (on_of result) × (rows_of result ≡ rows_of acc) }
 {
-    match query::search_in(q) {
-        Search::Contained => contained(image, q, m, lo, c, acc),
-        Search::Reducer => reducer(image, q, m, lo, c, acc),
-        Search::High | Search::Low => largest(image, q, m, lo, c, acc),
-        Search::Singular => singular(image, q, m, lo, c, acc),
-    }
+    let asked = Asked {
+        image,
+        query: q,
+        monomial: m,
+    };
+    asked.visit(lo, c, acc)
 }

@@ -1,6 +1,6 @@
 // What a search has come to, in one number, which is handed on in a register:
 // the rows in use × 16384 + 2 × what was found (0, or the place of an entry + 1) + 1 to go on.
-ghost use Rattle.std.specs.Prelude.{◌≡◌, true, false, ◌≤◌};
+ghost use Rattle.std.specs.Prelude.{◌≡◌, true, false, MatchOption, IfSome, ◌+◌, ◌<◌, ◌≤◌};
 ghost use Rattle.kd_leaf.specs.Packed.{rows_of, best_of, on_of};
 
 pub fn rows(acc: u64) -> usize
@@ -51,4 +51,15 @@ pub fn stopped(acc: u64, best: usize) -> u64
     ensures { (rows_of result ≡ rows_of acc) × ((best_of result ≡ best) × (on_of result ≡ false)) }
 {
     16384 * (acc / 16384) + 2 * (best as u64)
+}
+
+// A search that wants one entry: it stops where one was found, and else goes on.
+pub fn after(acc: u64, entry: Option<usize>) -> u64
+    requires { IfSome entry (λ e. e < 4096) }
+    ensures { (rows_of result ≡ rows_of acc) × MatchOption entry ((best_of result ≡ best_of acc) × (on_of result ≡ on_of acc)) (λ e. (best_of result ≡ e + 1) × (on_of result ≡ false)) }
+{
+    match entry {
+        Some(e) => stopped(acc, e + 1),
+        None => acc,
+    }
 }

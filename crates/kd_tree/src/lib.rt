@@ -12,14 +12,15 @@ ghost use Rattle.query_words.specs.Rooted.{RootReady, Answered};
 use index_image::fields;
 use kd_leaf::step;
 use query_words as query;
+use query_words::Query;
 
 // Visits the entries of the leaf at row k.
-fn scan(image: &[u8], q: &[u8], m: &[u8], k: usize, lo: usize, acc: u64) -> u64
-    requires ready_leaf { ReadyLeaf image.now m.now (shape_in (words q.now)) (words q.now) k lo (rows_of acc) (best_of acc) }
+fn scan(image: &[u8], q: Query<'_>, m: &[u8], k: usize, lo: usize, acc: u64) -> u64
+    requires ready_leaf { ReadyLeaf image.now m.now (shape_in (words q.bytes.now)) (words q.bytes.now) k lo (rows_of acc) (best_of acc) }
     requires acc_value { on_of acc ≡ true }
-    ensures { Scanned image.now m.now (shape_in (words q.now)) (words q.now) k lo (rows_of acc) (best_of acc) (best_of result) (on_of result) × (rows_of result ≡ rows_of acc) }
+    ensures { Scanned image.now m.now (shape_in (words q.entry.bytes.now)) (words q.entry.bytes.now) k lo (rows_of acc) (best_of acc) (best_of result) (on_of result) × (rows_of result ≡ rows_of acc) }
 {
-    let c = words::get(image, query::node_at(q, k) + fields::COUNT) as usize;
+    let c = words::get(image, q.node_at(k) + fields::COUNT) as usize;
     kd_leaf::search(image, q, m, lo, c, acc)
 }
 
@@ -27,16 +28,16 @@ fn scan(image: &[u8], q: &[u8], m: &[u8], k: usize, lo: usize, acc: u64) -> u64
 #[cycle(branch_search_search)]
 pub fn search(
     image: &mut [u8],
-    q: &[u8],
+    q: Query<'_>,
     m: &[u8],
     dim: usize,
     k: usize,
     lo: usize,
     acc: u64,
 ) -> u64
-    requires ready { Ready image.old m.now (shape_in (words q.now)) (words q.now) k lo (rows_of acc) (best_of acc) }
+    requires ready { Ready image.old m.now (shape_in (words q.bytes.now)) (words q.bytes.now) k lo (rows_of acc) (best_of acc) }
     requires acc_value { (on_of acc ≡ true) × (dim ≤ 65) }
-    ensures { Searched image.old image.new m.now (shape_in (words q.now)) (words q.now) dim k lo (rows_of acc) (best_of acc) (best_of result) (on_of result) (rows_of result) }
+    ensures { Searched image.old image.new m.now (shape_in (words q.entry.bytes.now)) (words q.entry.bytes.now) dim k lo (rows_of acc) (best_of acc) (best_of result) (on_of result) (rows_of result) }
 {
     match kd_node::open_node(image, q, dim, k, lo, step::rows(acc)) {
         Some(n) => branch_search(image, q, m, k, lo, step::with_rows(acc, n)),
@@ -46,10 +47,10 @@ pub fn search(
 
 // Searches the sides of the branch at row k, the less side first.
 #[cycle(branch_search_search)]
-pub fn branch_search(image: &mut [u8], q: &[u8], m: &[u8], k: usize, lo: usize, acc: u64) -> u64
-    requires ready_branch { ReadyBranch image.old m.now (shape_in (words q.now)) (words q.now) k lo (rows_of acc) (best_of acc) }
+pub fn branch_search(image: &mut [u8], q: Query<'_>, m: &[u8], k: usize, lo: usize, acc: u64) -> u64
+    requires ready_branch { ReadyBranch image.old m.now (shape_in (words q.bytes.now)) (words q.bytes.now) k lo (rows_of acc) (best_of acc) }
     requires acc_value { on_of acc ≡ true }
-    ensures { Branched image.old image.new m.now (shape_in (words q.now)) (words q.now) k lo (rows_of acc) (best_of acc) (best_of result) (on_of result) (rows_of result) }
+    ensures { Branched image.old image.new m.now (shape_in (words q.entry.bytes.now)) (words q.entry.bytes.now) k lo (rows_of acc) (best_of acc) (best_of result) (on_of result) (rows_of result) }
 {
     let b = kd_node::path_at(image, q, m, k, lo, acc);
     if b.less {
@@ -69,12 +70,12 @@ pub fn branch_search(image: &mut [u8], q: &[u8], m: &[u8], k: usize, lo: usize, 
 
 // Searches from the root as `search` does, which goes on below it. So a split, which has a large local array, and the loops over a leaf have
 // two callers and are compiled by themselves, and `branch_search` has one and is compiled into `search`: a level costs one small frame.
-fn search_root(image: &mut [u8], q: &[u8], m: &[u8], acc: u64) -> u64
-    requires ready { Ready image.old m.now (shape_in (words q.now)) (words q.now) 0 0 (rows_of acc) (best_of acc) }
+fn search_root(image: &mut [u8], q: Query<'_>, m: &[u8], acc: u64) -> u64
+    requires ready { Ready image.old m.now (shape_in (words q.bytes.now)) (words q.bytes.now) 0 0 (rows_of acc) (best_of acc) }
     requires acc_value { on_of acc ≡ true }
-    ensures { Searched image.old image.new m.now (shape_in (words q.now)) (words q.now) 0 0 0 (rows_of acc) (best_of acc) (best_of result) (on_of result) (rows_of result) }
+    ensures { Searched image.old image.new m.now (shape_in (words q.entry.bytes.now)) (words q.entry.bytes.now) 0 0 0 (rows_of acc) (best_of acc) (best_of result) (on_of result) (rows_of result) }
 {
-    match kd_split::split_node(image, query::shape(q), 0, 0, 0, step::rows(acc)) {
+    match kd_split::split_node(image, q.shape(), 0, 0, 0, step::rows(acc)) {
         Some(n) => search(image, q, m, 0, 0, 0, step::with_rows(acc, n)),
         None => scan(image, q, m, 0, 0, acc),
     }
@@ -85,7 +86,8 @@ pub fn find(image: &mut [u8], q: &[u8], m: &[u8]) -> Option<usize>
     requires { RootReady image.old m.now (words q.now) }
     ensures { Answered image.old image.new m.now (words q.now) result }
 {
-    let r = search_root(image, q, m, step::first(query::num(q, query::NODES)));
+    let query = Query { bytes: q };
+    let r = search_root(image, query, m, step::first(query.num(query::NODES)));
     words::put(image, fields::NODES, step::rows(r) as u32);
     step::best(r).checked_sub(1)
 }

@@ -52,13 +52,18 @@ module _ (Q : List ℕ) (s : Shape) (L : Laid Q s) where
       omega (arith, w, L.label, z)
 
 -- the words that lead to the label of entry e
-module _ (bs qs : List ℕ) (s : Shape) (L : Laid (words qs) s) (R : walk.Ready (words bs) s) (e : ℕ) (k : s.kind ≡ 1) (h : e < s.entries) where
-  pub record RowRead : Type 0 where
-    pub is : get_or (words qs) 84 0 + e * get_or (words qs) 83 0 ≡ at.row_at s e
-    pub room : 4 * at.row_at s e + 4 ≤ length bs
-    pub small : at.row_at s e ≤ 1413206
+pub record RowRead (bs qs : List ℕ) (s : Shape) (e : ℕ) : Type 0 where
+  pub is : get_or (words qs) 84 0 + e * get_or (words qs) 83 0 ≡ at.row_at s e
+  pub room : 4 * at.row_at s e + 4 ≤ length bs
+  pub small : at.row_at s e ≤ 1413206
 
-  pub row_read : RowRead
+pub record LabelRead (bs qs : List ℕ) (s : Shape) (e row : ℕ) : Type 0 where
+  pub room : 4 * (get_or (words qs) 86 0 + row * get_or (words qs) 85 0) + 4 ≤ length bs
+  pub small : get_or (words qs) 86 0 + row * get_or (words qs) 85 0 ≤ 1413206
+  pub is : (r : ℕ) → r ≡ get_or (words bs) (get_or (words qs) 86 0 + row * get_or (words qs) 85 0) 0 → r ≡ walk.label (words bs) s e
+
+module _ {bs qs : List ℕ} {s : Shape} {e : ℕ} (L : Laid (words qs) s) (R : walk.Ready (words bs) s) (k : s.kind ≡ 1) (h : e < s.entries) where
+  pub row_read : RowRead bs qs s e
   row_read =
       let r = entry-room bs s R e h in
       record {
@@ -67,12 +72,7 @@ module _ (bs qs : List ℕ) (s : Shape) (L : Laid (words qs) s) (R : walk.Ready 
         small = omega (arith, size_small s R.range, row_fits e s.capacity (at.entry_width s) (omega (arith, R.range.few)), ratio-width s R.range k);
       }
 
-  pub record LabelRead (row : ℕ) : Type 0 where
-    pub room : 4 * (get_or (words qs) 86 0 + row * get_or (words qs) 85 0) + 4 ≤ length bs
-    pub small : get_or (words qs) 86 0 + row * get_or (words qs) 85 0 ≤ 1413206
-    pub is : (r : ℕ) → r ≡ get_or (words bs) (get_or (words qs) 86 0 + row * get_or (words qs) 85 0) 0 → r ≡ walk.label (words bs) s e
-
-  pub label-read : (row : ℕ) → row ≡ get_or (words bs) (get_or (words qs) 84 0 + e * get_or (words qs) 83 0) 0 → LabelRead row
+  pub label-read : (row : ℕ) → row ≡ get_or (words bs) (get_or (words qs) 84 0 + e * get_or (words qs) 83 0) 0 → LabelRead bs qs s e row
   unfolding walk.label
   label-read row er =
       let i : row ≡ walk.row_in (words bs) s e = er ∙ ap (λ (j : ℕ). get_or (words bs) j 0) (row_word (words qs) s L e) in

@@ -1,5 +1,5 @@
 // A query as words of a scratch slice: what the walk needs of what is asked, and of the image's shape. The walk only reads them.
-// A struct of this size would be copied at each call of the walk; a slice is two registers.
+// A struct of these words would be copied at each call of the walk; a slice is two registers, and so is `Query`, which holds nothing else.
 #![tactic(auto)]
 
 ghost use Rattle.std.specs.Prelude.{◌≡◌, ◌+◌, ◌*◌, ◌<◌, ◌≤◌, length, get_or};
@@ -75,71 +75,91 @@ pub const ENTRIES: usize = 90;
 
 pub const NODES: usize = 91;
 
-// Word i of a query.
-pub fn num(q: &[u8], i: usize) -> usize
-    requires { 4 * i + 4 ≤ length q.now }
-    ensures { (result ≡ get_or (words q.now) i 0) × (result < 4294967296) }
-{
-    words::get(q, i) as usize
+// The words of a query, and of them the shape of the image that is asked and where its tables stand.
+#[derive(Clone, Copy)]
+pub struct Query<'a> {
+    pub bytes: &'a [u8],
+    pub ghost laid: { Laid (words bytes.now) (shape_in (words bytes.now)) },
 }
 
-// What the words of a query search for.
-#[tactic(auto, unfolding(crate::specs::Asked::search_number))]
-pub fn search_in(q: &[u8]) -> Search
-    requires in_bounds { 368 ≤ length q.now }
-    requires q_bound { search_in (words q.now) ≤ 4 }
-    ensures { search_in (words q.now) ≡ search_number result }
-{
-    match num(q, SEARCH) {
-        0 => Search::Contained,
-        1 => Search::Reducer,
-        2 => Search::High,
-        3 => Search::Low,
-        _ => Search::Singular,
+impl Query<'_> {
+    // Word i.
+    pub fn word(self, i: usize) -> u32
+        requires { i < 92 }
+        ensures { result ≡ get_or (words self.entry.bytes.now) i 0 }
+    {
+        words::get(self.bytes, i)
     }
-}
 
-// The shape of the image that is asked.
-#[tactic(auto, unfolding(crate::specs::Asked::shape_in))]
-pub fn shape(q: &[u8]) -> Shape
-    requires { 368 ≤ length q.now }
-    ensures { result ≡ shape_in (words q.now) }
-{
-    Shape {
-        kind: num(q, KIND),
-        variables: num(q, VARIABLES),
-        capacity: num(q, CAPACITY),
-        entries: num(q, ENTRIES),
-        nodes: num(q, NODES),
+    // Word i, as a number to count with.
+    pub fn num(self, i: usize) -> usize
+        requires { i < 92 }
+        ensures { (result ≡ get_or (words self.entry.bytes.now) i 0) × (result < 4294967296) }
+    {
+        self.word(i) as usize
     }
-}
 
-// The word at which row k stands.
-pub fn node_at(q: &[u8], k: usize) -> usize
-    requires laid { Laid (words q.now) (shape_in (words q.now)) }
-    requires k_bound { k ≤ 8191 }
-    ensures { result ≡ at.node_at (shape_in (words q.now)) k }
-{
-    num(q, NODE) + k * num(q, NODE_WIDTH)
-}
+    // Words i and i + 1, as one number.
+    pub fn pair(self, i: usize) -> u64
+        requires { i < 91 }
+        ensures { result ≡ get_or (words self.entry.bytes.now) i 0 + 4294967296 * get_or (words self.entry.bytes.now) (i + 1) 0 }
+    {
+        words::pairs::get(self.bytes, i)
+    }
 
-// The entry at place p.
-pub fn entry_at(image: &[u8], q: &[u8], p: usize) -> usize
-    requires laid { Laid (words q.now) (shape_in (words q.now)) }
-    requires ready { walk.Ready (words image.now) (shape_in (words q.now)) }
-    requires p_bound { p < (shape_in (words q.now)).entries }
-    ensures { (result ≡ get_or (words image.now) (at.permutation_at (shape_in (words q.now)) + p) 0) × (result < (shape_in (words q.now)).entries) }
-{
-    num(image, num(q, PERMUTATION) + p)
-}
+    // What is searched for.
+    #[tactic(auto, unfolding(crate::specs::Asked::search_number))]
+    pub fn search(self) -> Search
+        requires { search_in (words self.bytes.now) ≤ 4 }
+        ensures { search_in (words self.entry.bytes.now) ≡ search_number result }
+    {
+        match self.num(SEARCH) {
+            0 => Search::Contained,
+            1 => Search::Reducer,
+            2 => Search::High,
+            3 => Search::Low,
+            _ => Search::Singular,
+        }
+    }
 
-// The label of entry e.
-pub fn label(image: &[u8], q: &[u8], e: usize) -> u64
-    requires laid { Laid (words q.now) (shape_in (words q.now)) }
-    requires ready { walk.Ready (words image.now) (shape_in (words q.now)) }
-    requires q_value { ((shape_in (words q.now)).kind ≡ 1) × (e < (shape_in (words q.now)).entries) }
-    ensures { (result ≡ walk.label (words image.now) (shape_in (words q.now)) e) × (result < 4294967296) }
-{
-    let row = num(image, num(q, ROW) + e * num(q, ENTRY_WIDTH));
-    u64::from(words::get(image, num(q, LABEL) + row * num(q, ROW_WIDTH)))
+    // The shape of the image that is asked.
+    #[tactic(auto, unfolding(crate::specs::Asked::shape_in))]
+    pub fn shape(self) -> Shape
+        ensures { result ≡ shape_in (words self.entry.bytes.now) }
+    {
+        Shape {
+            kind: self.num(KIND),
+            variables: self.num(VARIABLES),
+            capacity: self.num(CAPACITY),
+            entries: self.num(ENTRIES),
+            nodes: self.num(NODES),
+        }
+    }
+
+    // The word at which row k stands.
+    pub fn node_at(self, k: usize) -> usize
+        requires { k ≤ 8191 }
+        ensures { result ≡ at.node_at (shape_in (words self.entry.bytes.now)) k }
+    {
+        self.num(NODE) + k * self.num(NODE_WIDTH)
+    }
+
+    // The entry at place p.
+    pub fn entry_at(self, image: &[u8], p: usize) -> usize
+        requires ready { walk.Ready (words image.now) (shape_in (words self.bytes.now)) }
+        requires p_bound { p < (shape_in (words self.bytes.now)).entries }
+        ensures { (result ≡ get_or (words image.now) (at.permutation_at (shape_in (words self.entry.bytes.now)) + p) 0) × (result < (shape_in (words self.entry.bytes.now)).entries) }
+    {
+        words::get(image, self.num(PERMUTATION) + p) as usize
+    }
+
+    // The label of entry e.
+    pub fn label(self, image: &[u8], e: usize) -> u64
+        requires ready { walk.Ready (words image.now) (shape_in (words self.bytes.now)) }
+        requires labelled { ((shape_in (words self.bytes.now)).kind ≡ 1) × (e < (shape_in (words self.bytes.now)).entries) }
+        ensures { (result ≡ walk.label (words image.now) (shape_in (words self.entry.bytes.now)) e) × (result < 4294967296) }
+    {
+        let row = words::get(image, self.num(ROW) + e * self.num(ENTRY_WIDTH)) as usize;
+        u64::from(words::get(image, self.num(LABEL) + row * self.num(ROW_WIDTH)))
+    }
 }

@@ -1,11 +1,7 @@
 use native.Mathlib.Omega.{arith}
 use mathlib.Core.Path.{◌∙◌}
-use Rattle.query_words.proofs.Laying.{query-long}
 use Rattle.kd_node.proofs.Growing.{grew}
 use Rattle.kd_node.proofs.grow.Goals as goal
-
-pub num-requires : goal.num-requires
-num-requires c = omega (arith, query-long _ _ c.requires.laid)
 
 pub overflow_cast-skip-2 : goal.overflow_cast-skip-2
 overflow_cast-skip-2 c =
@@ -19,4 +15,4 @@ returns c =
     let get = c.get in
     let num = c.num in
     let get2 = c.get-less in
-    grew _ _ _ _ _ _ _ _ _ Node-at.ensures (num.ensures.0 ∙ c.requires.laid.node-width) get.ensures get2.ensures c.put.ensures
+    grew _ _ _ _ _ _ _ _ _ Node-at.ensures (num.ensures.0 ∙ c.args.q.laid.node-width) get.ensures get2.ensures c.put.ensures

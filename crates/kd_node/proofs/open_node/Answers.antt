@@ -1,11 +1,10 @@
 use native.Mathlib.Omega.{arith}
 use mathlib.Core.Path.{sym, ◌∙◌}
 use Rattle.kd_split.proofs.Opening.{node-numbers, node-branch, node-short}
-use Rattle.query_words.proofs.Laying.{query-long}
 use Rattle.kd_node.proofs.open_node.Goals as goal
 
 pub node_at-at-requires : goal.node_at-at-requires
-node_at-at-requires c = record { laid = c.requires.laid; k_bound = (node-numbers _ _ _ _ _ c.requires.standing).row }
+node_at-at-requires c = (node-numbers _ _ _ _ _ c.requires.standing).row
 
 pub get-requires : goal.get-requires
 get-requires c = omega (arith, (node-numbers _ _ _ _ _ c.requires.standing).room, c.node_at-at.ensures)
@@ -25,9 +24,6 @@ returns-then-get-le64 c =
     let get = c.get in
     let if1 = c.if-get-ne0 in
     node-short _ _ _ _ _ (sym (rw Node-at.ensures at get.ensures) ∙ if1.false) _ (omega (arith, (rw Node-at.ensures at c.get-2.ensures), c.if-get-le64.true))
-
-pub shape-requires : goal.shape-requires
-shape-requires c = omega (arith, query-long _ _ c.requires.laid)
 
 pub split_node-requires : goal.split_node-requires
 split_node-requires c = record { standing = rw c.shape.ensures c.requires.standing; dim_bound = c.requires.dim_bound }

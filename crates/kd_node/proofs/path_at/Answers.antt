@@ -1,19 +1,18 @@
 use native.Mathlib.Omega.{arith}
 use mathlib.Core.Path.{refl, sym, ◌∙◌}
 use Rattle.words.proofs.Laws.{words_small}
-use Rattle.query_words.proofs.Laying.{query-long, kind-is}
+use Rattle.query_words.proofs.Laying.{kind-is}
 use Rattle.kd_node.proofs.Choosing.{branch-numbers, path-stop, path-label, path-limit}
 use Rattle.kd_node.proofs.path_at.Goals as goal
 
 pub node_at-at-requires : goal.node_at-at-requires
-node_at-at-requires c = record { laid = c.requires.asks.laid; k_bound = (branch-numbers _ _ _ _ _ _ _ _ c.requires).row }
+node_at-at-requires c = (branch-numbers _ _ _ _ _ _ _ _ c.requires).row
 
 pub get-next-requires : goal.get-next-requires
 get-next-requires c = omega (arith, (branch-numbers _ _ _ _ _ _ _ _ c.requires).room, c.node_at-at.ensures)
 
 pub may-requires : goal.may-requires
-may-requires c =
-    (omega (arith, (branch-numbers _ _ _ _ _ _ _ _ c.requires).room, c.node_at-at.ensures), omega (arith, query-long _ _ c.requires.asks.laid))
+may-requires c = omega (arith, (branch-numbers _ _ _ _ _ _ _ _ c.requires).room, c.node_at-at.ensures)
 
 pub returns-then-not-may : goal.returns-then-not-may
 returns-then-not-may c =
@@ -27,20 +26,11 @@ overflow_add-at c = omega (arith, (branch-numbers _ _ _ _ _ _ _ _ c.requires).ro
 pub get-key-requires : goal.get-key-requires
 get-key-requires c = omega (arith, (branch-numbers _ _ _ _ _ _ _ _ c.requires).room, c.node_at-at.ensures)
 
-pub num-requires : goal.num-requires
-num-requires c = omega (arith, query-long _ _ c.requires.asks.laid)
-
 pub label-l-requires : goal.label-l-requires
 label-l-requires c =
     let Node-at = c.node_at-at in
     let get = c.get-next in
-    let p = sym (rw Node-at.ensures at get.ensures) ∙ (c.if-next-num.true ∙ (c.num.ensures.0 ∙ kind-is _ _ c.requires.asks.laid)) in record { laid = c.requires.asks.laid; ready = (branch-numbers _ _ _ _ _ _ _ _ c.requires).ready; q_value = (((branch-numbers _ _ _ _ _ _ _ _ c.requires).entry p).0, rw (c.get-key.ensures, Node-at.ensures) ((branch-numbers _ _ _ _ _ _ _ _ c.requires).entry p).1) }
-
-pub get-requires : goal.get-requires
-get-requires c = omega (arith, query-long _ _ c.requires.asks.laid)
-
-pub get-requires-then-next-num : goal.get-requires-then-next-num
-get-requires-then-next-num c = omega (arith, query-long _ _ c.requires.asks.laid)
+    let p = sym (rw Node-at.ensures at get.ensures) ∙ (c.if-next-num.true ∙ (c.num.ensures.0 ∙ kind-is _ _ c.requires.asks.laid)) in record { ready = (branch-numbers _ _ _ _ _ _ _ _ c.requires).ready; labelled = (((branch-numbers _ _ _ _ _ _ _ _ c.requires).entry p).0, rw (c.get-key.ensures, Node-at.ensures) ((branch-numbers _ _ _ _ _ _ _ _ c.requires).entry p).1) }
 
 pub returns-then-next-num : goal.returns-then-next-num
 returns-then-next-num c =
@@ -51,15 +41,15 @@ returns-then-next-num c =
     let get2 = c.get-key in
     let num = c.num in
     let if2 = c.if-next-num in
-    rw (c.get.ensures, c.get-then-next-num.ensures) (path-label _ _ _ _ _ _ _ _ (rw Node-at.ensures at get.ensures)
+    rw (c.pair.ensures, c.pair-then-next-num.ensures) (path-label _ _ _ _ _ _ _ _ (rw Node-at.ensures at get.ensures)
     (words_small c.args.image.now (λ j. (c.type_inv.image j).fits)) _ (if1.false) (rw Node-at.ensures at may.ensures)
     (if2.true ∙ (num.ensures.0 ∙ kind-is _ _ c.requires.asks.laid)) _ (c.label-l.ensures.0 ∙ rw (get2.ensures, Node-at.ensures) refl))
 
-pub get-limit-requires : goal.get-limit-requires
-get-limit-requires c =
+pub word-limit-requires : goal.word-limit-requires
+word-limit-requires c =
     let Node-at = c.node_at-at in
     let get = c.get-next in
-    omega (arith, query-long _ _ c.requires.asks.laid, (branch-numbers _ _ _ _ _ _ _ _ c.requires).small, (rw Node-at.ensures at get.ensures))
+    omega (arith, (branch-numbers _ _ _ _ _ _ _ _ c.requires).small, (rw Node-at.ensures at get.ensures))
 
 pub returns : goal.returns
 returns c =
@@ -71,4 +61,4 @@ returns c =
     path-limit _ _ _ _ _ _ _ _ (rw Node-at.ensures at get.ensures) (words_small c.args.image.now (λ j. (c.type_inv.image j).fits)) _
     (if1.false) (rw Node-at.ensures at may.ensures)
     (λ z. c.if-next-num.false (z ∙ sym (c.num.ensures.0 ∙ kind-is _ _ c.requires.asks.laid))) _
-    (rw (get2.ensures, Node-at.ensures, c.get-limit.ensures) refl)
+    (rw (get2.ensures, Node-at.ensures, c.word-limit.ensures) refl)

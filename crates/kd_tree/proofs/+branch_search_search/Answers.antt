@@ -22,7 +22,6 @@ branch_search-grow-o-requires t c =
     let n = numbers _ _ _ _ _ _ _ _ _ _ _ c.path_at-b.ensures c.requires.ready_branch in
     let g = growing _ _ _ _ _ _ _ _ _ _ _ c.path_at-b.ensures _ _ _ _ c.search-a.ensures c.requires.ready_branch in
     record {
-      laid = c.requires.ready_branch.asks.laid;
       k_bound = (omega (arith, n.row, n.few), omega (arith, n.room, g.long));
       added_bound = rw (c.rows.ensures, c.rows-then-b.ensures) g.fits;
     }
@@ -69,7 +68,6 @@ pub branch_search-grow-o-requires-then-b-2 : goal.branch_search-grow-o-requires-
 branch_search-grow-o-requires-then-b-2 t c =
     let n = numbers _ _ _ _ _ _ _ _ _ _ _ c.path_at-b.ensures c.requires.ready_branch in
     record {
-      laid = c.requires.ready_branch.asks.laid;
       k_bound = (omega (arith, n.row, n.few), n.room);
       added_bound = skip-fits _ _ _ _ _ _ _ _ _ _ _ c.path_at-b.ensures c.requires.ready_branch;
     }

@@ -1,12 +1,12 @@
-use Rattle.query_words.proofs.Laying.{query-long, nodes-is}
+use Rattle.query_words.proofs.Laying.{nodes-is}
 use Rattle.kd_tree.proofs.Rooting.{root-ready, root-rows, root-numbers, root-answered}
 use Rattle.words.specs.Words.{words}
 use mathlib.Core.Path.{◌∙◌}
 use native.Mathlib.Omega.{arith}
 use Rattle.kd_tree.proofs.find.Goals as goal
 
-pub num-requires : goal.num-requires
-num-requires c = omega (arith, query-long _ _ c.requires.root.asks.laid)
+pub invariant_of-query : goal.invariant_of-query
+invariant_of-query c = record { laid = c.requires.root.asks.laid }
 
 pub first-requires : goal.first-requires
 first-requires c = rw (c.num.ensures.0 ∙ nodes-is (words c.args.q.now)) (root-rows _ _ _ c.requires)

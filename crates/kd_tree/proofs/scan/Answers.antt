@@ -3,7 +3,7 @@ use Rattle.kd_tree.proofs.Leaves.{leaf-numbers, leaf-ready, leaf-done}
 use Rattle.kd_tree.proofs.scan.Goals as goal
 
 pub node_at-requires : goal.node_at-requires
-node_at-requires c = record { laid = c.requires.ready_leaf.asks.laid; k_bound = (leaf-numbers _ _ _ _ _ _ _ _ c.requires.ready_leaf).row }
+node_at-requires c = (leaf-numbers _ _ _ _ _ _ _ _ c.requires.ready_leaf).row
 
 pub overflow_add-node_at : goal.overflow_add-node_at
 overflow_add-node_at c = omega (arith, (leaf-numbers _ _ _ _ _ _ _ _ c.requires.ready_leaf).room, c.node_at.ensures)

@@ -1,10 +1,6 @@
 use Rattle.std.proofs.Common.{◌∙◌, arith}
-use Rattle.query_words.proofs.Laying.{query-long}
 use Rattle.kd_tree.proofs.Visiting.{standing, scan-ready, scan-done, branch-ready, branch-done, few-rows, as-node, as-branch}
 use Rattle.kd_tree.proofs.search_root.Goals as goal
-
-pub shape-requires : goal.shape-requires
-shape-requires c = omega (arith, query-long _ _ c.requires.ready.asks.laid)
 
 pub split_node-requires : goal.split_node-requires
 split_node-requires c = record { standing = rw (c.shape.ensures, c.rows.ensures) (standing _ _ _ _ _ _ _ _ c.requires.ready); dim_bound = omega arith }

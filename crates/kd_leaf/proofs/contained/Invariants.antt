@@ -1,8 +1,0 @@
-use Rattle.words.specs.Words.{words}
-use Rattle.query_words.specs.Asked.{shape_in}
-use Rattle.kd_leaf.specs.Packed.{best_of}
-use Rattle.kd_leaf.proofs.Scanning.{Scanning}
-use Rattle.kd_leaf.proofs.contained.Given as goal
-
-abbrev pub invariant-loop-i : goal.invariant-loop-i
-invariant-loop-i l = Scanning l.image l.m (shape_in (words l.q)) (words l.q) l.lo l.c (best_of l.acc) (best_of l.acc) l.i
