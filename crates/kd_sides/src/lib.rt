@@ -14,25 +14,25 @@ use index_image::Shape;
 use index_image::image::ReadyImage;
 use kd_dimension::Average;
 
-// Writes those of the c entries from place lo on that `on` takes, in their order, from word `at` of `out` on. Returns how many they are.
+// Writes those of the c entries from place lo on that are wanted, in their order, from word `at` of `out` on. Returns how many they are.
 fn gather<F: Fn(usize) -> bool>(
     image: &ReadyImage<'_>,
     lo: usize,
     c: usize,
-    on: F,
+    wanted: F,
     out: &mut [u8],
     at: usize,
 ) -> usize
     requires lo_bound { lo + c ≤ image.now.shape.entries }
-    requires asked { (e : ℕ) → e < image.now.shape.entries → F.pre on e }
-    requires taken { Takes (F.post on) image.now.shape.entries (entries_from (words image.now.bytes.now) image.now.shape lo c) at (length out.old) }
-    ensures { (p : ℕ → Bool) → Says (F.post on) image.now.shape.entries p → Gathered p (entries_from (words image.now.bytes.now) image.now.shape lo c) at out.old out.new result }
+    requires asked { (e : ℕ) → e < image.now.shape.entries → F.pre wanted e }
+    requires taken { Takes (F.post wanted) image.now.shape.entries (entries_from (words image.now.bytes.now) image.now.shape lo c) at (length out.old) }
+    ensures { (p : ℕ → Bool) → Says (F.post wanted) image.now.shape.entries p → Gathered p (entries_from (words image.now.bytes.now) image.now.shape lo c) at out.old out.new result }
 {
     let p = image.shape.permutation_at() + lo;
     let mut n = 0;
     for i in 0..c {
         let e = words::get(image.bytes, p + i);
-        if on(e as usize) {
+        if wanted(e as usize) {
             words::put(out, at + n, e);
             n += 1;
         }

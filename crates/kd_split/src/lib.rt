@@ -4,9 +4,12 @@
 ghost use Rattle.std.specs.Prelude.{◌≤◌};
 ghost use Rattle.kd_split.specs.Split.{Standing, Splittable, SplitAt, RootSplit};
 
+use index_image::image::ReadyImage;
 use index_image::{Shape, fields};
+use kd_dimension::Average;
 
-// Splits the leaf at row k, of the c entries from place lo on, in dimension d at x. In dimension 0 of a ratio index the key is an entry.
+// Splits the leaf at row k, of the c entries from place lo on, in the dimension of an average, at its value. In dimension 0 of a ratio index the
+// key is an entry.
 pub fn split_leaf(
     image: &mut [u8],
     s: Shape,
@@ -14,19 +17,22 @@ pub fn split_leaf(
     lo: usize,
     rows: usize,
     c: usize,
-    d: usize,
-    x: u32,
+    average: Average,
 )
-    requires { Splittable image.old s k lo rows c d }
-    ensures { SplitAt image.old image.new s k lo rows d x }
+    requires { Splittable image.old s k lo rows c average.dim }
+    ensures { SplitAt image.old image.new s k lo rows average.dim average.value }
 {
-    let key = kd_sides::mark(image, s, d, x, lo, c);
-    let n = kd_sides::part_entries(image, s, d, x, lo, c);
+    let ready = ReadyImage {
+        bytes: image,
+        shape: s,
+    };
+    let key = kd_sides::mark(&ready, average, lo, c);
+    let n = kd_sides::part_entries(image, s, average, lo, c);
     let w = s.variables + fields::NODE;
     let at = s.node_at(k);
     words::runs::move_up(image, at + w, s.node_at(rows), 2 * w);
     let mask = words::get(image, at + fields::NODE_MASK);
-    kd_rows::row_head(image, at, d as u32 + 1, key, c as u32, 1, mask);
+    kd_rows::row_head(image, at, average.dim as u32 + 1, key, c as u32, 1, mask);
     kd_rows::write_leaf(image, s, at + w, lo, n);
     kd_rows::write_leaf(image, s, at + 2 * w, lo + n, c - n);
 }
@@ -52,7 +58,7 @@ pub fn split_node(
     if c <= 64 {
         return None;
     }
-    let a = kd_dimension::choose(image, s, dim, lo, c)?;
-    split_leaf(image, s, k, lo, rows, c, a.dim, a.value);
+    let average = kd_dimension::choose(image, s, dim, lo, c)?;
+    split_leaf(image, s, k, lo, rows, c, average);
     Some(rows + 2)
 }

@@ -1,169 +1,86 @@
 use native.Mathlib.Omega.{arith}
-use Rattle.kd_split.proofs.Cutting.{before_split, split-numbers, less-few, ready₃, ready₄, split_done}
+use Rattle.std.proofs.Common.{rules}
+use Rattle.words.proofs.Laws.{Bytes}
+use Rattle.kd_split.proofs.Cutting.{SplitNumbers, split-numbers, less-few, ready₃, ready₄, split_done}
+use Rattle.kd_split.proofs.split_leaf.Goals.{Start}
 use Rattle.kd_split.proofs.split_leaf.Goals as goal
 
+numbers : (a : Start) → SplitNumbers a.args.image.now a.args.s a.args.k a.args.lo a.args.rows a.args.c a.args.average.dim a.requires
+numbers a = split-numbers _ _ _ _ _ _ _ a.requires
+
+pub invariant_of-ready : goal.invariant_of-ready
+invariant_of-ready c = record { ready = (numbers (goal.at.invariant_of-ready c).Start).ready }
+
 pub mark-key-requires : goal.mark-key-requires
-mark-key-requires c = let all = before_split _ _ _ _ _ _ _ c.requires in
-    record { ready = all.0; c_bound = all.1 }
+mark-key-requires c = (numbers (goal.at.mark-key-requires c).Start).few
 
 pub part_entries-n-requires : goal.part_entries-n-requires
-part_entries-n-requires c = record { ready = (split-numbers _ _ _ _ _ _ _ c.args.x c.mark-key.result c.requires (omega (arith, c.mark-key.type_inv)) c.mark-key.ensures).ready; d_bound = (c.requires.dim, (split-numbers _ _ _ _ _ _ _ c.args.x c.mark-key.result c.requires (omega (arith, c.mark-key.type_inv)) c.mark-key.ensures).few) }
+part_entries-n-requires c = let N = numbers (goal.at.part_entries-n-requires c).Start in record { ready = N.ready; d_bound = (c.requires.dim, N.few) }
 
 pub overflow_add-at : goal.overflow_add-at
-overflow_add-at c =
-    let mark = c.mark-key in
-    omega (arith, (split-numbers _ _ _ _ _ _ _ c.args.x mark.result c.requires (omega (arith, mark.type_inv)) mark.ensures).three, c.node_at-at.ensures)
+overflow_add-at c = omega (arith, (numbers (goal.at.overflow_add-at c).Start).three, c.node_at-at.ensures)
 
 pub move_up-requires : goal.move_up-requires
 move_up-requires c =
-    let mark = c.mark-key in
-    let part-entries = c.part_entries-n in record {
-      at_le_end = omega (
-        arith,
-        (split-numbers _ _ _ _ _ _ _ c.args.x mark.result c.requires (omega (arith, mark.type_inv)) mark.ensures).row,
-        c.node_at-at.ensures,
-        c.node_at.ensures,
-      );
-      by_in_bounds = omega (
-        arith,
-        (split-numbers _ _ _ _ _ _ _ c.args.x mark.result c.requires (omega (arith, mark.type_inv)) mark.ensures).end,
-        c.node_at.ensures,
-        part-entries.auto.image,
-      );
+    let N = numbers (goal.at.move_up-requires c).Start in
+    record {
+      at_le_end = omega (arith, N.row, c.node_at-at.ensures, c.node_at.ensures);
+      by_in_bounds = omega (arith, N.end, c.node_at.ensures, c.part_entries-n.auto.image);
     }
 
 pub overflow_add-at-2 : goal.overflow_add-at-2
-overflow_add-at-2 c =
-    let mark = c.mark-key in
-    let Node-at = c.node_at-at in
-    omega (arith, (split-numbers _ _ _ _ _ _ _ c.args.x mark.result c.requires (omega (arith, mark.type_inv)) mark.ensures).three, Node-at.ensures)
+overflow_add-at-2 c = omega (arith, (numbers (goal.at.overflow_add-at-2 c).Start).three, c.node_at-at.ensures)
 
 pub get-mask-requires : goal.get-mask-requires
 get-mask-requires c =
-    let mark = c.mark-key in
-    let part-entries = c.part_entries-n in
-    let Node-at = c.node_at-at in
-    let move_up = c.move_up in
-    omega (arith, (split-numbers _ _ _ _ _ _ _ c.args.x mark.result c.requires (omega (arith, mark.type_inv)) mark.ensures).three, Node-at.ensures, part-entries.auto.image, move_up.auto.s)
-
-pub overflow_cast-d : goal.overflow_cast-d
-overflow_cast-d c =
-    let mark = c.mark-key in
-    omega (arith, (split-numbers _ _ _ _ _ _ _ c.args.x mark.result c.requires (omega (arith, mark.type_inv)) mark.ensures).dim)
-
-pub overflow_add-d : goal.overflow_add-d
-overflow_add-d c =
-    let mark = c.mark-key in
-    omega (arith, (split-numbers _ _ _ _ _ _ _ c.args.x mark.result c.requires (omega (arith, mark.type_inv)) mark.ensures).dim)
+    omega (arith, (numbers (goal.at.get-mask-requires c).Start).three, c.node_at-at.ensures, c.part_entries-n.auto.image, c.move_up.auto.s)
 
 pub row_head-requires : goal.row_head-requires
 row_head-requires c =
-    let mark = c.mark-key in
-    let part-entries = c.part_entries-n in
-    let Node-at = c.node_at-at in
-    let move_up = c.move_up in
-    omega (arith, (split-numbers _ _ _ _ _ _ _ c.args.x mark.result c.requires (omega (arith, mark.type_inv)) mark.ensures).three, Node-at.ensures, part-entries.auto.image, move_up.auto.s)
-
-pub overflow_add-at-3 : goal.overflow_add-at-3
-overflow_add-at-3 c =
-    let mark = c.mark-key in
-    let Node-at = c.node_at-at in
-    omega (arith, (split-numbers _ _ _ _ _ _ _ c.args.x mark.result c.requires (omega (arith, mark.type_inv)) mark.ensures).three, Node-at.ensures)
+    omega (arith, (numbers (goal.at.row_head-requires c).Start).three, c.node_at-at.ensures, c.part_entries-n.auto.image, c.move_up.auto.s)
 
 pub write_leaf-requires : goal.write_leaf-requires
 write_leaf-requires c =
-    let mark = c.mark-key in
-    let part-entries = c.part_entries-n in
-    let Node-at = c.node_at-at in
-    let node-at2 = c.node_at in
-    let move_up = c.move_up in
-    let get = c.get-mask in
-    let row-head = c.row_head in record {
-      ready = ready₃ _ _ _ _ _ _ _ c.args.x mark.result c.requires (omega (arith, mark.type_inv)) mark.ensures _ (λ j. (c.slice_known-2-1.given j).fits)
-          part-entries.ensures.image_after _ _ _ (rw (Node-at.ensures, node-at2.ensures) at move_up.ensures) (rw Node-at.ensures at get.ensures)
-          (rw Node-at.ensures at row-head.ensures);
+    let N = numbers (goal.at.write_leaf-requires c).Start in
+    let at = c.node_at-at.ensures in
+    let by : Bytes c.part_entries-n.new.image = λ j. search rules in
+    record {
+      ready = ready₃ _ _ _ _ _ _ _ c.requires c.args.average.value c.mark-key.result (omega (arith, c.mark-key.type_inv)) c.mark-key.ensures _ by
+          c.part_entries-n.ensures.image_after _ _ _ (rw (at, c.node_at.ensures) at c.move_up.ensures) (rw at at c.get-mask.ensures)
+          (rw at at c.row_head.ensures);
       c_bound = (
-        omega (
-          arith,
-          less-few _ _ _ _ _ _ _ c.args.x mark.result c.requires (omega (arith, mark.type_inv)) mark.ensures _ part-entries.ensures.value,
-          (split-numbers _ _ _ _ _ _ _ c.args.x mark.result c.requires (omega (arith, mark.type_inv)) mark.ensures).few,
-        ),
-        omega (
-          arith,
-          (split-numbers _ _ _ _ _ _ _ c.args.x mark.result c.requires (omega (arith, mark.type_inv)) mark.ensures).three,
-          Node-at.ensures,
-          part-entries.auto.image,
-          move_up.auto.s,
-          row-head.auto.image,
-        ),
+        omega (arith, less-few _ _ _ _ _ _ _ c.requires c.args.average.value _ c.part_entries-n.ensures.value, N.few),
+        omega (arith, N.three, at, c.part_entries-n.auto.image, c.move_up.auto.s, c.row_head.auto.image),
       );
     }
 
-pub overflow_add-at-4 : goal.overflow_add-at-4
-overflow_add-at-4 c =
-    let mark = c.mark-key in
-    let Node-at = c.node_at-at in
-    omega (arith, (split-numbers _ _ _ _ _ _ _ c.args.x mark.result c.requires (omega (arith, mark.type_inv)) mark.ensures).small, Node-at.ensures)
-
 pub overflow_add-lo : goal.overflow_add-lo
 overflow_add-lo c =
-    let mark = c.mark-key in
-    let part-entries = c.part_entries-n in
-    omega (
-      arith,
-      less-few _ _ _ _ _ _ _ c.args.x mark.result c.requires (omega (arith, mark.type_inv)) mark.ensures _ part-entries.ensures.value,
-      (split-numbers _ _ _ _ _ _ _ c.args.x mark.result c.requires (omega (arith, mark.type_inv)) mark.ensures).few,
-      (split-numbers _ _ _ _ _ _ _ c.args.x mark.result c.requires (omega (arith, mark.type_inv)) mark.ensures).count,
-    )
+    let N = numbers (goal.at.overflow_add-lo c).Start in
+    omega (arith, less-few _ _ _ _ _ _ _ c.requires c.args.average.value _ c.part_entries-n.ensures.value, N.few, N.count)
 
 pub overflow_sub-c : goal.overflow_sub-c
-overflow_sub-c c =
-    let mark = c.mark-key in
-    let part-entries = c.part_entries-n in
-    less-few _ _ _ _ _ _ _ c.args.x mark.result c.requires (omega (arith, mark.type_inv)) mark.ensures _ part-entries.ensures.value
+overflow_sub-c c = less-few _ _ _ _ _ _ _ c.requires c.args.average.value _ c.part_entries-n.ensures.value
 
 pub write_leaf-requires-2 : goal.write_leaf-requires-2
 write_leaf-requires-2 c =
-    let mark = c.mark-key in
-    let part-entries = c.part_entries-n in
-    let Node-at = c.node_at-at in
-    let node-at2 = c.node_at in
-    let move_up = c.move_up in
-    let get = c.get-mask in
-    let row-head = c.row_head in
-    let write-leaf = c.write_leaf in record {
-      ready = ready₄ _ _ _ _ _ _ _ c.args.x mark.result c.requires (omega (arith, mark.type_inv)) mark.ensures _ (λ j. (c.slice_known-2-1.given j).fits)
-          part-entries.ensures.image_after _ _ _ (rw (Node-at.ensures, node-at2.ensures) at move_up.ensures) (rw Node-at.ensures at get.ensures)
-          (rw Node-at.ensures at row-head.ensures) _ part-entries.ensures.value _ (rw Node-at.ensures at write-leaf.ensures);
+    let N = numbers (goal.at.write_leaf-requires-2 c).Start in
+    let at = c.node_at-at.ensures in
+    let by : Bytes c.part_entries-n.new.image = λ j. search rules in
+    record {
+      ready = ready₄ _ _ _ _ _ _ _ c.requires c.args.average.value c.mark-key.result (omega (arith, c.mark-key.type_inv)) c.mark-key.ensures _ by
+          c.part_entries-n.ensures.image_after _ _ _ (rw (at, c.node_at.ensures) at c.move_up.ensures) (rw at at c.get-mask.ensures)
+          (rw at at c.row_head.ensures) _ c.part_entries-n.ensures.value _ (rw at at c.write_leaf.ensures);
       c_bound = (
-        omega (
-          arith,
-          less-few _ _ _ _ _ _ _ c.args.x mark.result c.requires (omega (arith, mark.type_inv)) mark.ensures _ part-entries.ensures.value,
-          (split-numbers _ _ _ _ _ _ _ c.args.x mark.result c.requires (omega (arith, mark.type_inv)) mark.ensures).few,
-        ),
-        omega (
-          arith,
-          (split-numbers _ _ _ _ _ _ _ c.args.x mark.result c.requires (omega (arith, mark.type_inv)) mark.ensures).three,
-          Node-at.ensures,
-          part-entries.auto.image,
-          move_up.auto.s,
-          row-head.auto.image,
-          write-leaf.auto.image,
-        ),
+        omega (arith, less-few _ _ _ _ _ _ _ c.requires c.args.average.value _ c.part_entries-n.ensures.value, N.few),
+        omega (arith, N.three, at, c.part_entries-n.auto.image, c.move_up.auto.s, c.row_head.auto.image, c.write_leaf.auto.image),
       );
     }
 
 pub returns : goal.returns
 returns c =
-    let mark = c.mark-key in
-    let part-entries = c.part_entries-n in
-    let Node-at = c.node_at-at in
-    let node-at2 = c.node_at in
-    let move_up = c.move_up in
-    let get = c.get-mask in
-    let row-head = c.row_head in
-    let write-leaf = c.write_leaf in
-    split_done _ _ _ _ _ _ _ c.args.x mark.result c.requires (omega (arith, mark.type_inv)) mark.ensures _ (λ j. (c.slice_known-2-1.given j).fits)
-    part-entries.ensures.image_after _ _ _ (rw (Node-at.ensures, node-at2.ensures) at move_up.ensures) (rw Node-at.ensures at get.ensures)
-    (rw Node-at.ensures at row-head.ensures) _ part-entries.ensures.value _ (rw Node-at.ensures at write-leaf.ensures) _
-    (rw Node-at.ensures at c.write_leaf-2.ensures)
+    let at = c.node_at-at.ensures in
+    let by : Bytes c.part_entries-n.new.image = λ j. search rules in
+    split_done _ _ _ _ _ _ _ c.requires c.args.average.value c.mark-key.result (omega (arith, c.mark-key.type_inv)) c.mark-key.ensures _ by
+    c.part_entries-n.ensures.image_after _ _ _ (rw (at, c.node_at.ensures) at c.move_up.ensures) (rw at at c.get-mask.ensures)
+    (rw at at c.row_head.ensures) _ c.part_entries-n.ensures.value _ (rw at at c.write_leaf.ensures) _ (rw at at c.write_leaf-2.ensures)

@@ -35,17 +35,17 @@ choose-requires c = record {
   );
 }
 
-pub returns-in_err-a : goal.returns-in_err-a
-returns-in_err-a c =
+pub returns-in_err-average : goal.returns-in_err-average
+returns-in_err-average c =
     rw c.from_residual.ensures (node-flat _ _ _ _ _ (sym (rw c.node_at-at.ensures at c.get.ensures) ∙ c.if-get-ne0.false) _
-    (rw c.node_at-at.ensures at c.get-c.ensures) (omega arith) _ c.in_err-a.ensures)
+    (rw c.node_at-at.ensures at c.get-c.ensures) (omega arith) _ c.in_err-average.ensures)
 
 pub split_leaf-requires : goal.split_leaf-requires
 split_leaf-requires c =
     splittable _ _ _ _ _ (sym (rw c.node_at-at.ensures at c.get.ensures) ∙ c.if-get-ne0.false) _ (rw c.node_at-at.ensures at c.get-c.ensures)
-    (omega arith) _ c.in_ok-a.a c.in_ok-a.ensures c.requires.standing
+    (omega arith) _ c.in_ok-average.average c.in_ok-average.ensures c.requires.standing
 
 pub returns : goal.returns
 returns c =
     node-split _ _ _ _ _ (sym (rw c.node_at-at.ensures at c.get.ensures) ∙ c.if-get-ne0.false) _ (rw c.node_at-at.ensures at c.get-c.ensures)
-    (omega arith) _ c.in_ok-a.a c.in_ok-a.ensures _ c.split_leaf.ensures
+    (omega arith) _ c.in_ok-average.average c.in_ok-average.ensures _ c.split_leaf.ensures
