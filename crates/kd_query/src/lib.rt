@@ -32,7 +32,8 @@ fn by_lm(search: Search) -> bool
 }
 
 // Writes the words of a query: what is searched for, the monomial m to be divided, and the range of labels that count.
-// A reducer's label below `floor` is a regular one's.
+// A reducer's label below `floor` is a regular one's. The words stay a slice, here as in `query_writing`: a struct that held a `&mut` slice and
+// knew its room would owe a clause in each function too, that it keeps the same slice.
 pub fn pose(
     image: &SoundImage<'_>,
     q: &mut [u8],
@@ -54,6 +55,9 @@ pub fn pose(
     query_writing::put_slot(q, s, lm);
     query_writing::lay(q, s);
 }
+
+// The five queries stand apart, since each is a question with values and a contract of its own: one function of an enum would state all five by
+// cases.
 
 // The query of call 1: some monomial divides m.
 pub fn contained(image: &SoundImage<'_>, q: &mut [u8], m: &[u8])
@@ -102,7 +106,7 @@ pub fn low(image: &SoundImage<'_>, q: &mut [u8], index: u32, m: &[u8])
     pose(image, q, m, Search::Low, from..to, 0);
 }
 
-// The ends of the ratio of m and lm, which is made here.
+// The ends of the ratio of m and lm, which is made here, in fixed memory: nothing here is on the heap, and a ratio has at most 65 words.
 fn ends_of_quotient(image: &SoundImage<'_>, index: u32, m: &[u8], lm: &[u8]) -> LabelEnds
     requires kind_value { image.now.shape.kind ≡ 1 }
     requires canonical { Canonical 1 image.now.shape.variables (words m.now) }

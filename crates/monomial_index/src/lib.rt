@@ -12,9 +12,11 @@ ghost use Rattle.index_replies.specs.Replied.{Replied};
 
 use call_list::Call;
 use index_image::Shape;
+use index_image::image::SoundImage;
 use refusals::Refusal;
 
-// Call 0: inserts a monomial, and answers its number.
+// Call 0: inserts a monomial, and answers its number. What it shares with the ratio index's is a test and a cast: a closure that writes the
+// image between them would say no less.
 pub fn insert(image: &mut [u8], s: Shape, lm: &[u8]) -> Result<u32, Refusal>
     requires root { Root image.old s }
     requires kind_value { s.kind ≡ 0 }
@@ -37,7 +39,11 @@ pub fn contains_divisor(image: &mut [u8], s: Shape, q: &mut [u8], m: &[u8]) -> u
     requires canonical { Canonical 1 s.variables (words m.now) }
     ensures { Replied (λ st. serve st (query (containment (words m.now)))) image.old image.new (Ok result) }
 {
-    kd_query::contained(image, s, q, m);
+    let sound = SoundImage {
+        bytes: image,
+        shape: s,
+    };
+    kd_query::contained(&sound, q, m);
     u32::from(kd_tree::find(image, q, m).is_some())
 }
 

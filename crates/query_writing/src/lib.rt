@@ -1,4 +1,4 @@
-// The words of a query, written.
+// The words of a query, written. `kd_query::pose` says why they are a slice.
 #![tactic(auto)]
 
 pub mod limits;

@@ -14,11 +14,13 @@ ghost use Rattle.index_replies.specs.Replied.{Replied};
 
 use call_list::Call;
 use index_image::Shape;
+use index_image::image::SoundImage;
 use monomial::Kind;
 use query_words as query;
+use query_words::Query;
 use refusals::Refusal;
 
-// Call 2: inserts an entry, and answers its number.
+// Call 2: inserts an entry, and answers its number. `monomial_index::insert` says why the two stay apart.
 pub fn insert(
     image: &mut [u8],
     s: Shape,
@@ -67,12 +69,17 @@ pub fn find_a_reducer(
     requires canonical_2 { Canonical 1 s.variables (words m.now) }
     ensures { Replied (λ st. serve st (query (reducing (value_of index (words ratio.now)) (words m.now)))) image.old image.new (Ok result) }
 {
-    kd_query::reducer(image, s, q, index, ratio, m);
+    let sound = SoundImage {
+        bytes: image,
+        shape: s,
+    };
+    kd_query::reducer(&sound, q, index, ratio, m);
     let Some(e) = kd_tree::find(image, q, m) else {
         return 0;
     };
     let n = e as u32 + 1;
-    if query::label(image, q, e) < words::pairs::get(q, query::FLOOR) {
+    let asked = Query { bytes: q };
+    if asked.label(image, e) < asked.pair(query::FLOOR) {
         return n;
     }
     n + 134217728
@@ -94,7 +101,11 @@ pub fn find_high_base_divisor(
     requires canonical_2 { Canonical 1 s.variables (words m.now) }
     ensures { Replied (λ st. serve st (query (high (value_of index (words ratio.now)) (words m.now)))) image.old image.new (Ok result) }
 {
-    kd_query::high(image, s, q, index, ratio, m);
+    let sound = SoundImage {
+        bytes: image,
+        shape: s,
+    };
+    kd_query::high(&sound, q, index, ratio, m);
     numbered(kd_tree::find(image, q, m))
 }
 
@@ -113,7 +124,11 @@ pub fn find_low_base_divisor(
     requires canonical { Canonical 1 s.variables (words sign.now) }
     ensures { Replied (λ st. serve st (query (low index (words sign.now)))) image.old image.new (Ok result) }
 {
-    kd_query::low(image, s, q, index, sign);
+    let sound = SoundImage {
+        bytes: image,
+        shape: s,
+    };
+    kd_query::low(&sound, q, index, sign);
     numbered(kd_tree::find(image, q, sign))
 }
 
@@ -134,7 +149,11 @@ pub fn test_singular_criterion(
     requires canonical_2 { Canonical 1 s.variables (words lm.now) }
     ensures { Replied (λ st. serve st (query (singular index (words sign.now) (words lm.now)))) image.old image.new (Ok result) }
 {
-    kd_query::singular(image, s, q, index, sign, lm);
+    let sound = SoundImage {
+        bytes: image,
+        shape: s,
+    };
+    kd_query::singular(&sound, q, index, sign, lm);
     u32::from(kd_tree::find(image, q, sign).is_some())
 }
 

@@ -3,8 +3,11 @@ use Rattle.monomial.proofs.Firsts.{canonical-wide}
 use native.Mathlib.Omega.{arith}
 use Rattle.ratio_monomial_index.proofs.find_a_reducer.Goals as goal
 
+pub invariant_of-sound : goal.invariant_of-sound
+invariant_of-sound c = record { sound = ∣ sound-of _ _ c.requires.root ∣₁; head = head_of _ _ c.requires.root }
+
 pub reducer-requires : goal.reducer-requires
-reducer-requires c = record { sound = sound-of _ _ c.requires.root; head_ok = head_of _ _ c.requires.root; kind_value = c.requires.kind_value; in_bounds = c.requires.in_bounds; canonical = canonical-wide c.requires.canonical; canonical_2 = c.requires.canonical_2 }
+reducer-requires c = record { kind_value = c.requires.kind_value; in_bounds = c.requires.in_bounds; canonical = canonical-wide c.requires.canonical; canonical_2 = c.requires.canonical_2 }
 
 pub find-requires : goal.find-requires
 find-requires c = ready _ _ _ _ _ c.requires.root c.reducer.ensures
@@ -19,17 +22,19 @@ overflow_cast-n c = omega (arith, small _ _ _ _ _ c.requires.root c.reducer.ensu
 pub overflow_add-n : goal.overflow_add-n
 overflow_add-n c = omega (arith, small _ _ _ _ _ c.requires.root c.reducer.ensures _ _ c.in-Some.ensures)
 
+pub invariant_of-asked : goal.invariant_of-asked
+invariant_of-asked c = record { laid = query-laid _ _ _ _ _ _ c.requires.root c.reducer.ensures _ _ c.in-Some.ensures }
+
 pub label-requires : goal.label-requires
 label-requires c = record {
-  laid = query-laid _ _ _ _ _ _ c.requires.root c.reducer.ensures _ _ c.in-Some.ensures;
   ready = label-ready _ _ _ _ _ _ c.requires.root c.reducer.ensures _ _ c.in-Some.ensures;
-  q_value = (query-kind _ _ _ _ _ _ c.requires.root c.reducer.ensures _ _ c.in-Some.ensures, inside _ _ _ _ _ _ c.requires.root c.reducer.ensures _ _ c.in-Some.ensures);
+  labelled = (query-kind _ _ _ _ _ _ c.requires.root c.reducer.ensures _ _ c.in-Some.ensures, inside _ _ _ _ _ _ c.requires.root c.reducer.ensures _ _ c.in-Some.ensures);
 }
 
-pub returns-then-label-get : goal.returns-then-label-get
-returns-then-label-get c =
+pub returns-then-label-pair : goal.returns-then-label-pair
+returns-then-label-pair c =
     replied _ _ _ _ _ c.requires.root c.reducer.ensures _ _ c.in-Some.ensures _ (omega (arith, small _ _ _ _ _ c.requires.root c.reducer.ensures _ _ c.in-Some.ensures))
-    (told-regular _ _ _ _ _ _ c.requires.root c.reducer.ensures _ _ c.in-Some.ensures _ c.label.ensures.0 (rw c.get.ensures at c.if-label-get.true))
+    (told-regular _ _ _ _ _ _ c.requires.root c.reducer.ensures _ _ c.in-Some.ensures _ c.label.ensures.0 (rw c.pair.ensures at c.if-label-pair.true))
 
 pub overflow_add-result : goal.overflow_add-result
 overflow_add-result c = omega (arith, small _ _ _ _ _ c.requires.root c.reducer.ensures _ _ c.in-Some.ensures)
@@ -37,4 +42,4 @@ overflow_add-result c = omega (arith, small _ _ _ _ _ c.requires.root c.reducer.
 pub returns : goal.returns
 returns c =
     replied _ _ _ _ _ c.requires.root c.reducer.ensures _ _ c.in-Some.ensures _ (omega (arith, small _ _ _ _ _ c.requires.root c.reducer.ensures _ _ c.in-Some.ensures))
-    (told-singular _ _ _ _ _ _ c.requires.root c.reducer.ensures _ _ c.in-Some.ensures _ c.label.ensures.0 (rw c.get.ensures at c.if-label-get.false))
+    (told-singular _ _ _ _ _ _ c.requires.root c.reducer.ensures _ _ c.in-Some.ensures _ c.label.ensures.0 (rw c.pair.ensures at c.if-label-pair.false))
