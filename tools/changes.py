@@ -75,6 +75,44 @@ def beside(old, new):
     return rows
 
 
+# Functions that have another name, crate or type now, where a method of the same name in the same crate does not tell.
+NOW = {
+    ("divisor_index", "opening_good"): ("divisor_index", "is_good"),
+    ("divmask", "map"): ("divmask", "map"),
+    ("divmask_table", "bits_at"): ("divmask", "bits_at"),
+    ("divmask_table", "put_pair"): ("words", "put"),
+    ("index_image", "label_in"): ("index_image", "label"),
+    ("index_image", "map_of"): ("index_image", "map", "Image<'a>"),
+    ("index_image", "masks_of"): ("divmask", "map_pair"),
+    ("index_tables", "in_range"): ("label_sound", "numbers_ok"),
+    ("kd_labelling", "label_at"): ("index_image", "row_label"),
+    ("kd_slots", "mask_of"): ("divmask", "map"),
+    ("label_insert", "highest"): ("label_insert", "free_labels"),
+    ("label_insert", "lowest"): ("label_insert", "free_labels"),
+    ("query_writing", "put_six"): ("query_writing", "put_all"),
+}
+
+
+def moved(old, new, gone):
+    """Old and new contract of each function that is a method now, or has another name."""
+    text = lambda f: ["fn" + f["sign"]] + [f"{w} {{ {c[2]} }}" for w in ("requires", "ensures") for c in f[w]]
+    rows, rest = [], []
+    for name in gone:
+        crate, file, *_ = name.split(" ")
+        fn = name.split(" (")[0].split(" ")[-1]
+        olds = [f for k, v in old.items() if (k[0], k[1], k[3]) == (crate, file, fn) for f in v]
+        to = NOW.get((crate, fn), (crate, fn))
+        if name.startswith("divmask src/pairs.rt map "):
+            to = ("divmask", "map_pair")
+        news = [(k, f) for k, v in new.items() if (k[0], k[3]) == to[:2] and to[2:] in ((), (k[2],)) and (k not in old or to[0] == "label_sound") for f in v]
+        if olds and news:
+            k, f = news[0]
+            rows.append((f"`{name.split(' (')[0]}`, now `{' '.join(x for x in k if x)}`", text(olds[0]), text(f)))
+        else:
+            rest.append(name)
+    return rows, rest
+
+
 def main():
     commit = sys.argv[1]
     with tempfile.TemporaryDirectory() as d:
@@ -102,7 +140,9 @@ def main():
             if old or new:
                 rows.append(("`" + name + "`", old, new))
         show("Functions", rows)
-        show("Functions that are not found again", [(f"`{x}`", [], []) for x in r["functions not found again"] if ours(x)])
+        rows, rest = moved(contracts.read(d)[1], contracts.read(n)[1], [x for x in r["functions not found again"] if ours(x)])
+        show("Functions that moved", rows)
+        show("Functions that are gone", [(f"`{x}`", [], []) for x in rest])
         show("Types", [x for x in beside(types(d), types(n)) if ours(x[0].strip("`"))])
         ghosts = r["ghost items and constants"]
         show("Ghost items and constants", [x for x in [("`" + " ".join(x[:-2]) + "`", x[-2], x[-1]) for x in ghosts["changed"]] + [("`" + " ".join(x) + "`, gone", [], []) for x in ghosts["gone"]] if ours(x[0].strip("`"))])
