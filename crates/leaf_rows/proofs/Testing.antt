@@ -7,8 +7,7 @@ use Prim.Native.Nat.{ℕ, ◌+◌, ◌-◌, ◌*◌, ◌≤◌, ◌<◌}
 use native.Mathlib.Omega.{arith}
 use lib.ListN.{length}
 use Rattle.words.specs.Words.{words}
-use Rattle.words.proofs.Laws.{length-words}
-use Rattle.index_image.proofs.Places.{entry-room}
+use Rattle.index_image.proofs.Places.{entry-room, place-room}
 use Rattle.words.specs.Tables.{part, zeros}
 use Rattle.words.proofs.Tables.{part-append}
 use Rattle.monomial.specs.Monomial.{Canonical}
@@ -17,10 +16,13 @@ use Rattle.monomial.proofs.Powers.{canonical-length}
 use Rattle.monomial.proofs.Divisions.{equal-iff}
 use Rattle.index_image.specs.declared.Shape.{Shape}
 use Rattle.index_image.specs.Layout.{slot}
-use Rattle.index_image.specs.Shape.{entry_at, slot_width}
+use Rattle.index_image.specs.Shape.{entry_at, permutation_at, slot_width}
 use Rattle.index_image.specs.Walk.{Ready}
 
--- ---- an entry lies in the bytes of an image that is ready for the walk
+-- ---- the places of the entries, and each entry, lie in the bytes of an image that is ready for the walk
+pub places_lent : (bs : List ℕ) (s : Shape) → Ready (words bs) s → 4 * (permutation_at s + s.entries) ≤ length bs
+places_lent bs s R = place-room bs s R s.entries (omega arith)
+
 pub entry_lent : (bs : List ℕ) (s : Shape) (e : ℕ) → Ready (words bs) s → e < s.entries → 4 * entry_at s e ≤ length bs
 entry_lent bs s e R h = omega (arith, entry-room bs s R e h)
 

@@ -22,6 +22,7 @@ fn powers_below(lm: &[u8], variables: usize, hi: &[u8]) -> bool
     requires uppers { Uppers variables hi.now }
     ensures { (result ≡ true) ↔ ((v : ℕ) → v < variables → pow 1 (first 1 (words lm.now)) v < get_or (words hi.now) v 0) }
 {
+    // No `all`: that each id has a bound is known from the words before it.
     for w in monomial::variables::variables_of(lm) {
         if words::get(hi, words::id(w) as usize) <= words::power(w) {
             return false;
@@ -43,12 +44,14 @@ fn entry_ok(image: &ReadyImage<'_>, hi: &[u8], labels: &Range<u64>, e: usize) ->
 }
 
 // Whether the c entries from place lo on are within the bounds.
+#[tactic(auto, using(crate::proofs::Testing::places_lent))]
 fn entries_ok(image: &ReadyImage<'_>, hi: &[u8], labels: &Range<u64>, lo: usize, c: usize) -> bool
     requires uppers { Uppers image.now.shape.variables hi.now }
     requires c_bound { lo + c ≤ image.now.shape.entries }
     ensures { (result ≡ true) ↔ Bounded (words image.now.bytes.now) image.now.shape (words hi.now) labels.now.start labels.now.end (entries_from (words image.now.bytes.now) image.now.shape lo c) }
 {
     let p = image.shape.permutation_at() + lo;
+    // No `all`: what its closure reads would have to be known of every place before the first is read.
     for i in 0..c {
         let e = words::get(image.bytes, p + i) as usize;
         if !entry_ok(image, hi, labels, e) {

@@ -19,7 +19,7 @@ use Rattle.index_image.specs.Shape as at
 use Rattle.index_image.specs.Rows.{monomial_in, Taken, entries_from}
 use Rattle.index_image.specs.Walk.{lm_length, lm_in, Ready}
 use Rattle.index_image.specs.declared.Shape.{Shape}
-use Rattle.index_image.proofs.Places.{entry-at-place, place-fits}
+use Rattle.index_image.proofs.Places.{entry-at-place, place-fits, place-room}
 use Rattle.listing.specs.Listed.{lms}
 
 pub at-append : (f : ℕ → List ℕ) (a b : List ℕ) → monomials_at f (a ++ b) ≡ monomials_at f a ++ monomials_at f b
@@ -92,6 +92,9 @@ module _ (bs : List ℕ) (s : Shape) (R : Ready (words bs) s) where
       omega (arith, canonical-length 1 s.variables _ (omega arith) (omega (arith, R.range.vars-to)) (front-canonical 1 s.variables d (omega arith) (R.lms e h)), R.range.vars-to)
 
   -- ---- the entries from place lo on, one after the other
+  pub places_lent : 4 * (at.permutation_at s + s.entries) ≤ length bs
+  places_lent = place-room bs s R s.entries (omega arith)
+
   pub none_yet : (lo : ℕ) → lms W s (entries_from W s lo 0) ≡ []
   none_yet lo = rw (part-nil W (at.permutation_at s + lo)) (at_none (lm_in W s))
 

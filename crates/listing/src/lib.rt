@@ -32,6 +32,7 @@ fn write_monomial(image: &ReadyImage<'_>, e: usize, out: &mut [u8]) -> usize
 }
 
 // Writes the monomials of the c entries from place lo on at the front of `out`, and returns their length in words.
+#[tactic(auto, using(crate::proofs::Monomials::places_lent))]
 fn write_leaf(image: &ReadyImage<'_>, lo: usize, c: usize, out: &mut [u8]) -> usize
     requires c_bound { lo + c ≤ image.now.shape.entries }
     requires c_in_bounds { 4 * length (lms (words image.now.bytes.now) image.now.shape (entries_from (words image.now.bytes.now) image.now.shape lo c)) ≤ length out.old }
@@ -67,6 +68,7 @@ fn write_below(image: &ReadyImage<'_>, k: usize, lo: usize, out: &mut [u8]) -> u
 }
 
 // How many words the monomials of all entries have.
+#[tactic(auto, using(crate::proofs::Monomials::places_lent))]
 fn words_of(image: &ReadyImage<'_>) -> usize
     ensures { result ≡ length (lms (words image.now.bytes.now) image.now.shape (entries_from (words image.now.bytes.now) image.now.shape 0 image.now.shape.entries)) }
 {

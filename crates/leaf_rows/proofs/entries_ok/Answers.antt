@@ -4,17 +4,9 @@ use Prim.Native.Nat.{◌+◌}
 use Rattle.words.proofs.Answers.{refuse, accept, failed}
 use Rattle.words.specs.Words.{words}
 use Rattle.index_image.specs.Shape as at
-use Rattle.index_image.proofs.Places.{place-room, place-fits}
+use Rattle.index_image.proofs.Places.{place-fits}
 use Rattle.leaf_rows.proofs.Bounding.{bounded-part, not-bounded}
 use Rattle.leaf_rows.proofs.entries_ok.Goals as goal
-
-pub get-e-requires : goal.get-e-requires
-get-e-requires c =
-    omega (
-      arith,
-      place-room c.args.image.now.bytes.now c.args.image.now.shape c.args.image.now.ready (c.args.lo + c.args.c) c.requires.c_bound,
-      c.permutation_at.ensures,
-    )
 
 pub entry_ok-requires-clause-e_lt_entries : goal.entry_ok-requires-clause-e_lt_entries
 entry_ok-requires-clause-e_lt_entries c =

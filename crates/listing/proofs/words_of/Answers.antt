@@ -1,7 +1,6 @@
 use native.Mathlib.Omega.{arith}
 use mathlib.Core.Path.{sym, ap}
 use lib.ListN.{length}
-use Rattle.index_image.proofs.Places.{place-room}
 use Rattle.listing.proofs.Monomials.{Next, next, none_yet, lm-held, lm-short}
 use Rattle.listing.proofs.words_of.Goals.{After-get-e}
 use Rattle.listing.proofs.words_of.Goals as goal
@@ -13,15 +12,6 @@ entry c =
 
 pub loop-i-init : goal.loop-i-init
 loop-i-init c = (omega arith, (sym (ap length (none_yet c.args.image.now.bytes.now c.args.image.now.shape c.args.image.now.ready 0)), omega arith))
-
-pub get-e-requires : goal.get-e-requires
-get-e-requires c =
-    omega (
-      arith,
-      c.permutation_at-p.ensures,
-      c.loop-i-test.true,
-      place-room c.args.image.now.bytes.now c.args.image.now.shape c.args.image.now.ready c.args.image.now.shape.entries (omega arith),
-    )
 
 pub loop-i-preserved : goal.loop-i-preserved
 loop-i-preserved c =

@@ -1,8 +1,6 @@
 use native.Mathlib.Omega.{arith}
 use mathlib.Core.Path.{refl}
-use Prim.Native.Nat.{◌+◌}
 use lib.ListN.{length-take, length-drop}
-use Rattle.index_image.proofs.Places.{place-room}
 use Rattle.listing.proofs.Monomials.{Next, next, written-none, written-inside, written-room, written-more}
 use Rattle.listing.proofs.write_leaf.Goals.{After-get-e}
 use Rattle.listing.proofs.write_leaf.Goals as goal
@@ -15,16 +13,6 @@ entry c =
 
 pub loop-i-init : goal.loop-i-init
 loop-i-init c = (omega arith, written-none c.args.image.now.bytes.now c.args.image.now.shape c.args.image.now.ready c.args.lo c.args.out.now)
-
-pub get-e-requires : goal.get-e-requires
-get-e-requires c =
-    omega (
-      arith,
-      c.permutation_at.ensures,
-      c.loop-i-test.true,
-      c.requires.c_bound,
-      place-room c.args.image.now.bytes.now c.args.image.now.shape c.args.image.now.ready (c.args.lo + c.args.c) c.requires.c_bound,
-    )
 
 pub overflow_mul-at : goal.overflow_mul-at
 overflow_mul-at c =
