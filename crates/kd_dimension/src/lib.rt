@@ -60,7 +60,7 @@ fn extremes(image: &ReadyImage<'_>, v: usize, lo: usize, c: usize) -> (u64, u64)
 }
 
 // The first dimension, from `dim` on and round, in which two of the c entries from place lo on differ: none where they are the same in each.
-// The bytes beside the shape, since that each byte of a slice is below 256 is not known of one in a struct, and so not that the average fits.
+// It takes the bytes beside the shape: of a slice it is known that each byte is below 256, so that the average fits, of a struct's field it is not.
 pub fn choose(image: &[u8], s: Shape, dim: usize, lo: usize, c: usize) -> Option<Average>
     requires ready { walk.Ready (words image.now) s }
     requires dim_bound { (dim ≤ 65) × ((lo + c ≤ s.entries) × (1 ≤ c)) }

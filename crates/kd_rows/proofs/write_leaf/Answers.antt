@@ -28,9 +28,6 @@ map-mask-requires c =
 pub overflow_cast-c : goal.overflow_cast-c
 overflow_cast-c c = omega (arith, (numbers (goal.at.overflow_cast-c c).After-gcd_of-n).count)
 
-pub row_head-requires : goal.row_head-requires
-row_head-requires c = omega (arith, c.requires.c_bound.1)
-
 pub paste-requires : goal.paste-requires
 paste-requires c =
     let g = (goal.at.paste-requires c).After-gcd_of-n in

@@ -28,9 +28,6 @@ move_up-requires c =
       by_in_bounds = omega (arith, N.end, c.node_at.ensures, c.part_entries-n.auto.image);
     }
 
-pub overflow_add-at-2 : goal.overflow_add-at-2
-overflow_add-at-2 c = omega (arith, (numbers (goal.at.overflow_add-at-2 c).Start).three, c.node_at-at.ensures)
-
 pub get-mask-requires : goal.get-mask-requires
 get-mask-requires c =
     omega (arith, (numbers (goal.at.get-mask-requires c).Start).three, c.node_at-at.ensures, c.part_entries-n.auto.image, c.move_up.auto.s)
