@@ -29,7 +29,7 @@ pub fn settle(labels: &mut [u8], index: u32, ratio: &[u8])
     }
 }
 
-// The row of a value; 0 where it has none.
+// The row of a value. One without a row has row 0, as the theory's `row_of` says, by which entries are written: an Option would part from it.
 pub fn row_of(labels: &ComparerMap<'_>, index: u32, ratio: &[u8]) -> usize
     requires { Canonical 2 4096 (words ratio.now) }
     ensures { (l : map.State) → layout.Is l labels.now.bytes.now → result ≡ row_of l (map.value_of index (words ratio.now)) }
