@@ -1,4 +1,5 @@
-// The label of a new entry's ratio, in the label map that is a part of the image.
+// The label of a new entry's ratio, in the label map that is a part of the image. What writes the map or the image takes its bytes: a struct
+// that knows them would owe what it knows after each word that is written.
 #![tactic(auto)]
 
 ghost use Rattle.std.specs.Prelude.{◌≡◌, ℕ, ◌+◌, ◌*◌, ◌%◌, ◌≤◌, ◌<◌, length, get_or};
@@ -28,7 +29,7 @@ pub fn settle(labels: &mut [u8], index: u32, ratio: &[u8])
     }
 }
 
-// The row of a value; 0 where it has none.
+// The row of a value. One without a row has row 0, as the theory's `row_of` says, by which entries are written: an Option would part from it.
 pub fn row_of(labels: &ComparerMap<'_>, index: u32, ratio: &[u8]) -> usize
     requires { Canonical 2 4096 (words ratio.now) }
     ensures { (l : map.State) → layout.Is l labels.now.bytes.now → result ≡ row_of l (map.value_of index (words ratio.now)) }
@@ -50,8 +51,7 @@ fn settled_row(labels: &ComparerMap<'_>, n: usize, index: u32, ratio: &[u8]) -> 
     row_of(labels, index, ratio)
 }
 
-// Gives a ratio a row and a label in the label map of the image, and returns the row. The image is written, so it is lent as bytes: a struct
-// that knows it would owe what it knows after each word.
+// Gives a ratio a row and a label in the label map of the image, and returns the row.
 pub fn label_ratio(image: &mut [u8], s: Shape, index: u32, ratio: &[u8]) -> usize
     requires in_range { shape.InRange s }
     requires s_in_bounds { 4 * shape.size s ≤ length image.old }
