@@ -146,8 +146,8 @@ module _ (bs : List ℕ) (B : Bytes bs) (st : State) (I : Is st bs) (lm : List �
   e2' : im2 ≡ paste_w im1 (at.entry_at s n) (entry_words st.kind m st.map_maxima l' e)
   e2' = e2 ∙ rw (map1.1, row_is)
 
-  pub made : Draft bs im2 (half bs st I e good ofk few)
-  made = half-made bs st I e good ofk few bs im1 im2 (rw (no-labels st.kind st.labels e k) (start bs st I e good ofk few B)) e1' e2'
+  pub made : Draft bs im2 (half I good ofk few)
+  made = half-made I good ofk few (rw (no-labels st.kind st.labels e k) (start I good ofk few B)) e1' e2'
 
   row-long : length (entry_words st.kind m st.map_maxima l' e) ≡ at.masked_width m
   row-long = ap length (sym row_is) ∙ masked-length m st.map_maxima lm [] (canonical-length 1 m lm (omega arith) (omega (arith, b.mapped.map.few)) can) ∙ omega arith
@@ -184,10 +184,10 @@ module _ (bs : List ℕ) (B : Bytes bs) (st : State) (I : Is st bs) (lm : List �
   not-one z = absurd (omega (arith, ap code k))
 
   abbrev hangs2 : Hangs (words im2) (shape_of st) lm 0
-  hangs2 = hangs bs st I e good ofk few im2 made map2 nodes2 perm2 long2 0 not-one (λ z. not-one z) (λ z. not-one z)
+  hangs2 = hangs I good ofk few made map2 nodes2 perm2 long2 0 not-one (λ z. not-one z) (λ z. not-one z)
 
   pub finish2 : (d : List ℕ) → ((h : Hangs (words im2) (shape_of st) lm 0) → d ≡ hung im2 (shape_of st) lm 0 h.growth) → d ≡ paste_w bs 0 (encode (inserted st (plain lm)))
-  finish2 d f = finish bs st I e good ofk few im2 made map2 nodes2 perm2 long2 0 not-one (λ z. not-one z) (λ z. not-one z) d (f hangs2)
+  finish2 d f = finish I good ofk few made map2 nodes2 perm2 long2 0 not-one (λ z. not-one z) (λ z. not-one z) d (f hangs2)
 
 -- ---- the same for the shape in the header
 abbrev pub First : List ℕ → List ℕ → List ℕ → List ℕ → Shape → Type 0
