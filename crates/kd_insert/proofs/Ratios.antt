@@ -88,7 +88,7 @@ pub record Calls (bs : List ℕ) (i : ℕ) (sign lm im0 : List ℕ) (r lab : ℕ
   pub lm-tracked : im1 ≡ paste_w ima at.maxima_at (updated lm (part (words ima) at.maxima_at x.variables))
   pub row_written : im2 ≡ paste_w im1 (at.entry_at x x.entries) (ratio_row x.variables (map_maxima (words im1) x) i sign lm r)
 
-module _ (bs : List ℕ) (B : Bytes bs) (st : State) (I : Is st bs) (i : ℕ) (sign lm im0 : List ℕ) (r lab : ℕ) (ima im1 im2 : List ℕ) (C : Calls bs i sign lm im0 r lab ima im1 im2 (shape_of st)) where
+module _ {bs : List ℕ} (B : Bytes bs) {st : State} (I : Is st bs) {i : ℕ} {sign lm im0 : List ℕ} {r lab : ℕ} {ima im1 im2 : List ℕ} (C : Calls bs i sign lm im0 r lab ima im1 im2 (shape_of st)) where
   abbrev s : Shape
   s = shape_of st
 
@@ -362,8 +362,8 @@ module _ {bs : List ℕ} {s : Shape} (R : Room bs s) (B : Bytes bs) {i : ℕ} {s
       } in
       let C' : Calls bs i sign lm im0 r lab ima im1 im2 (shape_of st) = subst (λ (x : Shape). Calls bs i sign lm im0 r lab ima im1 im2 x) (sym q) C in
       record {
-        small = subst (λ (x : Shape). r < x.capacity) q (row_small bs B st I i sign lm im0 r lab ima im1 im2 C');
-        basics = subst (λ (x : Shape). Basics im0 x) q (b0 bs B st I i sign lm im0 r lab ima im1 im2 C');
+        small = subst (λ (x : Shape). r < x.capacity) q (row_small B I C');
+        basics = subst (λ (x : Shape). Basics im0 x) q (b0 B I C');
       }
 
   -- ---- once all is written but the tree
@@ -375,7 +375,7 @@ module _ {bs : List ℕ} {s : Shape} (R : Room bs s) (B : Bytes bs) {i : ℕ} {s
     late =
         let st = R.sound.state in
         let I = R.sound.is in
-        subst (λ (x : Shape). Hangs (words im2) x lm lab) (shape_is bs s R.head st I) (ratio-hangs bs B st I i sign lm im0 r lab ima im1 im2 (calls-for st I))
+        subst (λ (x : Shape). Hangs (words im2) x lm lab) (shape_is bs s R.head st I) (ratio-hangs B I (calls-for st I))
 
     pub ratio-inserted : {im3 : List ℕ} → ((h : Hangs (words im2) s lm lab) → im3 ≡ hung im2 s lm lab h.growth) → Inserted (signed i sign lm) s.entries bs im3
     ratio-inserted {im3} h = record {
@@ -384,5 +384,5 @@ module _ {bs : List ℕ} {s : Shape} (R : Room bs s) (B : Bytes bs) {i : ℕ} {s
           let q = shape_is bs s R.head st I in
           let h' : (z : Hangs (words im2) (shape_of st) lm lab) → im3 ≡ hung im2 (shape_of st) lm lab z.growth = subst
           (λ (x : Shape). (z : Hangs (words im2) x lm lab) → im3 ≡ hung im2 x lm lab z.growth) (sym q) h in
-          ratio-finish bs B st I i sign lm im0 r lab ima im1 im2 (calls-for st I) im3 h';
+          ratio-finish B I (calls-for st I) im3 h';
     }
