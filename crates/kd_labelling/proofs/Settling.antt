@@ -58,18 +58,18 @@ module _ (bs a : List ℕ) (l : State) (v : Value) (r : Result Comparer Unlabell
       let e : answer l v ≡ Err NoLabel = sym g.answers ∙ none_free in
       after-as l v (Err NoLabel) e ∙ stored_same l v (Err NoLabel) (λ x z. let y : ◌≡◌ {A = ℕ} 0 1 = cc in omega arith)
 
-  pub still : Is l a
+  still : Is l a
   still = rw same at (gave-sound bs a l v r I good-here g)
 
   module _ (b : List ℕ) (eb : b ≡ paste_w a 0 (encode (rebuild l))) where
-    pub dealt : Is (rebuild l) b
+    dealt : Is (rebuild l) b
     dealt = rebuild-is a b l still eb
 
-    pub good-again : Good (get_or (words b) 1 0) v
+    good-again : Good (get_or (words b) 1 0) v
     unfolding rebuild
     good-again = rw (vars-of b (rebuild l) dealt) good-here
 
-    pub second-done : (d : List ℕ) (q : Result Comparer Unlabelled) → Gave (rebuild l) v q b d → d ≡ paste_w bs 0 (encode (settled l v))
+    second-done : (d : List ℕ) (q : Result Comparer Unlabelled) → Gave (rebuild l) v q b d → d ≡ paste_w bs 0 (encode (settled l v))
     unfolding rebuild
     second-done d q h =
         let lv = I.valid in
@@ -87,6 +87,19 @@ module _ (bs a : List ℕ) (l : State) (v : Value) (r : Result Comparer Unlabell
         after-long =
             let s = after-shape (rebuild l) v in
             encode-length (after (rebuild l) v) (after-valid (rebuild l) v (rebuild-valid l I.valid) good-here) ∙ rw (s.0, s.1)
+
+-- the same as one fact: the map is as it was, and once it is dealt afresh the value can be asked again
+pub record Retried (bs a : List ℕ) (l : State) (v : Value) : Type 0 where
+  pub is : Is l a
+  pub again : (b : List ℕ) → b ≡ paste_w a 0 (encode (rebuild l)) → Is (rebuild l) b × Good (get_or (words b) 1 0) v
+  pub done : (b d : List ℕ) (q : Result Comparer Unlabelled) → b ≡ paste_w a 0 (encode (rebuild l)) → Gave (rebuild l) v q b d → d ≡ paste_w bs 0 (encode (settled l v))
+
+pub retried : (bs a : List ℕ) (l : State) (v : Value) (r : Result Comparer Unlabelled) → Is l bs → Good (get_or (words bs) 1 0) v → Gave l v r bs a → r ≡ Err NoLabel → Retried bs a l v
+retried bs a l v r i good g e = record {
+  is = still bs a l v r i good g e;
+  again = λ b eb. (dealt bs a l v r i good g e b eb, good-again bs a l v r i good g e b eb);
+  done = λ b d q eb h. second-done bs a l v r i good g e b eb d q h;
+}
 
 -- ---- rows
 pub row-at-place : (l : State) (v : Value) (p r : ℕ) → Valid l → Ok p ≡ place l.rows v → r ≡ get_or (sorted cmp (value l.rows) (length l.rows)) p 0 → r ≡ row_of l v

@@ -1,4 +1,5 @@
-// The label of a new entry's ratio, in the label map that is a part of the image.
+// The label of a new entry's ratio, in the label map that is a part of the image. What writes the map or the image takes its bytes: a struct
+// that knows them would owe what it knows after each word that is written.
 #![tactic(auto)]
 
 ghost use Rattle.std.specs.Prelude.{◌≡◌, ℕ, ◌+◌, ◌*◌, ◌%◌, ◌≤◌, ◌<◌, length, get_or};
@@ -50,8 +51,7 @@ fn settled_row(labels: &ComparerMap<'_>, n: usize, index: u32, ratio: &[u8]) -> 
     row_of(labels, index, ratio)
 }
 
-// Gives a ratio a row and a label in the label map of the image, and returns the row. The image is written, so it is lent as bytes: a struct
-// that knows it would owe what it knows after each word.
+// Gives a ratio a row and a label in the label map of the image, and returns the row.
 pub fn label_ratio(image: &mut [u8], s: Shape, index: u32, ratio: &[u8]) -> usize
     requires in_range { shape.InRange s }
     requires s_in_bounds { 4 * shape.size s ≤ length image.old }
@@ -80,6 +80,5 @@ pub fn label_entry(image: &mut [u8], s: Shape, index: u32, sign: &[u8], lm: &[u8
 {
     let mut made = [0u8; 260];
     let n = monomial::fraction_division(sign, lm, &mut made);
-    let e = 4 * n;
-    label_ratio(image, s, index, &made[..e])
+    label_ratio(image, s, index, &made[..4 * n])
 }

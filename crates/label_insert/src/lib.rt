@@ -35,6 +35,7 @@ fn free_labels(map: &ComparerMap<'_>, p: usize) -> Range<u64>
 
 // Stores a new row, with p values below its own, behind the others. This function and the others that change a map take its bytes: a struct
 // that knows them as a sound map would owe that again after each word that is written.
+#[tactic(auto, using(fast_compare::proofs::Reading::head))]
 fn store(map: &mut [u8], p: usize, index: u32, ratio: &[u8], label: u32)
     requires sound { Sound map.old }
     requires good { Good (get_or (words map.old) 1 0) (value_of index (words ratio.now)) }
@@ -95,6 +96,7 @@ fn spaced(n: usize, k: usize) -> u32
 }
 
 // Gives every value a new label, evenly spaced, in the same order.
+#[tactic(auto, using(fast_compare::proofs::Reading::head))]
 pub fn rebuild(map: &mut [u8])
     requires { Sound map.old }
     ensures { (st : State) → Is st map.old → map.new ≡ paste_w map.old 0 (encode (Map.rebuild st)) }

@@ -1,6 +1,6 @@
 -- What the doors answer, case by case. Assumes nothing.
 use mathlib.Core.Path.{◌≡◌, refl, sym, ap, ◌∙◌}
-use mathlib.Core.Bool.{Bool, true, false, ◌&&◌}
+use mathlib.Core.Bool.{Bool, true, false, cond, ◌&&◌}
 use mathlib.Core.List.{List}
 use Prim.Native.Nat.{ℕ, ◌+◌, ◌*◌, ◌≤◌, ◌<◌}
 use native.Mathlib.Nat.{mul-le-mul}
@@ -15,31 +15,39 @@ use Rattle.monomial.specs.Sizes.{sizes_fit, Sizes}
 use Rattle.monomial.proofs.Canon.{both_true}
 use Rattle.monomial.proofs.Sizing.{sizes-fit}
 use Rattle.monomial.proofs.Laws.{lent-canonical}
-use Rattle.fast_compare.specs.Map.{Value, value_of, Good, State, empty, rebuild}
+use Rattle.fast_compare.specs.Map.{Value, value_of, Good, State, empty}
 use Rattle.fast_compare.specs.Layout.{encode, size, Is, Sound, Gave}
-use Rattle.label_work.specs.Door.{length_for, opening_for, opened_bytes, number, told, value_lent, answer_for, left, Asking, Replied, Rebuilt}
+use Rattle.label_work.specs.Door.{length_for, opening_for, opened_bytes, number, told, value_lent, answer_for, left, Asking, Replied}
 use Rattle.fast_compare.specs.declared.Comparer.{Comparer}
 use Rattle.fast_compare.specs.declared.Comparer.TheVariants.{New}
 use Rattle.fast_compare.specs.declared.Unlabelled.{Unlabelled}
-use Rattle.std.proofs.Common.{Result, Ok, Err}
+use Rattle.std.specs.Prelude.{Result, Ok, Err, IsErrAnd}
 use Rattle.refusals.specs.Numbers as Numbers
 use Rattle.refusals.specs.declared.Refusal.{Refusal}
-use Rattle.refusals.specs.declared.Refusal.TheVariants.{Unsound, BadWords}
+use Rattle.refusals.specs.declared.Refusal.TheVariants.{Sizes as BadSizes, Unsound, BadWords}
 use Rattle.fast_compare.proofs.Maps.{after-as, stored_same}
 use Rattle.label_insert.proofs.Storing.{holds}
 
 -- ---- question 1
-not-true : (b : Bool) → (b ≡ true → ⊥) → b ≡ false
-not-true true h = absurd (h refl)
-not-true false h = refl
-
-not-fit : (m c : ℕ) → (Sizes m c → ⊥) → sizes_fit m c ≡ false
-not-fit m c h = not-true (sizes_fit m c) (λ e. h ((sizes-fit m c).0 e))
-
 module _ (m c : ℕ) where
-  pub length-refused : (Sizes m c → ⊥) → 1 ≡ length_for m c
+  -- what a length says of it
+  pub length-ok : (n : ℕ) → Ok n ≡ cond (sizes_fit m c) (Ok (4 * size m c)) (Err BadSizes) → (n ≡ 4 * size m c) × Sizes m c
+  length-ok n e = go (sizes_fit m c) refl e
+    where
+      go : (t : Bool) → sizes_fit m c ≡ t → Ok n ≡ cond t (Ok (4 * size m c)) (Err BadSizes) → (n ≡ 4 * size m c) × Sizes m c
+      go true q e = (cc, (sizes-fit m c).0 q)
+      go false q e = absurd cc
+
+  pub length-err : (r : Refusal) → Err r ≡ cond (sizes_fit m c) (Ok (4 * size m c)) (Err BadSizes) → (r ≡ BadSizes) × (sizes_fit m c ≡ false)
+  length-err r e = go (sizes_fit m c) refl e
+    where
+      go : (t : Bool) → sizes_fit m c ≡ t → Err r ≡ cond t (Ok (4 * size m c)) (Err BadSizes) → (r ≡ BadSizes) × (sizes_fit m c ≡ false)
+      go true q e = absurd cc
+      go false q e = (cc, q)
+
+  pub length-refused : sizes_fit m c ≡ false → 1 ≡ length_for m c
   unfolding length_for
-  length-refused h = rw (not-fit m c h)
+  length-refused h = rw h
 
   pub length-served : Sizes m c → 4 * size m c ≡ length_for m c
   unfolding length_for
@@ -51,9 +59,9 @@ module _ (m c : ℕ) where
       let most : c * (m + 3) ≤ 4096 * 67 = mul-le-mul a.cap-to wide in
       omega (arith, a.cap-to)
 
-  pub open-unasked : (bs : List ℕ) → (Sizes m c → ⊥) → (1 ≡ opening_for m c (length bs)) × (bs ≡ opened_bytes m c bs)
+  pub open-unasked : (bs : List ℕ) → sizes_fit m c ≡ false → (1 ≡ opening_for m c (length bs)) × (bs ≡ opened_bytes m c bs)
   unfolding opening_for opened_bytes
-  open-unasked bs h = rw (not-fit m c h) (refl, refl)
+  open-unasked bs h = rw h (refl, refl)
 
   pub open-short : (bs : List ℕ) → Sizes m c → length bs < 4 * size m c → (2 ≡ opening_for m c (length bs)) × (bs ≡ opened_bytes m c bs)
   unfolding opening_for opened_bytes
@@ -62,6 +70,12 @@ module _ (m c : ℕ) where
   pub open-served : (bs b : List ℕ) → Sizes m c → 4 * size m c ≤ length bs → b ≡ paste_w bs 0 (encode (empty m c)) → (0 ≡ opening_for m c (length bs)) × (b ≡ opened_bytes m c bs)
   unfolding opening_for opened_bytes
   open-served bs b a h e = rw ((sizes-fit m c).1 a, le-leb (4 * size m c) (length bs) h) (refl, e)
+
+-- a refusal handed on
+pub told-one : (r : Result Unit Refusal) (e : Refusal) → IsErrAnd r (λ x. x ≡ e) → e ≡ BadSizes → Numbers.told r ≡ 1
+unfolding Numbers.told Numbers.number
+told-one (Ok u) e h q = absurd h
+told-one (Err x) e h q = ap Numbers.number (h ∙ q)
 
 -- ---- question 7
 pub lent-good : (m i : ℕ) (ratio : List ℕ) → i < 268435456 → lent 2 m ratio ≡ true → (value_lent m i ratio ≡ true) × Good m (value_of i (words ratio))
@@ -127,10 +141,3 @@ replied i ratio a entry exit r s e f = record {
   sound = λ st k. let w = s.sound st k in (e ∙ ap number w.0, w.1);
   refused = λ h. s.refused (λ x y. omega (arith, f x y));
 }
-
--- ---- rebuild
-pub rebuilt-unsound : (bs : List ℕ) → (Sound bs → ⊥) → Rebuilt 3 bs bs
-rebuilt-unsound bs h = record { unsound = λ _. (refl, refl); sound = λ st s. absurd (h (record { state = st; is = s })) }
-
-pub rebuilt-served : (bs b : List ℕ) → Sound bs → ((st : State) → Is st bs → b ≡ paste_w bs 0 (encode (rebuild st))) → Rebuilt 0 bs b
-rebuilt-served bs b s g = record { unsound = λ z. absurd (z s); sound = λ st k. (refl, g st k) }

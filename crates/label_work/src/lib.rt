@@ -1,7 +1,10 @@
 // The doors of a label map lent alone. No answer here goes through a buffer: C gets one number.
 #![tactic(auto)]
 
-ghost use Rattle.std.specs.Prelude.{◌≡◌, ℕ, Ok, ◌<◌, length};
+ghost use Rattle.std.specs.Prelude.{◌≡◌, ℕ, Ok, Err, cond, ◌*◌, ◌<◌, length};
+ghost use Rattle.monomial.specs.Sizes.{sizes_fit};
+ghost use Rattle.fast_compare.specs.Layout.{size};
+ghost use Rattle.refusals.specs.declared.Refusal.TheVariants.{Sizes};
 ghost use Rattle.refusals.specs.Numbers as refusals;
 ghost use Rattle.label_work.specs.Door as Door;
 
@@ -15,24 +18,19 @@ fn told(c: Result<Comparer, Unlabelled>) -> Result<u32, Refusal>
     ensures { result ≡ Door.told c }
 {
     match c {
-        Ok(Comparer::Known(x)) => Ok(x),
-        Ok(Comparer::New(x)) => Ok(x),
+        Ok(Comparer::Known(label) | Comparer::New(label)) => Ok(label),
         Err(u) => Err(Refusal::from(u)),
     }
 }
 
-// Questions 3, 7, 8 and 10, in this order.
+// Questions 3, 7, 8 and 10, in this order. An index has 28 bits.
 pub fn ask(image: &mut [u8], index: u32, ratio: &[u8]) -> Result<u32, Refusal>
     ensures { Door.Asking index ratio.now result image.old image.new }
 {
     if !label_sound::sound(image) {
         return Err(Refusal::Unsound);
     }
-    if 268435455 < index {
-        return Err(Refusal::BadWords);
-    }
-    let variables = words::get(image, 1);
-    if !monomial::is_canonical(ratio, Kind::Ratio, variables) {
+    if 268435455 < index || !monomial::is_canonical(ratio, Kind::Ratio, words::get(image, 1)) {
         return Err(Refusal::BadWords);
     }
     told(label_insert::get_comparer(image, index, ratio))
@@ -50,30 +48,35 @@ fn number(a: Result<u32, Refusal>) -> u64
     }
 }
 
+// Question 1; the length of a map's image in bytes.
+fn length(variables: u32, capacity: u32) -> Result<usize, Refusal>
+    ensures { result ≡ cond (sizes_fit variables capacity) (Ok (4 * size variables capacity)) (Err Sizes) }
+{
+    if !monomial::sizes::sizes_fit(variables as usize, capacity as usize) {
+        return Err(Refusal::Sizes);
+    }
+    Ok(fast_compare::length(variables as usize, capacity as usize))
+}
+
 // The length of a map's image in bytes, which is above 16; or 1, for question 1: C gets both as one number.
 #[unsafe(no_mangle)]
 pub extern "C" fn divisor_index_fast_compare_length(variables: u32, capacity: u32) -> u32
     ensures { result ≡ Door.length_for variables capacity }
 {
-    if !monomial::sizes::sizes_fit(variables as usize, capacity as usize) {
-        return 1;
+    match length(variables, capacity) {
+        Ok(n) => n as u32,
+        Err(r) => refusals::number(r),
     }
-    fast_compare::length(variables as usize, capacity as usize) as u32
 }
 
 // Questions 1 and 2; writes an empty map.
 fn open(variables: u32, capacity: u32, image: &mut [u8]) -> Result<(), Refusal>
     ensures { (refusals.told result ≡ Door.opening_for variables capacity (length image.old)) × (image.new ≡ Door.opened_bytes variables capacity image.old) }
 {
-    let v = variables as usize;
-    let c = capacity as usize;
-    if !monomial::sizes::sizes_fit(v, c) {
-        return Err(Refusal::Sizes);
-    }
-    if image.len() < fast_compare::length(v, c) {
+    if image.len() < length(variables, capacity)? {
         return Err(Refusal::ShortImage);
     }
-    fast_compare::open(image, v, c);
+    fast_compare::open(image, variables as usize, capacity as usize);
     Ok(())
 }
 
@@ -91,6 +94,7 @@ pub extern "C" fn divisor_index_fast_compare_open(
 
 // The label of a value, which is stored where it is new; or a refusal's number in the upper half.
 #[unsafe(no_mangle)]
+#[tactic(auto, using(crate::proofs::Replies::replied))]
 pub extern "C" fn divisor_index_fast_compare_get_comparer(
     image: &mut [u8],
     index: u32,
@@ -98,11 +102,11 @@ pub extern "C" fn divisor_index_fast_compare_get_comparer(
 ) -> u64
     ensures { Door.Replied index ratio.now result image.old image.new }
 {
-    let a = ask(image, index, ratio);
-    number(a)
+    number(ask(image, index, ratio))
 }
 
 // Question 3; spaces the labels evenly.
+#[tactic(auto, unfolding(refusals::specs::Numbers::told, refusals::specs::Numbers::number))]
 fn rebuild(image: &mut [u8]) -> Result<(), Refusal>
     ensures { Door.Rebuilt (refusals.told result) image.old image.new }
 {

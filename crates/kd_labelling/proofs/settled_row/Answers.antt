@@ -9,6 +9,3 @@ use Rattle.kd_labelling.proofs.settled_row.Goals as goal
 pub returns-then-n-count : goal.returns-then-n-count
 returns-then-n-count c = let v = value_of c.args.index (words c.args.ratio.now) in
     λ l ok e I. e ∙ settled-last l v ok I.valid (omega (arith, e, c.count.ensures.value_2 (settled l v) I))
-
-pub returns : goal.returns
-returns c = λ l ok e I. c.row_of.ensures (settled l (value_of c.args.index (words c.args.ratio.now))) I

@@ -14,6 +14,3 @@ add-requires-clause-p_bound c = let s = c.requires.sound in new-place c.args.map
 
 pub returns-in-Ok : goal.returns-in-Ok
 returns-in-Ok c = λ st i. gave-known c.args.map.now st _ (search rules) i c.in-Ok.p c.label_at.result (c.in-Ok.ensures st i) (c.label_at.ensures st i)
-
-pub returns-in-Err : goal.returns-in-Err
-returns-in-Err c = λ st i. c.add.ensures st i (c.in-Err.ensures st i)

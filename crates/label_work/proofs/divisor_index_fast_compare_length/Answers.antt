@@ -1,20 +1,15 @@
-use mathlib.Core.Path.{◌∙◌}
-use Rattle.words.proofs.Answers.{failed, passed}
-use Rattle.label_work.proofs.Replies.{length-refused, length-served, length-small}
+use mathlib.Core.Path.{ap, ◌∙◌}
 use native.Mathlib.Omega.{arith}
-use Rattle.monomial.proofs.Sizing.{sizes-asked}
+use Rattle.refusals.specs.Numbers.{number}
+use Rattle.label_work.proofs.Replies.{length-ok, length-err, length-refused, length-served, length-small}
 use Rattle.label_work.proofs.divisor_index_fast_compare_length.Goals as goal
 
-pub returns-then-not-sizes_fit : goal.returns-then-not-sizes_fit
-returns-then-not-sizes_fit c = length-refused c.args.variables c.args.capacity (failed _ (sizes-asked _ _ c.sizes_fit.ensures) c.if-not-sizes_fit.true)
-
-pub length-requires : goal.length-requires
-length-requires c = let a = passed _ (sizes-asked _ _ c.sizes_fit.ensures) c.if-not-sizes_fit.false in (a.vars-to, a.cap-to)
-
 pub overflow_cast-result : goal.overflow_cast-result
-overflow_cast-result c =
-    let a = passed _ (sizes-asked _ _ c.sizes_fit.ensures) c.if-not-sizes_fit.false in
-    omega (arith, c.length.ensures, length-small c.args.variables c.args.capacity a)
+overflow_cast-result c = let q = length-ok _ _ _ c.in-Ok.ensures in omega (arith, q.0, length-small _ _ q.1)
 
-pub returns : goal.returns
-returns c = c.length.ensures ∙ length-served c.args.variables c.args.capacity (passed _ (sizes-asked _ _ c.sizes_fit.ensures) c.if-not-sizes_fit.false)
+pub returns-in-Ok : goal.returns-in-Ok
+returns-in-Ok c = let q = length-ok _ _ _ c.in-Ok.ensures in q.0 ∙ length-served _ _ q.1
+
+pub returns-in-Err : goal.returns-in-Err
+unfolding number
+returns-in-Err c = let q = length-err _ _ _ c.in-Err.ensures in c.number.ensures ∙ ap number q.0 ∙ length-refused _ _ q.1
