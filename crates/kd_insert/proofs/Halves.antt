@@ -61,7 +61,7 @@ unfolding entry_words sign_words
 number-free monomials m xs l n e = refl
 number-free ratioed m xs l n e = refl
 
-module _ (bs : List ℕ) (st : State) (I : Is st bs) (e : Entry) (good : GoodEntry st.variables e) (ofk : OfKind st.kind e) (room : length st.entries < st.capacity) where
+module _ {bs : List ℕ} {st : State} (I : Is st bs) {e : Entry} (good : GoodEntry st.variables e) (ofk : OfKind st.kind e) (room : length st.entries < st.capacity) where
   abbrev s : Shape
   s = shape_of st
 
@@ -145,8 +145,8 @@ module _ (bs : List ℕ) (st : State) (I : Is st bs) (e : Entry) (good : GoodEnt
       ∷ (tree_words st.variables st.map_maxima (power_in st.entries) st.tree
       ++ zeros ((2 * st.capacity - 1 - nodes st.tree) * at.node_width st.variables)) ∷ []
 
-  abbrev Ls : Lengths bs st I e good ofk room
-  Ls = lengths bs st I e good ofk room
+  abbrev Ls : Lengths I good ofk room
+  Ls = lengths I good ofk room
 
   pub rows_long : length old-rows ≡ c * w
   rows_long =
@@ -162,10 +162,10 @@ module _ (bs : List ℕ) (st : State) (I : Is st bs) (e : Entry) (good : GoodEnt
   row-wide : length (entry_words st.kind m xs l' e) ≡ w
   row-wide = entry_length st.kind m xs l' e F.vars-to good
 
-  pub half-made : (im0 im1 im2 : List ℕ) → Draft bs im0 with_labels → im1 ≡ paste_w im0 at.maxima_at (tracked st.kind e st.maxima)
+  pub half-made : {im0 im1 im2 : List ℕ} → Draft bs im0 with_labels → im1 ≡ paste_w im0 at.maxima_at (tracked st.kind e st.maxima)
       → im2 ≡ paste_w im1 (at.entry_at (shape_of st) (length st.entries)) (entry_words st.kind st.variables st.map_maxima (labelled st.kind st.labels e) e)
-      → Draft bs im2 (half bs st I e good ofk room)
-  half-made im0 im1 im2 D e1 e2 =
+      → Draft bs im2 (half I good ofk room)
+  half-made {im0} {im1} {im2} D e1 e2 =
       let mx = tracked st.kind e st.maxima in
       let row = entry_words st.kind m xs l' e in
       let lm = Ls.maxima in

@@ -96,7 +96,7 @@ hung-is bs a b d s lm lab q p g M all few eq ep ea eb ed lb =
     let row : b ≡ paste_w (paste_w bs (at.node_at s 0) (grown_rows g)) x (n ∷ part (words bs) x (n - place g)) = eb ∙ rw (sub, eq, ep, kept, ea) in
     ed ∙ put_w-paste b at.length_at (n + 1) (omega arith) ∙ rw row
 
-module _ (bs : List ℕ) (st : State) (I : Is st bs) (e : Entry) (good : GoodEntry st.variables e) (ofk : OfKind st.kind e) (room : length st.entries < st.capacity) where
+module _ {bs : List ℕ} {st : State} (I : Is st bs) {e : Entry} (good : GoodEntry st.variables e) (ofk : OfKind st.kind e) (room : length st.entries < st.capacity) where
   abbrev s : Shape
   s = shape_of st
 
@@ -217,7 +217,7 @@ module _ (bs : List ℕ) (st : State) (I : Is st bs) (e : Entry) (good : GoodEnt
       }
 
   -- ---- the tree, the permutation and the header
-  module _ (im : List ℕ) (D : Draft bs im half) (map2 : map_maxima (words im) s ≡ st.map_maxima)
+  module _ {im : List ℕ} (D : Draft bs im half) (map2 : map_maxima (words im) s ≡ st.map_maxima)
       (nodes2 : part (words im) (at.node_at s 0) (nodes t * at.node_width m) ≡ tree_words m xs (power_in es) t)
       (perm2 : part (words im) (at.permutation_at s) n ≡ inorder t) (long2 : length im ≡ length bs)
       (lab : ℕ) (lab2 : s.kind ≡ 1 → lb n ≡ lab) (labels2 : s.kind ≡ 1 → (k : ℕ) → k < n → lb k ≡ walk.label (words im) s k)

@@ -107,8 +107,8 @@ one-canonical m = record { some = omega arith; whole = front-end 1 m 0 0 [] refl
 pub good-plain : (m : ℕ) (lm : List ℕ) → Canonical 1 m lm → GoodEntry m (plain lm)
 good-plain m lm c = record { index-small = omega arith; sign-canonical = one-canonical m; lm-canonical = c }
 
-module _ (bs : List ℕ) (B : Bytes bs) (st : State) (I : Is st bs) (lm : List ℕ) (can : Canonical 1 st.variables lm) (k : st.kind ≡ monomials) (few : length st.entries < st.capacity)
-    (im1 im2 : List ℕ) (e1 : im1 ≡ paste_w bs at.maxima_at (updated lm (part (words bs) at.maxima_at st.variables)))
+module _ {bs : List ℕ} (B : Bytes bs) {st : State} (I : Is st bs) {lm : List ℕ} (can : Canonical 1 st.variables lm) (k : st.kind ≡ monomials) (few : length st.entries < st.capacity)
+    {im1 im2 : List ℕ} (e1 : im1 ≡ paste_w bs at.maxima_at (updated lm (part (words bs) at.maxima_at st.variables)))
     (e2 : im2 ≡ paste_w im1 (at.entry_at (shape_of st) (length st.entries)) (masked st.variables (map_maxima (words im1) (shape_of st)) lm [])) where
   abbrev s : Shape
   s = shape_of st
@@ -146,8 +146,8 @@ module _ (bs : List ℕ) (B : Bytes bs) (st : State) (I : Is st bs) (lm : List �
   e2' : im2 ≡ paste_w im1 (at.entry_at s n) (entry_words st.kind m st.map_maxima l' e)
   e2' = e2 ∙ rw (map1.1, row_is)
 
-  pub made : Draft bs im2 (half bs st I e good ofk few)
-  made = half-made bs st I e good ofk few bs im1 im2 (rw (no-labels st.kind st.labels e k) (start bs st I e good ofk few B)) e1' e2'
+  pub made : Draft bs im2 (half I good ofk few)
+  made = half-made I good ofk few (rw (no-labels st.kind st.labels e k) (start I good ofk few B)) e1' e2'
 
   row-long : length (entry_words st.kind m st.map_maxima l' e) ≡ at.masked_width m
   row-long = ap length (sym row_is) ∙ masked-length m st.map_maxima lm [] (canonical-length 1 m lm (omega arith) (omega (arith, b.mapped.map.few)) can) ∙ omega arith
@@ -184,10 +184,10 @@ module _ (bs : List ℕ) (B : Bytes bs) (st : State) (I : Is st bs) (lm : List �
   not-one z = absurd (omega (arith, ap code k))
 
   abbrev hangs2 : Hangs (words im2) (shape_of st) lm 0
-  hangs2 = hangs bs st I e good ofk few im2 made map2 nodes2 perm2 long2 0 not-one (λ z. not-one z) (λ z. not-one z)
+  hangs2 = hangs I good ofk few made map2 nodes2 perm2 long2 0 not-one (λ z. not-one z) (λ z. not-one z)
 
   pub finish2 : (d : List ℕ) → ((h : Hangs (words im2) (shape_of st) lm 0) → d ≡ hung im2 (shape_of st) lm 0 h.growth) → d ≡ paste_w bs 0 (encode (inserted st (plain lm)))
-  finish2 d f = finish bs st I e good ofk few im2 made map2 nodes2 perm2 long2 0 not-one (λ z. not-one z) (λ z. not-one z) d (f hangs2)
+  finish2 d f = finish I good ofk few made map2 nodes2 perm2 long2 0 not-one (λ z. not-one z) (λ z. not-one z) d (f hangs2)
 
 -- ---- the same for the shape in the header
 abbrev pub First : List ℕ → List ℕ → List ℕ → List ℕ → Shape → Type 0
@@ -201,7 +201,7 @@ monomial-hangs {bs} {im1} {im2} {lm} {s} R B f =
     let st = R.sound.state in
     let q = shape_is bs s R.head st R.sound.is in
     let g : First bs lm im1 im2 (shape_of st) = subst (λ (x : Shape). First bs lm im1 im2 x) (sym q) f in
-    subst (λ (x : Shape). Hangs (words im2) x lm 0) q (hangs2 bs B st R.sound.is lm g.1.1.0 (code-monomial st.kind g.1.1.1.0) g.1.1.1.1 im1 im2 g.0 g.1.0)
+    subst (λ (x : Shape). Hangs (words im2) x lm 0) q (hangs2 B R.sound.is g.1.1.0 (code-monomial st.kind g.1.1.1.0) g.1.1.1.1 g.0 g.1.0)
 
 pub monomial-inserted : {bs im1 im2 im3 lm : List ℕ} {s : Shape} → Room bs s → Bytes bs → First bs lm im1 im2 s
     → ((h : Hangs (words im2) s lm 0) → im3 ≡ hung im2 s lm 0 h.growth) → Inserted (plain lm) s.entries bs im3
@@ -212,5 +212,5 @@ monomial-inserted {bs} {im1} {im2} {im3} {lm} {s} R B f h = record {
       let g : First bs lm im1 im2 (shape_of st) = subst (λ (x : Shape). First bs lm im1 im2 x) (sym q) f in
       let h' : (z : Hangs (words im2) (shape_of st) lm 0) → im3 ≡ hung im2 (shape_of st) lm 0 z.growth = subst
       (λ (x : Shape). (z : Hangs (words im2) x lm 0) → im3 ≡ hung im2 x lm 0 z.growth) (sym q) h in
-      finish2 bs B st I lm g.1.1.0 (code-monomial st.kind g.1.1.1.0) g.1.1.1.1 im1 im2 g.0 g.1.0 im3 h';
+      finish2 B I g.1.1.0 (code-monomial st.kind g.1.1.1.0) g.1.1.1.1 g.0 g.1.0 im3 h';
 }

@@ -88,7 +88,7 @@ pub record Calls (bs : List ℕ) (i : ℕ) (sign lm im0 : List ℕ) (r lab : ℕ
   pub lm-tracked : im1 ≡ paste_w ima at.maxima_at (updated lm (part (words ima) at.maxima_at x.variables))
   pub row_written : im2 ≡ paste_w im1 (at.entry_at x x.entries) (ratio_row x.variables (map_maxima (words im1) x) i sign lm r)
 
-module _ (bs : List ℕ) (B : Bytes bs) (st : State) (I : Is st bs) (i : ℕ) (sign lm im0 : List ℕ) (r lab : ℕ) (ima im1 im2 : List ℕ) (C : Calls bs i sign lm im0 r lab ima im1 im2 (shape_of st)) where
+module _ {bs : List ℕ} (B : Bytes bs) {st : State} (I : Is st bs) {i : ℕ} {sign lm im0 : List ℕ} {r lab : ℕ} {ima im1 im2 : List ℕ} (C : Calls bs i sign lm im0 r lab ima im1 im2 (shape_of st)) where
   abbrev s : Shape
   s = shape_of st
 
@@ -129,7 +129,7 @@ module _ (bs : List ℕ) (B : Bytes bs) (st : State) (I : Is st bs) (i : ℕ) (s
   b = basics-of bs st I
 
   settles : Settled st.labels l' (ratio_of (signed i sign lm))
-  settles = halves.settled bs st I e good ofk few k
+  settles = halves.settled I good ofk few k
 
   vars' : l'.variables ≡ m
   vars' = settles.vars ∙ I.valid.labels-vars
@@ -180,7 +180,7 @@ module _ (bs : List ℕ) (B : Bytes bs) (st : State) (I : Is st bs) (i : ℕ) (s
       z ∙ t ∙ ap (paste_w im0 at.maxima_at) (over-all us ws (omega arith)) ∙ rw (present0, both st.kind e st.maxima k)
 
   mx-long : length mx ≡ m
-  mx-long = (lengths bs st I e good ofk few).maxima
+  mx-long = (lengths I good ofk few).maxima
 
   mx-fits : 4 * (at.maxima_at + length mx) ≤ length im0
   mx-fits = omega (arith, mx-long, b0.mapped.room)
@@ -216,19 +216,19 @@ module _ (bs : List ℕ) (B : Bytes bs) (st : State) (I : Is st bs) (i : ℕ) (s
   map2 = ap (λ (x : List ℕ). map_maxima (words x) s) e2 ∙ part-before im1 (at.entry_at s n) row (at.map_at m) m (omega (arith, row-fits-in)) (omega arith) ∙ map1
 
   -- ---- the draft
-  first : Draft bs im0 (with_labels bs st I e good ofk few)
+  first : Draft bs im0 (with_labels I good ofk few)
   first =
-      let L = lengths bs st I e good ofk few in
+      let L = lengths I good ofk few in
       let old : length (label_words st.kind l) ≡ at.labels_size (shape_of st) = (of.fits bs st I).label-words in
       let ml : length (labels.encode l') ≡ at.labels_size (shape_of st) = map-long in
-      let D = draft-step bs bs im0 (coarse st) 5 0 (at.labels_at s) (labels.encode l') (start bs st I e good ofk few B) e0
-      (omega (arith, L.head, (of.fits bs st I).maxima, L.map_is, halves.rows_long bs st I e good ofk few, L.permutation)) (omega arith) (omega (arith, old, ml)) in
+      let D = draft-step bs bs im0 (coarse st) 5 0 (at.labels_at s) (labels.encode l') (start I good ofk few B) e0
+      (omega (arith, L.head, (of.fits bs st I).maxima, L.map_is, halves.rows_long I good ofk few, L.permutation)) (omega arith) (omega (arith, old, ml)) in
       let z : over (label_words st.kind l) 0 (labels.encode l') ≡ label_words st.kind l' = over-all (label_words st.kind l) (labels.encode l')
       (omega (arith, old, ml)) ∙ sym (map-words st.kind l' k) in
       rw z at D
 
-  made : Draft bs im2 (half bs st I e good ofk few)
-  made = half-made bs st I e good ofk few im0 im1 im2 first e1 e2
+  made : Draft bs im2 (half I good ofk few)
+  made = half-made I good ofk few first e1 e2
 
   -- ---- what stands behind the entries
   kept : (a j : ℕ) → at.permutation_at s ≤ a → part (words im2) a j ≡ part (words im0) a j
@@ -316,11 +316,11 @@ module _ (bs : List ℕ) (B : Bytes bs) (st : State) (I : Is st bs) (i : ℕ) (s
         (label-of l' settles.valid (ratio_of (entry_at es x)) o.0 z.0 (z.1 ∙ o.2) ∙ sym (label-at im2 s b.mapped.range room2 C.one l' maps2 o.0 z.0))
 
   abbrev ratio-hangs : Hangs (words im2) (shape_of st) lm lab
-  ratio-hangs = hangs bs st I e good ofk few im2 made map2 nodes2 perm2 long2 lab lab2 (λ z. labels2) (λ z. rows2)
+  ratio-hangs = hangs I good ofk few made map2 nodes2 perm2 long2 lab lab2 (λ z. labels2) (λ z. rows2)
 
   pub ratio-finish : (d : List ℕ) → ((h : Hangs (words im2) (shape_of st) lm lab) → d ≡ hung im2 (shape_of st) lm lab h.growth) → d ≡ paste_w bs 0 (encode (inserted st (signed i sign lm)))
   ratio-finish d f =
-      finish bs st I e good ofk few im2 made map2 nodes2 perm2 long2 lab lab2 (λ z. labels2) (λ z. rows2) d (f ratio-hangs)
+      finish I good ofk few made map2 nodes2 perm2 long2 lab lab2 (λ z. labels2) (λ z. rows2) d (f ratio-hangs)
 
 -- ---- the same for the shape in the header
 pub label-ready : {bs : List ℕ} {s : Shape} → Room bs s → s.kind ≡ 1 → labels.SoundFor s.variables s.capacity (label_bytes bs s)
@@ -362,8 +362,8 @@ module _ {bs : List ℕ} {s : Shape} (R : Room bs s) (B : Bytes bs) {i : ℕ} {s
       } in
       let C' : Calls bs i sign lm im0 r lab ima im1 im2 (shape_of st) = subst (λ (x : Shape). Calls bs i sign lm im0 r lab ima im1 im2 x) (sym q) C in
       record {
-        small = subst (λ (x : Shape). r < x.capacity) q (row_small bs B st I i sign lm im0 r lab ima im1 im2 C');
-        basics = subst (λ (x : Shape). Basics im0 x) q (b0 bs B st I i sign lm im0 r lab ima im1 im2 C');
+        small = subst (λ (x : Shape). r < x.capacity) q (row_small B I C');
+        basics = subst (λ (x : Shape). Basics im0 x) q (b0 B I C');
       }
 
   -- ---- once all is written but the tree
@@ -375,7 +375,7 @@ module _ {bs : List ℕ} {s : Shape} (R : Room bs s) (B : Bytes bs) {i : ℕ} {s
     late =
         let st = R.sound.state in
         let I = R.sound.is in
-        subst (λ (x : Shape). Hangs (words im2) x lm lab) (shape_is bs s R.head st I) (ratio-hangs bs B st I i sign lm im0 r lab ima im1 im2 (calls-for st I))
+        subst (λ (x : Shape). Hangs (words im2) x lm lab) (shape_is bs s R.head st I) (ratio-hangs B I (calls-for st I))
 
     pub ratio-inserted : {im3 : List ℕ} → ((h : Hangs (words im2) s lm lab) → im3 ≡ hung im2 s lm lab h.growth) → Inserted (signed i sign lm) s.entries bs im3
     ratio-inserted {im3} h = record {
@@ -384,5 +384,5 @@ module _ {bs : List ℕ} {s : Shape} (R : Room bs s) (B : Bytes bs) {i : ℕ} {s
           let q = shape_is bs s R.head st I in
           let h' : (z : Hangs (words im2) (shape_of st) lm lab) → im3 ≡ hung im2 (shape_of st) lm lab z.growth = subst
           (λ (x : Shape). (z : Hangs (words im2) x lm lab) → im3 ≡ hung im2 x lm lab z.growth) (sym q) h in
-          ratio-finish bs B st I i sign lm im0 r lab ima im1 im2 (calls-for st I) im3 h';
+          ratio-finish B I (calls-for st I) im3 h';
     }

@@ -16,10 +16,10 @@ loop-places-init c = λ M g. going_start M g (λ j. grind arith)
 pub next_step-way-requires : goal.next_step-way-requires
 next_step-way-requires c = growth-here c.requires.mapped c.requires.growth (c.loop-places.invariant c.requires.mapped c.requires.growth)
 
-pub node_at-requires : goal.node_at-requires
-node_at-requires c =
+pub node_at-requires-clause-k_bound : goal.node_at-requires-clause-k_bound
+node_at-requires-clause-k_bound c =
     let r = ready c.requires.mapped c.requires.growth (c.loop-places.invariant c.requires.mapped c.requires.growth) in
-    record { in_range = c.requires.mapped.range; k_bound = omega (arith, r.row, c.requires.mapped.range.nodes-to, c.requires.mapped.range.cap-to) }
+    omega (arith, r.row, c.requires.mapped.range.nodes-to, c.requires.mapped.range.cap-to)
 
 pub grow-requires : goal.grow-requires
 grow-requires c =

@@ -6,13 +6,11 @@ use Rattle.monomial.proofs.Laws.{canonical-more}
 use Rattle.kd_descent.proofs.Writing.{gcd-stays}
 use Rattle.kd_descent.proofs.meet.Goals as goal
 
-pub divides-requires : goal.divides-requires
-divides-requires c =
-    let b = c.monomial_from.ensures in record {
-      starts = starts-wide b.starts;
-      canonical = canonical-more (omega arith) c.requires.mapped.range.vars-to (first-canonical (omega arith) b.starts);
-      in_bounds = c.args.lm.now.room;
-    }
+pub divides-requires-clause-starts : goal.divides-requires-clause-starts
+divides-requires-clause-starts c = starts-wide c.monomial_from.ensures.starts
+
+pub divides-requires-clause-canonical : goal.divides-requires-clause-canonical
+divides-requires-clause-canonical c = canonical-more (omega arith) c.requires.mapped.range.vars-to (first-canonical (omega arith) c.monomial_from.ensures.starts)
 
 pub returns-else-not-divides : goal.returns-else-not-divides
 returns-else-not-divides c =

@@ -13,23 +13,21 @@ first c = (c.track.ensures, (rw c.entry_at.ensures at c.write_masked.ensures, (c
 pub track-requires-clause-maxima : goal.track-requires-clause-maxima
 track-requires-clause-maxima c = (basics c.requires.room).present
 
-pub write_masked-requires : goal.write_masked-requires
-write_masked-requires c =
-    let M = (basics-tracked (basics c.requires.room) c.requires.canonical c.track.ensures).mapped in record {
-      mapped = M;
-      lent = record { canonical = c.requires.canonical; whole = c.requires.lm_len };
-      inside = omega (arith, c.entry_at.ensures, entry-inside c.args.s M.range c.args.s.entries c.requires.room.few, width-least c.args.s M.range);
-    }
+pub write_masked-requires-clause-mapped : goal.write_masked-requires-clause-mapped
+write_masked-requires-clause-mapped c = (basics-tracked (basics c.requires.room) c.requires.canonical c.track.ensures).mapped
 
-pub hang-requires : goal.hang-requires
-hang-requires c =
-    let M = (basics-tracked (basics c.requires.room) c.requires.canonical c.track.ensures).mapped in record {
-      mapped = mapped_still c.track.new.image c.write_masked.new.image c.args.s c.entry_at.result _ M (omega (arith, c.entry_at.ensures))
-          (omega (arith, c.entry_at.ensures, entry-inside c.args.s M.range c.args.s.entries c.requires.room.few)) c.write_masked.auto.image c.write_masked.ensures;
-      lent = record { canonical = c.requires.canonical; whole = c.requires.lm_len };
-      entries_lt_capacity = c.requires.room.few;
-      hangs = monomial-hangs c.requires.room (λ j. grind arith) (first (goal.at.hang-requires c).After-write_masked);
-    }
+pub write_masked-requires-clause-inside : goal.write_masked-requires-clause-inside
+write_masked-requires-clause-inside c =
+    let R = c.requires.room.head.range in omega (arith, c.entry_at.ensures, entry-inside c.args.s R c.args.s.entries c.requires.room.few, width-least c.args.s R)
+
+pub hang-requires-clause-mapped : goal.hang-requires-clause-mapped
+hang-requires-clause-mapped c =
+    let M = (basics-tracked (basics c.requires.room) c.requires.canonical c.track.ensures).mapped in
+    mapped_still c.track.new.image c.write_masked.new.image c.args.s c.entry_at.result _ M (omega (arith, c.entry_at.ensures))
+    (omega (arith, c.entry_at.ensures, entry-inside c.args.s M.range c.args.s.entries c.requires.room.few)) c.write_masked.auto.image c.write_masked.ensures
+
+pub hang-requires-clause-hangs : goal.hang-requires-clause-hangs
+hang-requires-clause-hangs c = monomial-hangs c.requires.room (λ j. grind arith) (first (goal.at.hang-requires-clause-hangs c).After-write_masked)
 
 pub returns : goal.returns
 returns c = monomial-inserted c.requires.room (λ j. grind arith) (first (goal.at.returns c).After-write_masked) c.hang.ensures

@@ -45,30 +45,26 @@ track-requires-2-clause-maxima c =
 pub overflow_cast-row : goal.overflow_cast-row
 overflow_cast-row c = omega (arith, (labelled (goal.at.overflow_cast-row c).After-label_entry-row).small, c.requires.room.head.range.cap-to)
 
-pub write_ratio_row-requires : goal.write_ratio_row-requires
-write_ratio_row-requires c =
-    let a = goal.at.write_ratio_row-requires c in
-    let M = (tracked a.After-track-2 (labelled a.After-label_entry-row).basics).mapped in record {
-      mapped = M;
-      sign_lent = record { canonical = c.requires.canonical.0; whole = c.requires.canonical.1 };
-      lm_lent = record { canonical = c.requires.canonical_2.0; whole = c.requires.canonical_2.1 };
-      index_bound = c.requires.index_bound;
-      inside = (
-        omega (arith, c.entry_at.ensures),
-        omega (arith, c.entry_at.ensures, entry-inside c.args.s M.range c.args.s.entries c.requires.room.few, ratio-width c.args.s M.range c.requires.kind_value),
-      );
-    }
+pub write_ratio_row-requires-clause-mapped : goal.write_ratio_row-requires-clause-mapped
+write_ratio_row-requires-clause-mapped c =
+    let a = goal.at.write_ratio_row-requires-clause-mapped c in (tracked a.After-track-2 (labelled a.After-label_entry-row).basics).mapped
 
-pub hang-requires : goal.hang-requires
-hang-requires c =
-    let a = goal.at.hang-requires c in
-    let M = (tracked a.After-track-2 (labelled a.After-label_entry-row).basics).mapped in record {
-      mapped = mapped_still c.track-2.new.image c.write_ratio_row.new.image c.args.s c.entry_at.result _ M (omega (arith, c.entry_at.ensures))
-          (omega (arith, c.entry_at.ensures, entry-inside c.args.s M.range c.args.s.entries c.requires.room.few)) c.write_ratio_row.auto.image c.write_ratio_row.ensures;
-      lent = record { canonical = c.requires.canonical_2.0; whole = c.requires.canonical_2.1 };
-      entries_lt_capacity = c.requires.room.few;
-      hangs = late c.requires.room (λ j. grind arith) (calls a.After-write_ratio_row);
-    }
+pub write_ratio_row-requires-clause-inside : goal.write_ratio_row-requires-clause-inside
+write_ratio_row-requires-clause-inside c =
+    let R = c.requires.room.head.range in (
+      omega (arith, c.entry_at.ensures),
+      omega (arith, c.entry_at.ensures, entry-inside c.args.s R c.args.s.entries c.requires.room.few, ratio-width c.args.s R c.requires.kind_value),
+    )
+
+pub hang-requires-clause-mapped : goal.hang-requires-clause-mapped
+hang-requires-clause-mapped c =
+    let a = goal.at.hang-requires-clause-mapped c in
+    let M = (tracked a.After-track-2 (labelled a.After-label_entry-row).basics).mapped in
+    mapped_still c.track-2.new.image c.write_ratio_row.new.image c.args.s c.entry_at.result _ M (omega (arith, c.entry_at.ensures))
+    (omega (arith, c.entry_at.ensures, entry-inside c.args.s M.range c.args.s.entries c.requires.room.few)) c.write_ratio_row.auto.image c.write_ratio_row.ensures
+
+pub hang-requires-clause-hangs : goal.hang-requires-clause-hangs
+hang-requires-clause-hangs c = late c.requires.room (λ j. grind arith) (calls (goal.at.hang-requires-clause-hangs c).After-write_ratio_row)
 
 pub returns : goal.returns
 returns c = ratio-inserted c.requires.room (λ j. grind arith) (calls (goal.at.returns c).After-write_ratio_row) c.hang.ensures
