@@ -125,19 +125,15 @@ module _ (bs ms : List ℕ) (s : Shape) (Q : List ℕ) (e found : ℕ) (he : e <
     not-largest : (st : State) (r : Query) → Asks st r ms s Q → 2 ≤ search_of r → search_of r ≤ 3 → ⊥
     not-largest st r a x y = l (omega (arith, a.search)) (omega (arith, a.search))
 
-    pub counted-miss : hit ≡ false → Made bs ms s Q e found found true
+    counted-miss : hit ≡ false → Made bs ms s Q e found found true
     unfolding Made
     counted-miss f st r a h = step-miss st r ms s Q (words bs) a h e he found hit (counted_is st r ms s Q (words bs) a h e he (home st r a n) found (not-largest st r a) ∙ sym t) f
 
-    pub counted_stop : (search_in Q ≡ 1 → ⊥) → hit ≡ true → Made bs ms s Q e found (e + 1) false
+    counted_stop : (search_in Q ≡ 1 → ⊥) → hit ≡ true → Made bs ms s Q e found (e + 1) false
     unfolding Made
     counted_stop o f st r a h =
         step-hit st r ms s Q (words bs) a h e he found hit false (counted_is st r ms s Q (words bs) a h e he (home st r a n) found (not-largest st r a) ∙ sym t) f
         (stops st.entries r e (λ y. o (a.search ∙ y)) (not-largest st r a))
-
-    pub singular-decides : (search_in Q ≡ 1 → ⊥) → Decides bs ms s Q found e hit
-    unfolding Decides
-    singular-decides o = (counted-miss, counted_stop o)
 
     -- a reducer: its label against the floor
     by-floor : (on : Bool) → search_in Q ≡ 1 → hit ≡ true → not (ltb (label (words bs) s e) (floor_in Q)) ≡ on → Made bs ms s Q e found (e + 1) on
@@ -146,11 +142,31 @@ module _ (bs ms : List ℕ) (s : Shape) (Q : List ℕ) (e found : ℕ) (he : e <
         step-hit st r ms s Q (words bs) a h e he found hit on (counted_is st r ms s Q (words bs) a h e he (home st r a n) found (not-largest st r a) ∙ sym t) f
         (floor-goes st r ms s Q (words bs) a h e he (home st r a n) (sym a.search ∙ o) ∙ g)
 
-    pub regular-made : (x : ℕ) → search_in Q ≡ 1 → hit ≡ true → x ≡ label (words bs) s e → x < floor_in Q → Made bs ms s Q e found (e + 1) false
-    regular-made x o f ex b = by-floor false o f (let y : ltb (label (words bs) s e) (floor_in Q) ≡ true = lt-ltb (label (words bs) s e) (floor_in Q) (omega arith) in rw y refl)
+  module _ (z : search_in Q ≡ 4) (t : hit ≡ counted (words bs) s Q (words ms) (from_in Q) e) where
+    pub singular-decides : Decides bs ms s Q found e hit
+    unfolding Decides
+    singular-decides =
+        let n : search_in Q ≡ 0 → ⊥ = λ y. omega (arith, z, y) in
+        let l : 2 ≤ search_in Q → search_in Q ≤ 3 → ⊥ = λ x y. omega (arith, z, x, y) in
+        (counted-miss n l t, counted_stop n l t (λ y. omega (arith, z, y)))
 
-    pub singular-made : (x : ℕ) → search_in Q ≡ 1 → hit ≡ true → x ≡ label (words bs) s e → floor_in Q ≤ x → Made bs ms s Q e found (e + 1) true
-    singular-made x o f ex b = by-floor true o f (let y : ltb (label (words bs) s e) (floor_in Q) ≡ false = le-ltb (label (words bs) s e) (floor_in Q) (omega arith) in rw y refl)
+  module _ (o : search_in Q ≡ 1) (t : hit ≡ counted (words bs) s Q (words ms) (from_in Q) e) where
+    labelled : search_in Q ≡ 0 → ⊥
+    labelled y = omega (arith, o, y)
+
+    no-largest : 2 ≤ search_in Q → search_in Q ≤ 3 → ⊥
+    no-largest x y = omega (arith, o, x, y)
+
+    pub reducer-miss : hit ≡ false → Made bs ms s Q e found found true
+    reducer-miss f = counted-miss labelled no-largest t f
+
+    pub regular-made : (x : ℕ) → hit ≡ true → x ≡ label (words bs) s e → x < floor_in Q → Made bs ms s Q e found (e + 1) false
+    regular-made x f ex b =
+        by-floor labelled no-largest t false o f (let y : ltb (label (words bs) s e) (floor_in Q) ≡ true = lt-ltb (label (words bs) s e) (floor_in Q) (omega (arith, ex, b)) in rw y refl)
+
+    pub singular-made : (x : ℕ) → hit ≡ true → x ≡ label (words bs) s e → floor_in Q ≤ x → Made bs ms s Q e found (e + 1) true
+    singular-made x f ex b =
+        by-floor labelled no-largest t true o f (let y : ltb (label (words bs) s e) (floor_in Q) ≡ false = le-ltb (label (words bs) s e) (floor_in Q) (omega (arith, ex, b)) in rw y refl)
 
   module _ (x : 2 ≤ search_in Q) (y : search_in Q ≤ 3) (hf : found ≤ s.entries) (t : hit ≡ counted (words bs) s Q (words ms) (least_above (label (words bs) s) (from_in Q) found) e) where
     pub largest-miss : hit ≡ false → Made bs ms s Q e found found true

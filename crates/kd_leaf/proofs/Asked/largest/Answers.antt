@@ -25,7 +25,6 @@ least_above-least-requires-then-counts c = record {
 pub loop-i-preserved : goal.loop-i-preserved
 loop-i-preserved c =
     let loop = c.loop-i in
-    let loop-test = c.loop-i-test in
     let e = c.entry-e in
     let p = rw loop.invariant.1.0 at c.counts.ensures in
     elim c.if-counts.branch [
@@ -33,7 +32,7 @@ loop-i-preserved c =
         rw w.found-is (omega (arith, e.ensures.1.0)),
         (
           rw (w.found-is, w.least-is) w.least_above-least-then-counts.ensures,
-          rw w.found-is (scan-more _ _ _ _ _ _ _ c.args.self.now.inside _ _ _ loop.invariant.1.1 loop-test.true e.ensures.0
+          rw w.found-is (scan-more _ _ _ _ _ _ _ c.args.self.now.inside _ _ _ loop.invariant.1.1 c.loop-i-test.true e.ensures.0
               _ (largest-hit _ _ _ _ _ _ e.ensures.1.0 _ c.requires.searched.0 c.requires.searched.1 loop.invariant.0 p w.if-counts.true)),
         ),
       )
@@ -41,14 +40,11 @@ loop-i-preserved c =
         rw w.found-is loop.invariant.0,
         (
           rw (w.found-is, w.least-is) loop.invariant.1.0,
-          rw w.found-is (scan-more _ _ _ _ _ _ _ c.args.self.now.inside _ _ _ loop.invariant.1.1 loop-test.true e.ensures.0 _
+          rw w.found-is (scan-more _ _ _ _ _ _ _ c.args.self.now.inside _ _ _ loop.invariant.1.1 c.loop-i-test.true e.ensures.0 _
               (largest-miss _ _ _ _ _ _ e.ensures.1.0 _ c.requires.searched.0 c.requires.searched.1 loop.invariant.0 p w.if-counts.false)),
         ),
       )
     ]
-
-pub going-requires : goal.going-requires
-going-requires c = omega (arith, c.loop-i.invariant.0, (facts _ _ _ c.args.self.now.known).few)
 
 pub returns : goal.returns
 returns c =

@@ -1,6 +1,6 @@
 use native.Mathlib.Omega.{arith}
 use Rattle.kd_leaf.proofs.Counting.{facts}
-use Rattle.kd_leaf.proofs.Scanning.{scan-none, scan-more, scan-stop, scan-end, counted-miss, regular-made, singular-made}
+use Rattle.kd_leaf.proofs.Scanning.{scan-none, scan-more, scan-stop, scan-end, reducer-miss, regular-made, singular-made}
 use Rattle.kd_leaf.proofs.Asked.reducer.Goals.{else-counts, then-counts+else-label-pair}
 use Rattle.kd_leaf.proofs.Asked.reducer.Goals as goal
 
@@ -18,40 +18,28 @@ label-requires c = record {
 
 pub returns-then-label-pair : goal.returns-then-label-pair
 returns-then-label-pair c =
-    let from = c.pair-from in
-    let loop = c.loop-i in
-    let loop-test = c.loop-i-test in
-    let e = c.entry-e in
-    let counts = c.counts in
-    let if1 = c.if-counts in
-    let label = c.label in (
-      scan-stop _ _ _ _ _ _ _ c.args.self.now.inside _ _ _ loop.invariant.1 loop-test.true e.ensures.0 _ _ _ c.stopped.ensures.1.0
+    let e = c.entry-e in (
+      scan-stop _ _ _ _ _ _ _ c.args.self.now.inside _ _ _ c.loop-i.invariant.1 c.loop-i-test.true e.ensures.0 _ _ _ c.stopped.ensures.1.0
           c.stopped.ensures.1.1 (omega (arith, e.ensures.1.0))
-          (regular-made _ _ _ _ _ _ e.ensures.1.0 _ (λ z. omega (arith, c.requires.searched)) (λ x y. omega (arith, c.requires.searched))
-          (rw from.ensures at counts.ensures) _ c.requires.searched if1.true label.ensures.0
+          (regular-made _ _ _ _ _ _ e.ensures.1.0 _ c.requires.searched (rw c.pair-from.ensures at c.counts.ensures) _ c.if-counts.true c.label.ensures.0
           (omega (arith, c.if-label-pair.true, c.pair.ensures))),
       c.stopped.ensures.0,
     )
 
 pub loop-i-preserved : goal.loop-i-preserved
 loop-i-preserved c =
-    let from = c.pair-from in
-    let loop = c.loop-i in
-    let loop-test = c.loop-i-test in
     let e = c.entry-e in
-    let p = rw from.ensures at c.counts.ensures in
+    let p = rw c.pair-from.ensures at c.counts.ensures in
     elim c.if-counts.branch [
       | then-counts+else-label-pair w ↦ (
         rw w.found-is (omega (arith, e.ensures.1.0)),
-        rw w.found-is (scan-more _ _ _ _ _ _ _ c.args.self.now.inside _ _ _ loop.invariant.1 loop-test.true e.ensures.0 _
-            (singular-made _ _ _ _ _ _ e.ensures.1.0 _ (λ z. omega (arith, c.requires.searched)) (λ x y. omega (arith, c.requires.searched)) p _ c.requires.searched
-            w.if-counts.true w.label.ensures.0 (omega (arith, w.if-label-pair.false, w.pair.ensures)))),
+        rw w.found-is (scan-more _ _ _ _ _ _ _ c.args.self.now.inside _ _ _ c.loop-i.invariant.1 c.loop-i-test.true e.ensures.0 _
+            (singular-made _ _ _ _ _ _ e.ensures.1.0 _ c.requires.searched p _ w.if-counts.true w.label.ensures.0 (omega (arith, w.if-label-pair.false, w.pair.ensures)))),
       )
       | else-counts w ↦ (
-        rw w.found-is loop.invariant.0,
-        rw w.found-is (scan-more _ _ _ _ _ _ _ c.args.self.now.inside _ _ _ loop.invariant.1 loop-test.true
-            e.ensures.0 _ (counted-miss _ _ _ _ _ _ e.ensures.1.0 _ (λ z. omega (arith, c.requires.searched)) (λ x y. omega (arith, c.requires.searched)) p
-            w.if-counts.false)),
+        rw w.found-is c.loop-i.invariant.0,
+        rw w.found-is (scan-more _ _ _ _ _ _ _ c.args.self.now.inside _ _ _ c.loop-i.invariant.1 c.loop-i-test.true e.ensures.0 _
+            (reducer-miss _ _ _ _ _ _ e.ensures.1.0 _ c.requires.searched p w.if-counts.false)),
       )
     ]
 

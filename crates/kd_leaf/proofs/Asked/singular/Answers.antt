@@ -17,7 +17,7 @@ after-requires c = first-passes _ (λ e. e < 4096) (λ e p. omega (arith, p.0, (
 
 pub returns : goal.returns
 returns c = (
-  first-visited _ _ _ _ _ _ _ _ (λ e p. p.0) (λ e b p. singular-decides _ _ _ _ e _ p.0 b (λ z. omega (arith, c.requires.searched)) (λ x y. omega (arith, c.requires.searched))
-      (search rules) (λ z. omega (arith, c.requires.searched))) _ c.first.ensures c.requires.acc_value.0 _ _ (rw c.requires.acc_value.1 at c.after.ensures.1),
+  first-visited _ _ _ _ _ _ _ _ (λ e p. p.0) (λ e b p. singular-decides _ _ _ _ e _ p.0 b c.requires.searched (search rules)) _ c.first.ensures c.requires.acc_value.0 _ _
+      (rw c.requires.acc_value.1 at c.after.ensures.1),
   c.after.ensures.0,
 )
