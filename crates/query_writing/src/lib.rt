@@ -52,7 +52,7 @@ pub fn put_masks(q: &mut [u8], search: usize, lm: bool, masks: u64)
     put_pairs(q, query::SEARCH, search as u64, masks, for_nodes);
 }
 
-// Writes the range of labels.
+// Writes the range of labels and the floor: each is read back whole from its two words.
 pub fn put_range(q: &mut [u8], labels: Range<u64>, floor: u64)
     requires { 368 ≤ length q.old }
     ensures q_after { q.new ≡ paste_w q.old 72 (range_words labels.start labels.end floor) }

@@ -6,9 +6,6 @@ pub returns-in_err-lm-in-0 : goal.returns-in_err-lm-in-0
 returns-in_err-lm-in-0 c =
     refuses-parts _ _ _ _ c.from_residual.ensures.1 (of-monomials _ _ _ c.requires.root _ c.requires.kind_value (inserts-monomial _ _ _ _ c.in_err-lm-in-0.ensures c.in-0.is)) (λ j. (c.type_inv.image j).fits)
 
-pub insert-requires : goal.insert-requires
-insert-requires c = let p = c.in_ok-lm-in-0.ensures.good in record { root = c.requires.root; kind_value = c.requires.kind_value; canonical = p.canonical; lm_len = p.whole }
-
 pub returns-in_ok-lm-in-0 : goal.returns-in_ok-lm-in-0
 returns-in_ok-lm-in-0 c =
     serves _ _ _ _ _ (of-monomials _ _ _ c.requires.root _ c.requires.kind_value (inserts-monomial _ _ _ _ c.in_ok-lm-in-0.ensures c.in-0.is)) c.insert.ensures

@@ -4,9 +4,6 @@ use Rattle.monomial_index.proofs.contains_divisor.Goals as goal
 pub invariant_of-sound : goal.invariant_of-sound
 invariant_of-sound c = record { sound = ∣ sound-of _ _ c.requires.root ∣₁; head = head_of _ _ c.requires.root }
 
-pub contained-requires : goal.contained-requires
-contained-requires c = record { kind_value = c.requires.kind_value; in_bounds = c.requires.in_bounds; canonical = c.requires.canonical }
-
 pub find-requires : goal.find-requires
 find-requires c = ready _ _ _ _ _ c.requires.root c.contained.ensures
 

@@ -5,8 +5,8 @@ use Rattle.monomial_index.proofs.insert.Goals as goal
 pub returns-then-s : goal.returns-then-s
 returns-then-s c = refused c.args.image.now c.args.s _ c.requires.root (λ j. (c.type_inv.image j).fits) c.if-s.true
 
-pub insert_monomial-n-requires : goal.insert_monomial-n-requires
-insert_monomial-n-requires c = record { room = with-room c.args.image.now c.args.s c.requires.root c.if-s.false; kind_value = c.requires.kind_value; canonical = c.requires.canonical; lm_len = c.requires.lm_len }
+pub insert_monomial-n-requires-clause-room : goal.insert_monomial-n-requires-clause-room
+insert_monomial-n-requires-clause-room c = with-room c.args.image.now c.args.s c.requires.root c.if-s.false
 
 pub overflow_cast-result : goal.overflow_cast-result
 overflow_cast-result c = omega (arith, number_small c.args.image.now c.args.s _ c.insert_monomial-n.result _ c.requires.root c.if-s.false c.insert_monomial-n.ensures)

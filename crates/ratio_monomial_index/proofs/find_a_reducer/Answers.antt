@@ -6,8 +6,8 @@ use Rattle.ratio_monomial_index.proofs.find_a_reducer.Goals as goal
 pub invariant_of-sound : goal.invariant_of-sound
 invariant_of-sound c = record { sound = ∣ sound-of _ _ c.requires.root ∣₁; head = head_of _ _ c.requires.root }
 
-pub reducer-requires : goal.reducer-requires
-reducer-requires c = record { kind_value = c.requires.kind_value; in_bounds = c.requires.in_bounds; canonical = canonical-wide c.requires.canonical; canonical_2 = c.requires.canonical_2 }
+pub reducer-requires-clause-canonical : goal.reducer-requires-clause-canonical
+reducer-requires-clause-canonical c = canonical-wide c.requires.canonical
 
 pub find-requires : goal.find-requires
 find-requires c = ready _ _ _ _ _ c.requires.root c.reducer.ensures

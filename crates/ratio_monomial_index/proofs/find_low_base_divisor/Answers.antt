@@ -4,9 +4,6 @@ use Rattle.ratio_monomial_index.proofs.find_low_base_divisor.Goals as goal
 pub invariant_of-sound : goal.invariant_of-sound
 invariant_of-sound c = record { sound = ∣ sound-of _ _ c.requires.root ∣₁; head = head_of _ _ c.requires.root }
 
-pub low-requires : goal.low-requires
-low-requires c = record { kind_value = c.requires.kind_value; in_bounds = c.requires.in_bounds; index_bound = c.requires.index_bound; canonical = c.requires.canonical }
-
 pub find-requires : goal.find-requires
 find-requires c = ready _ _ _ _ _ c.requires.root c.low.ensures
 

@@ -4,9 +4,6 @@ use Rattle.ratio_monomial_index.proofs.test_singular_criterion.Goals as goal
 pub invariant_of-sound : goal.invariant_of-sound
 invariant_of-sound c = record { sound = ∣ sound-of _ _ c.requires.root ∣₁; head = head_of _ _ c.requires.root }
 
-pub singular-requires : goal.singular-requires
-singular-requires c = record { kind_value = c.requires.kind_value; in_bounds = c.requires.in_bounds; index_bound = c.requires.index_bound; canonical = c.requires.canonical; canonical_2 = c.requires.canonical_2 }
-
 pub find-requires : goal.find-requires
 find-requires c = ready _ _ _ _ _ c.requires.root c.singular.ensures
 
