@@ -17,7 +17,6 @@ use Rattle.divmask.specs.Tracker.{Maxima, maxima_lent}
 use Rattle.divmask.proofs.Growth.{lent-maxima}
 use Rattle.kd_theory.specs.Tree.{Tree, inorder, count, nodes}
 use Rattle.index_image.specs.Shape as at
-use Rattle.index_image.specs.Head.{HeadOk, HeadIs}
 use Rattle.index_image.specs.Walk.{power, label, map_maxima, Ready}
 use Rattle.leaf_rows.specs.Leaves.{Bounded}
 use Rattle.index_walk.specs.Walked.{Walked}
@@ -169,9 +168,3 @@ nodes-rest bs s R =
       small = size_small s R.range;
       first = omega (arith, node-fits (words bs) s R 0 (omega (arith, R.range.nodes-from)), length-words bs);
     }
-
--- ---- the header
--- the numbers that were read are those of an image
-pub head-is : (W : List ℕ) (len : ℕ) (h : Option Shape) (s : Shape) → h ≡ Some s → HeadIs W len h → HeadOk W len s
-unfolding HeadIs
-head-is W len h s e x = rw e at x

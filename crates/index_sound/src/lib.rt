@@ -125,6 +125,7 @@ fn tables_ok(image: &Image<'_>) -> bool
 }
 
 // Whether the bytes begin with the image of a valid index.
+#[tactic(auto, unfolding(index_image::specs::Head::HeadIs))]
 pub fn sound(image: &[u8]) -> bool
     ensures { (result ≡ true) ↔ Sound image.now }
 {

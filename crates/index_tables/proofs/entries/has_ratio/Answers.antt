@@ -33,59 +33,6 @@ all_read c =
       index-of-row = c.get-2.ensures;
     }
 
-pub entry_at-e-requires : goal.entry_at-e-requires
-entry_at-e-requires c = record { in_range = c.args.image.now.range; i_le_capacity = omega (arith, c.requires.kind_value.1, c.args.image.now.range.few) }
-
-pub overflow_add-m : goal.overflow_add-m
-overflow_add-m c = omega (arith, entry_here (goal.at.overflow_add-m c).Start, c.entry_at-e.ensures, c.args.image.now.room)
-
-pub get-row-requires : goal.get-row-requires
-get-row-requires c = omega (arith, entry_here (goal.at.get-row-requires c).Start, c.entry_at-e.ensures, c.args.image.now.room)
-
-pub overflow_mul-r : goal.overflow_mul-r
-overflow_mul-r c = omega (arith, (row_here (goal.at.overflow_mul-r c).After-get-row).row_small)
-
-pub overflow_add-r-2 : goal.overflow_add-r-2
-overflow_add-r-2 c = omega (arith, (row_here (goal.at.overflow_add-r-2 c).After-get-row).row_small)
-
-pub overflow_add-r-3 : goal.overflow_add-r-3
-overflow_add-r-3 c = omega (arith, row_here (goal.at.overflow_add-r-3 c).After-get-row, c.labels_at.ensures, c.args.image.now.room)
-
-pub overflow_add-m-2 : goal.overflow_add-m-2
-overflow_add-m-2 c =
-    omega (arith, entry_here (goal.at.overflow_add-m-2 c).Start, c.entry_at-e.ensures, c.args.image.now.room)
-
-pub get-requires : goal.get-requires
-get-requires c =
-    omega (arith, entry_here (goal.at.get-requires c).Start, c.entry_at-e.ensures, c.args.image.now.room)
-
-pub get-requires-2 : goal.get-requires-2
-get-requires-2 c =
-    omega (arith, row_here (goal.at.get-requires-2 c).After-get-row, c.labels_at.ensures, c.args.image.now.room)
-
-pub overflow_add-x : goal.overflow_add-x
-overflow_add-x c = omega (arith, c.args.image.now.range.vars-to)
-
-pub overflow_add-x-2 : goal.overflow_add-x-2
-overflow_add-x-2 c =
-    omega (arith, entry_here (goal.at.overflow_add-x-2 c).Start, c.entry_at-e.ensures, c.args.image.now.room)
-
-pub overflow_mul-x : goal.overflow_mul-x
-overflow_mul-x c =
-    omega (arith, entry_here (goal.at.overflow_mul-x c).Start, c.entry_at-e.ensures, c.args.image.now.room)
-
-pub overflow_mul-y : goal.overflow_mul-y
-overflow_mul-y c =
-    omega (arith, entry_here (goal.at.overflow_mul-y c).Start, c.entry_at-e.ensures, c.args.image.now.room)
-
-pub overflow_add-z : goal.overflow_add-z
-overflow_add-z c =
-    omega (arith, row_here (goal.at.overflow_add-z c).After-get-row, c.labels_at.ensures, c.args.image.now.room)
-
-pub overflow_mul-z : goal.overflow_mul-z
-overflow_mul-z c =
-    omega (arith, row_here (goal.at.overflow_mul-z c).After-get-row, c.labels_at.ensures, c.args.image.now.room)
-
 pub slice_bounds-is_ratio-count : goal.slice_bounds-is_ratio-count
 slice_bounds-is_ratio-count c =
     omega (arith, entry_here (goal.at.slice_bounds-is_ratio-count c).Start, c.entry_at-e.ensures, c.args.image.now.room)

@@ -1,8 +1,8 @@
 use Rattle.index_tables.proofs.Marking.{blank-array, named-marked}
 use Rattle.index_tables.proofs.marks.all_named.Goals as goal
 
-pub mark-requires : goal.mark-requires
-mark-requires c = record { n_bound = (c.requires.n_bound.0, (c.requires.n_bound.1.0, c.requires.n_bound.1.1.0)); by_index = c.requires.by_index; by_index_2 = c.requires.by_index_2; by_index_3 = λ j. blank-array 4096 j }
+pub mark-requires-clause-by_index_3 : goal.mark-requires-clause-by_index_3
+mark-requires-clause-by_index_3 c = λ j. blank-array 4096 j
 
 pub returns : goal.returns
 returns c =
