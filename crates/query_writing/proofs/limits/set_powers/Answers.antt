@@ -15,13 +15,6 @@ use Rattle.query_writing.proofs.limits.set_powers.Goals as goal
 pub get-requires : goal.get-requires
 get-requires c = omega (arith, length-words c.args.m.now, c.requires.canonical.some)
 
-pub overflow_add-s : goal.overflow_add-s
-overflow_add-s c = omega (arith, c.requires.in_range.kind-to)
-
-pub overflow_add-top : goal.overflow_add-top
-overflow_add-top c =
-    omega (arith, c.id-top.ensures, top-few c.args.s c.requires.in_range (words c.args.m.now) c.requires.canonical c.get.result c.get.ensures)
-
 pub clear-requires : goal.clear-requires
 clear-requires c =
     omega (
@@ -50,9 +43,6 @@ item c =
 variable : (c : In-Some) → Step c.args.s c.requires.in_range (words c.args.m.now) c.requires.canonical c.loop-w.q (length c.loop-w.yielded) c.in-Some.w c.loop-w.invariant.1 (item c).0
 variable c =
     set_more c.args.s c.requires.in_range (words c.args.m.now) c.requires.canonical c.loop-w.q (length c.loop-w.yielded) c.in-Some.w c.loop-w.invariant.1 (item c).0 (item c).1
-
-pub overflow_add-s-in-loop-w-2 : goal.overflow_add-s-in-loop-w-2
-overflow_add-s-in-loop-w-2 c = omega (arith, c.requires.in_range.kind-to, c.id.ensures)
 
 pub put-requires : goal.put-requires
 put-requires c =
