@@ -106,7 +106,7 @@ impl Asked<'_> {
         None
     }
 
-    // Stops at the first divisor.
+    // Stops at the first divisor. What is known of `acc`, the walk's number in a register, is a clause here and below.
     fn contained(&self, acc: u64) -> u64
         requires acc_value { (best_of acc ≤ (shape_in (words self.now.query.bytes.now)).entries) × (on_of acc ≡ true) }
         requires searched { search_in (words self.now.query.bytes.now) ≡ 0 }

@@ -1,5 +1,6 @@
 // From polynomial/mod.rs: monomials and ratios as words in byte slices.
-// Kind 1 is a monomial, kind 2 a ratio, whose powers are held with 32,768 added.
+// Kind 1 is a monomial, kind 2 a ratio, whose powers are held with 32,768 added. Here and above they are slices, parts of an image or of a
+// call list, as the interface of the index asks: what a function needs to know of one is a clause, and not in a type.
 #![tactic(auto)]
 
 pub mod ordered_ops;
