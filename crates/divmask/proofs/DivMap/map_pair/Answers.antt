@@ -15,22 +15,25 @@ item c = item-read (starts-wide c.requires) _ _ _ _ _ (ap words_left c.into_iter
 pub loop-w-init : goal.loop-w-init
 loop-w-init c = adding (words c.args.self.now.maxima.now) c.args.self.now.lent.few (first-canonical (omega arith) c.requires)
 
-pub bits_at-masks-requires : goal.bits_at-masks-requires
-bits_at-masks-requires c =
-    let e = item (goal.at.bits_at-masks-requires c).In-Some in
+pub bits_in-masks-requires : goal.bits_in-masks-requires
+bits_in-masks-requires c =
+    let e = item (goal.at.bits_in-masks-requires c).In-Some in
     let m = more c.loop-w.invariant e.0 e.1 0 in
-    (omega (arith, c.id.ensures, m.known), (omega (arith, c.power.ensures, m.from), omega (arith, c.power.ensures, m.to)))
+    record {
+      shared = (refl, refl);
+      known = (omega (arith, c.id.ensures, m.known), (omega (arith, c.power.ensures, m.from), omega (arith, c.power.ensures, m.to)));
+    }
 
 pub overflow_add-masks : goal.overflow_add-masks
 overflow_add-masks c =
     let e = item (goal.at.overflow_add-masks c).In-Some in
-    omega (arith, (more c.loop-w.invariant e.0 e.1 c.bits_at-masks.result).fits (rw (c.id.ensures, c.power.ensures) at c.bits_at-masks.ensures))
+    omega (arith, (more c.loop-w.invariant e.0 e.1 c.bits_in-masks.result).fits (rw (c.id.ensures, c.power.ensures) at c.bits_in-masks.ensures))
 
 pub loop-w-preserved : goal.loop-w-preserved
 loop-w-preserved c =
     let e = item (goal.at.loop-w-preserved c).In-Some in
     rw (length-append c.loop-w.yielded (c.in-Some.w ∷ []))
-    ((more c.loop-w.invariant e.0 e.1 c.bits_at-masks.result).rest (rw (c.id.ensures, c.power.ensures) at c.bits_at-masks.ensures))
+    ((more c.loop-w.invariant e.0 e.1 c.bits_in-masks.result).rest (rw (c.id.ensures, c.power.ensures) at c.bits_in-masks.ensures))
 
 pub returns : goal.returns
 returns c =
