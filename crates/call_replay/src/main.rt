@@ -8,6 +8,7 @@
 
 ghost use Rattle.std.specs.Prelude.{◌<◌, IfSome, length};
 
+use divisor_index::Opening;
 use program_io::{split_off_word, word_at};
 use std::alloc::{AllocError, Global};
 use std::io;
@@ -35,11 +36,8 @@ const HEAD: usize = 24;
 
 #[derive(Clone, Copy)]
 struct Job<'a> {
-    kind: u32,
-    variables: u32,
-    capacity: u32,
+    opening: Opening<'a>,
     checksum: u32,
-    maxima: &'a [u8],
     lists: &'a [u8],
 }
 
@@ -51,35 +49,27 @@ impl<'a> Job<'a> {
         let capacity = split_off_word(&mut rest)?;
         let checksum = split_off_word(&mut rest)?;
         let (maxima, lists) = rest.split_at_checked(4 * variables as usize)?;
-        Some(Job {
+        let opening = Opening {
             kind,
             variables,
             capacity,
-            checksum,
             maxima,
+        };
+        Some(Job {
+            opening,
+            checksum,
             lists,
         })
     }
 
     // The index just opened, none where that is refused.
     fn opened(&self, alloc: Global) -> Result<Option<Vec<u8>>, AllocError> {
-        let Job {
-            kind,
-            variables,
-            capacity,
-            maxima,
-            ..
-        } = *self;
-        let n = divisor_index::divisor_index_length(kind, variables, capacity, maxima);
-        let mut image = vec![in alloc; 0; n as usize]?;
-        let number = divisor_index::divisor_index_open(
-            kind,
-            variables,
-            capacity,
-            maxima,
-            image.as_mut_slice(),
-        );
-        Ok(if number == 0 { Some(image) } else { None })
+        let Ok(n) = self.opening.length() else {
+            return Ok(None);
+        };
+        let mut image = vec![in alloc; 0; n]?;
+        let opened = self.opening.open(image.as_mut_slice());
+        Ok(if opened.is_ok() { Some(image) } else { None })
     }
 }
 
@@ -126,7 +116,7 @@ impl Tally {
     fn list(&mut self, alloc: Global, image: &mut [u8], list: &List<'_>) -> Result<(), AllocError> {
         let mut answers = vec![in alloc; 0; list.answers.len()]?;
         let calls = list.answers.len() / 4;
-        if divisor_index::divisor_index_run(image, list.calls, answers.as_mut_slice()) != 0 {
+        if divisor_index::run(image, list.calls, answers.as_mut_slice()).is_err() {
             self.count(calls, 1);
             return Ok(());
         }

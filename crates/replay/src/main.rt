@@ -24,9 +24,9 @@ fn replay(rt: &impl Print, image: &mut [u8], list: &[u8]) -> io::Result<()>
     requires { length list.now ≤ 16384 }
 {
     let mut answers = [0u8; 16384];
-    let r = divisor_index::divisor_index_run(image, list, &mut answers);
-    if r != 0 {
-        return line(rt, 0x50000000 + u64::from(r));
+    if let Err(e) = divisor_index::run(image, list, &mut answers) {
+        let word = words::refusal_word(refusals::number(e));
+        return line(rt, u64::from(word));
     }
     let n = 4 * call_list::count(list);
     lines(rt, &answers[..n])

@@ -74,8 +74,8 @@ pub fn read(list: &[u8]) -> (Monomial, Monomial) {
         let word = words::get(word, 0);
         let power = words::power(word);
         let powers = match words::kind(word) {
-            1 => (power, 0),
-            2 => (power.saturating_sub(32768), 32768u32.saturating_sub(power)),
+            words::VARIABLE => (power, 0),
+            words::RATIO => (power.saturating_sub(32768), 32768u32.saturating_sub(power)),
             _ => continue,
         };
         if let Some(i) = 3u32.checked_sub(words::id(word)) {

@@ -1,6 +1,6 @@
 // Judges the deepest tree that an image can hold, a chain of 4,096 levels. A program cannot limit its stack, so its own frames use up most
-// of the 8 MiB that it has by default. What they leave has to do for either compiler: as LLVM builds it a level takes 163 bytes, as Rattle's
-// own compiler does 520. `.ci/run` runs LLVM's build, which the archive for C is of, once more on less stack, which leaves it 1,088 KiB:
+// of the 8 MiB that it has by default. What they leave has to do for either compiler: as LLVM builds it a level takes 128 bytes, as Rattle's
+// own compiler does some 450. `.ci/run` runs LLVM's build, which the archive for C is of, once more on less stack, which leaves it 1,088 KiB:
 // the C header promises that 1 MiB suffices.
 //
 // Standard input is the image of a full index of one variable (rust/make-replay).
