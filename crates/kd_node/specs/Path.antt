@@ -1,4 +1,4 @@
--- The sides of a branch that a search visits, by what the code says. Assumes nothing.
+-- Which sides of a branch a search visits on each path. Assumes nothing.
 use Rattle.std.specs.Prelude.{Bool, true, false}
 use Rattle.kd_node.specs.declared.SearchPath.{SearchPath}
 use Rattle.kd_node.specs.declared.SearchPath.TheVariants.{Neither, Less, Other, Both}

@@ -1,4 +1,5 @@
-// From monomial_index.rs: the calls of a monomial index.
+// From monomial_index.rs: the calls of a monomial index. A call writes the image, so it takes its bytes and its numbers: a struct over `&mut`
+// bytes would owe what it knows again after each word.
 #![tactic(auto)]
 
 ghost use Rattle.std.specs.Prelude.{◌≡◌, Ok, ◌%◌, ◌≤◌, length};

@@ -1,4 +1,5 @@
-// From ratio_monomial_index.rs: the calls of a ratio index.
+// From ratio_monomial_index.rs: the calls of a ratio index. As in `monomial_index` a call takes bytes and numbers. The searches differ in the
+// query that they pose, and what they share is a line each: a function of them all, which takes that as a closure, would be no plainer.
 #![tactic(auto)]
 
 ghost use Rattle.std.specs.Prelude.{◌≡◌, Ok, IfSome, MatchOption, ◌+◌, ◌%◌, ◌≤◌, ◌<◌, length};
