@@ -32,13 +32,14 @@ pub fn clear(s: &mut [u8], at: usize, n: usize)
     s[4 * at..4 * (at + n)].fill(0);
 }
 
-// Writes the words of row from word `at` on.
+// Writes the words of row from word `at` on, one by one: `copy_from_slice` calls `memmove`, which the archive for C would want from outside.
 pub fn paste(s: &mut [u8], at: usize, row: &[u8])
     requires { 4 * at + length row.now ≤ length s.old }
     ensures { s.new ≡ paste_w s.old at (words row.now) }
 {
-    let n = 4 * (row.len() / 4);
-    s[4 * at..4 * at + n].copy_from_slice(&row[..n]);
+    for i in 0..row.len() / 4 {
+        crate::put(s, at + i, crate::get(row, i));
+    }
 }
 
 // Moves the words from `at` up to `end` up by `by` words.
