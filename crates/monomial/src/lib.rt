@@ -156,12 +156,15 @@ pub fn find_power(m: &[u8], kind: Kind, v: u32) -> Power
     ensures { result ≡ find (number kind) (first (number kind) (words m.now)) v }
 {
     let upper = 4096 * kind.number() + v;
-    for w in variables::variables_of(m) {
+    // Not over `variables_of`: it would ask each word whether it is the end too, and a split looks through all entries for each variable. One
+    // test leaves the loop, so that a word passed costs no second one.
+    for i in 0..m.len() / 4 {
+        let w = words::get(m, i);
         let u = words::upper_half(w);
-        if u < upper {
-            return Power::Absent;
-        }
-        if u == upper {
+        if u <= upper {
+            if u < upper {
+                return Power::Absent;
+            }
             return Power::Found(words::power(w));
         }
     }
