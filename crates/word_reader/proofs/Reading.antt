@@ -62,15 +62,20 @@ read-call W i h =
     let back : drop (call_end W i) W ≡ drop k (drop (i + 1) W) = ap (λ j. drop j W) (end-of-call W i h) ∙ sym (drop-drop k (i + 1) W) in
     rw (back, read-behind (drop (i + 1) W)) (read-first W i h)
 
--- the same by the bytes R behind the call's first word and its body b
-pub read-next : (bs R b : List ℕ) (i n : ℕ) → i < length bs / 4 → R ≡ drop (4 * (i + 1)) bs → n ≡ payload (get_or (words bs) i 0) → Body R b
-    → read (drop i (words bs)) ≡ record { number = n; body = words b } ∷ read (drop (i + 1 + length b / 4) (words bs))
-read-next bs R b i n h eR en B =
+-- the place behind a call, by the bytes R behind its first word and its body b
+pub place-next : (bs R b : List ℕ) (i : ℕ) → i < length bs / 4 → R ≡ drop (4 * (i + 1)) bs → Body R b → i + 1 + length b / 4 ≡ call_end (words bs) i
+place-next bs R b i h eR B =
     let k = length (body_of (words R)) in
     let most : 4 * k ≤ length R = omega (arith, body-most (words R), length-words R) in
     let back : words R ≡ drop (i + 1) (words bs) = rw eR (words-drop bs (i + 1)) in
     let l : i < length (words bs) = omega (arith, length-words bs) in
     let long : length b / 4 ≡ length (body_of (drop (i + 1) (words bs))) =
     omega (arith, ap length B.front, length-take (4 * k) R, ap (λ W. length (body_of W)) back) in
-    let past : i + 1 + length b / 4 ≡ call_end (words bs) i = rw long (sym (end-of-call (words bs) i l)) in
-    rw (past, en, B.words-are, back) (read-call (words bs) i l)
+    rw long (sym (end-of-call (words bs) i l))
+
+-- what is read there, and what is left
+pub read-next : (bs R b : List ℕ) (i n : ℕ) → i < length bs / 4 → R ≡ drop (4 * (i + 1)) bs → n ≡ payload (get_or (words bs) i 0) → Body R b
+    → read (drop i (words bs)) ≡ record { number = n; body = words b } ∷ read (drop (i + 1 + length b / 4) (words bs))
+read-next bs R b i n h eR en B =
+    let back : words R ≡ drop (i + 1) (words bs) = rw eR (words-drop bs (i + 1)) in
+    rw (place-next bs R b i h eR B, en, B.words-are, back) (read-call (words bs) i (omega (arith, length-words bs)))

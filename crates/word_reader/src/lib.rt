@@ -2,14 +2,13 @@
 #![tactic(auto)]
 
 ghost use Rattle.std.specs.Prelude.{◌≡◌};
-ghost use Rattle.std.specs.Iterator.{YieldsFirstBy, item_count};
-ghost use Rattle.call_list.specs.Bodies.{call_of};
-ghost use Rattle.word_reader.specs.Reading.{calls_left};
+ghost use Rattle.std.specs.Iterator.{item_count};
+ghost use Rattle.word_reader.specs.Reading.{calls_left, Reads};
 
 use call_list::Call;
 
 // A list, and the word of it at which the next call begins.
-#[derive(Drop)]
+#[derive(Clone, Copy)]
 pub struct Reader<'a> {
     pub list: &'a [u8],
     pub at: usize,
@@ -27,7 +26,7 @@ impl<'a> Reader<'a> {
 impl<'a> Iterator for Reader<'a> {
     type Item = Call<'a>;
 
-    ghost next_gives = { YieldsFirstBy call_of calls_left };
+    ghost next_gives = { Reads };
 
     ghost remaining = { item_count calls_left };
 

@@ -29,15 +29,15 @@ call-reply-requires c = record { sound = running-sound _ _ _ c.requires.sound _ 
 pub put-requires : goal.put-requires
 put-requires c =
     let step = c.in-Some.ensures.steps in
-    omega (arith, step.1, room-for-one _ _ _ c.requires.sound _ _ _ _ c.loop-i.invariant.2 _ _ step.0 c.requires.list_in_bounds)
+    omega (arith, step.1, room-for-one _ _ _ c.requires.sound _ _ _ _ c.loop-i.invariant.2 _ _ step.0.0 c.requires.list_in_bounds)
 
 pub loop-i-preserved : goal.loop-i-preserved
 loop-i-preserved c =
     let step = c.in-Some.ensures.steps in
-    let room = room-for-one _ _ _ c.requires.sound _ _ _ _ c.loop-i.invariant.2 _ _ step.0 c.requires.list_in_bounds in
+    let room = room-for-one _ _ _ c.requires.sound _ _ _ _ c.loop-i.invariant.2 _ _ step.0.0 c.requires.list_in_bounds in
     let word = put_behind c.loop-i.out _ c.in-Some.i _ _ (omega (arith, step.1, room)) refl c.put.ensures ∙ rw (step.1, c.word.ensures) in
-    let ran = running-next _ _ _ c.requires.sound _ _ _ _ c.loop-i.invariant.2 _ _ step.0 c.requires.list_in_bounds _ _ _ c.call-reply.ensures word c.call-reply.auto.image in
+    let ran = running-next _ _ _ c.requires.sound _ _ _ _ c.loop-i.invariant.2 _ _ step.0.0 c.requires.list_in_bounds _ _ _ c.call-reply.ensures word c.call-reply.auto.image in
     (c.in-Some.ensures.goes.keeps, tt, rw step.2 ran, c.call-reply.auto.q ∙ c.loop-i.invariant.3)
 
 pub returns : goal.returns
-returns c = running-all _ _ _ c.requires.sound _ _ _ _ c.loop-i.invariant.2 c.in-None.ensures.steps.0.0
+returns c = running-all _ _ _ c.requires.sound _ _ _ _ c.loop-i.invariant.2 c.in-None.ensures.steps.0.0.0
