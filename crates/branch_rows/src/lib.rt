@@ -15,14 +15,21 @@ use index_image::{Shape, fields, stored};
 use monomial::Kind;
 use std::ops::Range;
 
+// The labels of a side, from `start` up to `end`. A `Range` can't be copied, as the bounds of a branch can.
+#[derive(Clone, Copy)]
+pub struct Labels {
+    pub start: u64,
+    pub end: u64,
+}
+
 // The bounds of a branch's sides: on the less side variable `variable` is below `power` and labels are among `less`,
 // on the other side labels are among `other`.
-#[derive(Clone, Drop)]
+#[derive(Clone, Copy)]
 pub struct Limits {
     pub variable: usize,
     pub power: u32,
-    pub less: Range<u64>,
-    pub other: Range<u64>,
+    pub less: Labels,
+    pub other: Labels,
 }
 
 // Whether the row at word `at` has a branch's dimension and key, and entries for two sides. It takes bytes and numbers, and no `Image`, which would
@@ -59,16 +66,26 @@ pub fn sides(image: &ReadyImage<'_>, hi: &[u8], labels: Range<u64>, at: usize) -
         return Limits {
             variable: 0,
             power: words::get(hi, 0),
-            less: labels.start..l.min(labels.end),
-            other: l.max(labels.start)..labels.end,
+            less: Labels {
+                start: labels.start,
+                end: l.min(labels.end),
+            },
+            other: Labels {
+                start: l.max(labels.start),
+                end: labels.end,
+            },
         };
     }
     let v = tag - 1 - kind;
+    let all = Labels {
+        start: labels.start,
+        end: labels.end,
+    };
     Limits {
         variable: v,
         power: key.min(words::get(hi, v)),
-        less: labels.start..labels.end,
-        other: labels,
+        less: all,
+        other: all,
     }
 }
 

@@ -98,7 +98,7 @@ pub fn walk(
     }
     let b = branch_rows::sides(image, hi, labels, at);
     let old = exchange(hi, b.variable, b.power);
-    let less = walk(image, hi, b.less, k + 1, lo, c - 1);
+    let less = walk(image, hi, b.less.start..b.less.end, k + 1, lo, c - 1);
     words::put(hi, b.variable, old);
     let t = less?;
     let ca = count_behind(image, k, at);
@@ -107,7 +107,14 @@ pub fn walk(
     }
     // read again, so that it need not be kept while the less side is walked
     let all = count_at(image, k);
-    let w = walk(image, hi, b.other, k + 1 + t, lo + ca, all - ca)?;
+    let w = walk(
+        image,
+        hi,
+        b.other.start..b.other.end,
+        k + 1 + t,
+        lo + ca,
+        all - ca,
+    )?;
     if over_ok(image, k, t) {
         return Some(1 + t + w);
     }
