@@ -34,6 +34,11 @@ const MODES: [&str; 14] = [
 // The bytes of a record's first six words.
 const HEAD: usize = 24;
 
+// The most bytes of an image, and of the answers of a list, that are replayed: a record with more is a difference.
+const IMAGE: usize = 262144;
+
+const ANSWERS: usize = 16384;
+
 #[derive(Clone, Copy)]
 struct Job<'a> {
     opening: Opening<'a>,
@@ -62,11 +67,14 @@ impl<'a> Job<'a> {
         })
     }
 
-    // The index just opened, none where that is refused.
+    // The index just opened, none where that is refused or its image is too long.
     fn opened(&self, alloc: Global) -> Result<Option<Vec<u8>>, AllocError> {
         let Ok(n) = self.opening.length() else {
             return Ok(None);
         };
+        if IMAGE < n {
+            return Ok(None);
+        }
         let mut image = vec![in alloc; 0; n]?;
         let opened = self.opening.open(image.as_mut_slice());
         Ok(if opened.is_ok() { Some(image) } else { None })
@@ -112,10 +120,14 @@ impl Tally {
         self.differences = self.differences.saturating_add(differences);
     }
 
-    // Lends the list to the index: its answers that differ, or one difference where it is refused whole. A call has one answer.
+    // Lends the list to the index: its answers that differ, or one difference where it is refused whole or has too many. A call has one answer.
     fn list(&mut self, alloc: Global, image: &mut [u8], list: &List<'_>) -> Result<(), AllocError> {
-        let mut answers = vec![in alloc; 0; list.answers.len()]?;
         let calls = list.answers.len() / 4;
+        if ANSWERS < list.answers.len() {
+            self.count(calls, 1);
+            return Ok(());
+        }
+        let mut answers = vec![in alloc; 0; list.answers.len()]?;
         if divisor_index::run(image, list.calls, answers.as_mut_slice()).is_err() {
             self.count(calls, 1);
             return Ok(());

@@ -105,18 +105,20 @@ fn listing(rt: &impl Print, name: &str, image: &[u8], room: usize) -> io::Result
     show(rt, name, number, &out, &[0, 1, 2, 3, 4, 5])
 }
 
-// Opens an index of 2 variables and capacity 100, and runs the list.
-fn held(alloc: Global, kind: u32, list: &[u32]) -> Result<Vec<u8>, AllocError> {
-    let mut image = vec![in alloc; 0; 16384]?;
+// Opens an index of 2 variables and capacity 100 over what the image holds, and runs the list.
+fn hold(alloc: Global, image: &mut [u8], kind: u32, list: &[u32]) -> Result<(), AllocError> {
     let mut answers = vec![in alloc; 0; 16384]?;
     let maxima = ones(alloc, 8)?;
     let list = program_io::bytes_of(alloc, list)?;
-    divisor_index::divisor_index_open(kind, 2, 100, maxima.as_slice(), image.as_mut_slice());
-    divisor_index::divisor_index_run(
-        image.as_mut_slice(),
-        list.as_slice(),
-        answers.as_mut_slice(),
-    );
+    divisor_index::divisor_index_open(kind, 2, 100, maxima.as_slice(), image);
+    divisor_index::divisor_index_run(image, list.as_slice(), answers.as_mut_slice());
+    Ok(())
+}
+
+// A monomial index that holds what the list inserts.
+fn held(alloc: Global, list: &[u32]) -> Result<Vec<u8>, AllocError> {
+    let mut image = vec![in alloc; 0; 16384]?;
+    hold(alloc, image.as_mut_slice(), 0, list)?;
     Ok(image)
 }
 
@@ -130,24 +132,20 @@ fn two(rt: &impl Print, alloc: Global) -> io::Result<()> {
         words::call_word(0),
         words::end_word(0),
     ];
-    let image = held(alloc, 0, &list)?;
+    let image = held(alloc, &list)?;
     listing(rt, "listing of x1^2 x0 and 1", image.as_slice(), 2048)?;
     listing(rt, "listing, room for it", image.as_slice(), 16)?;
     listing(rt, "listing, a byte short", image.as_slice(), 15)
 }
 
 fn refused(rt: &impl Print, alloc: Global) -> io::Result<()> {
-    listing(rt, "listing of no image", &[], 0)?;
-    let monomials = held(alloc, 0, &[])?;
-    listing(rt, "listing of nothing", monomials.as_slice(), 0)?;
-    let ratios = held(alloc, 1, &[])?;
-    listing(rt, "listing of a ratio index", ratios.as_slice(), 2048)?;
-    listing(
-        rt,
-        "listing of a ratio index, no room",
-        ratios.as_slice(),
-        0,
-    )
+    let mut image = vec![in alloc; 0; 16384]?;
+    listing(rt, "listing of no image", image.as_slice(), 0)?;
+    hold(alloc, image.as_mut_slice(), 0, &[])?;
+    listing(rt, "listing of nothing", image.as_slice(), 0)?;
+    hold(alloc, image.as_mut_slice(), 1, &[])?;
+    listing(rt, "listing of a ratio index", image.as_slice(), 2048)?;
+    listing(rt, "listing of a ratio index, no room", image.as_slice(), 0)
 }
 
 // 65 inserts with powers of x0 that fall from 65 to 1, and whether one is contained.
@@ -164,7 +162,7 @@ fn falling_powers(alloc: Global) -> Result<Vec<u32>, AllocError> {
 // Split at 33, they are listed from 32 to 1, the less side, and then from 65 to 33.
 fn split(rt: &impl Print, alloc: Global) -> io::Result<()> {
     let list = falling_powers(alloc)?;
-    let image = held(alloc, 0, list.as_slice())?;
+    let image = held(alloc, list.as_slice())?;
     let mut out = [0xEE; 2048];
     let number = divisor_index::divisor_index_list(image.as_slice(), &mut out);
     let places = [0, 1, 62, 63, 64, 65, 128, 129, 130];

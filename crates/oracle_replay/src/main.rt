@@ -142,6 +142,10 @@ impl<'a> Vector<'a> {
         if !self.served(operation, &mut out[..room]) {
             return false;
         }
+        // It is lent no buffer, so what stands behind its operands is not looked at.
+        if matches!(operation, Operation::MaskDivides) {
+            return true;
+        }
         match out.split_at_checked(self.after.len()) {
             Some((front, behind)) => front == self.after && behind.iter().all(|b| *b == 0xEE),
             None => false,

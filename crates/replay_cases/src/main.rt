@@ -2,6 +2,8 @@
 // or the refusal of the whole list, and the image's number of nodes.
 #![tactic(auto)]
 
+ghost use Rattle.std.specs.Prelude.{◌≤◌, ◌/◌, length};
+
 use index_image::fields;
 use std::alloc::{AllocError, Global};
 use std::io;
@@ -57,7 +59,9 @@ fn opened(alloc: Global, kind: Kind, variables: u32) -> Result<Vec<u8>, AllocErr
 }
 
 // How many answers were written: none is 0, and behind them the buffer is as it was.
-fn written(answers: &[u8]) -> usize {
+fn written(answers: &[u8]) -> usize
+    ensures { result ≤ length answers.now / 4 }
+{
     let n = answers.len() / 4;
     (0..n)
         .position(|i| program_io::word_at(answers, i) == Some(0))

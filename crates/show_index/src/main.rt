@@ -6,6 +6,8 @@ mod calls;
 mod image;
 mod monomials;
 
+ghost use Rattle.std.specs.Prelude.{◌≡◌, IfOk, length};
+
 use calls::{Answer, Call, Powers, Question};
 use image::Image;
 use std::alloc::{AllocError, Global};
@@ -82,7 +84,9 @@ fn linkage(rt: &impl Print, alloc: Global) -> io::Result<()> {
 }
 
 // 240 inserts: their leading monomials fill a box of 5 by 6 by 8.
-fn many_inserts(alloc: Global) -> Result<Vec<Call>, AllocError> {
+fn many_inserts(alloc: Global) -> Result<Vec<Call>, AllocError>
+    ensures { IfOk result (λ calls. length calls.items ≡ 240) }
+{
     let mut calls = Vec::new(alloc);
     for i in 0..240 {
         let signature = [i % 7, 0, 0, 0];
