@@ -160,7 +160,7 @@ body-most (w ∷ ws) = go (eqb (kind w) 6) (body-most ws)
     go true h = omega arith
     go false h = omega arith
 
-body-take : (ws : List ℕ) (n : ℕ) → n ≤ length (body_of ws) → take n (body_of ws) ≡ take n ws
+pub body-take : (ws : List ℕ) (n : ℕ) → n ≤ length (body_of ws) → take n (body_of ws) ≡ take n ws
 unfolding body_of
 body-take ws zero h = refl
 body-take [] (suc n) h = refl

@@ -64,7 +64,7 @@ pub bit-small : (t : Bool) (n : ℕ) → n ≡ bool_byte t → n < 268435456
 bit-small true n e = omega (arith, e)
 bit-small false n e = omega (arith, e)
 
-found-is : (st : State) → Valid st → (place : Option ℕ) → IfSome place (λ e. e < length st.entries) → (n : ℕ) → MatchOption place (n ≡ 0) (λ e. n ≡ e + 1)
+pub found-is : (st : State) → Valid st → (place : Option ℕ) → IfSome place (λ e. e < length st.entries) → (n : ℕ) → MatchOption place (n ≡ 0) (λ e. n ≡ e + 1)
     → answer_word n ≡ found st.entries (theory_option place)
 unfolding found
 found-is st v None h n q = ap answer_word q

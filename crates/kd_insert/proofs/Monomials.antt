@@ -183,10 +183,11 @@ module _ {bs : List ℕ} (B : Bytes bs) {st : State} (I : Is st bs) {lm : List �
   not-one : {A : Type 0} → s.kind ≡ 1 → A
   not-one z = absurd (omega (arith, ap code k))
 
-  abbrev hangs2 : Hangs (words im2) (shape_of st) lm 0
+  pub hangs2 : Hangs (words im2) (shape_of st) lm 0
   hangs2 = hangs I good ofk few made map2 nodes2 perm2 long2 0 not-one (λ z. not-one z) (λ z. not-one z)
 
   pub finish2 : (d : List ℕ) → ((h : Hangs (words im2) (shape_of st) lm 0) → d ≡ hung im2 (shape_of st) lm 0 h.growth) → d ≡ paste_w bs 0 (encode (inserted st (plain lm)))
+  unfolding hangs2
   finish2 d f = finish I good ofk few made map2 nodes2 perm2 long2 0 not-one (λ z. not-one z) (λ z. not-one z) d (f hangs2)
 
 -- ---- the same for the shape in the header

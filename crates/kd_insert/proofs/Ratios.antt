@@ -315,10 +315,11 @@ module _ {bs : List ℕ} (B : Bytes bs) {st : State} (I : Is st bs) {i : ℕ} {s
         rw (entry_old es (numbered n e) x h, row_here)
         (label-of l' settles.valid (ratio_of (entry_at es x)) o.0 z.0 (z.1 ∙ o.2) ∙ sym (label-at im2 s b.mapped.range room2 C.one l' maps2 o.0 z.0))
 
-  abbrev ratio-hangs : Hangs (words im2) (shape_of st) lm lab
+  pub ratio-hangs : Hangs (words im2) (shape_of st) lm lab
   ratio-hangs = hangs I good ofk few made map2 nodes2 perm2 long2 lab lab2 (λ z. labels2) (λ z. rows2)
 
   pub ratio-finish : (d : List ℕ) → ((h : Hangs (words im2) (shape_of st) lm lab) → d ≡ hung im2 (shape_of st) lm lab h.growth) → d ≡ paste_w bs 0 (encode (inserted st (signed i sign lm)))
+  unfolding ratio-hangs
   ratio-finish d f =
       finish I good ofk few made map2 nodes2 perm2 long2 lab lab2 (λ z. labels2) (λ z. rows2) d (f ratio-hangs)
 

@@ -332,7 +332,7 @@ module _ (bs qs ms : List ℕ) (s : Shape) (K : Known bs ms s (words qs)) where
     abbrev S : SlotIs K.state (words bs) s (by_lm K.request) e
     S = my-slot K.state K.request ms s (words qs) (words bs) K.asks K.holds e h
 
-    tested_at : Tested bs qs s e
+    pub tested_at : Tested bs qs s e
     tested_at =
         let Q = words qs in
         let sw = slot-word K.state K.request ms s Q (words bs) K.asks K.holds e h in

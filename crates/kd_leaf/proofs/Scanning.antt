@@ -125,11 +125,11 @@ module _ (bs ms : List ℕ) (s : Shape) (Q : List ℕ) (e found : ℕ) (he : e <
     not-largest : (st : State) (r : Query) → Asks st r ms s Q → 2 ≤ search_of r → search_of r ≤ 3 → ⊥
     not-largest st r a x y = l (omega (arith, a.search)) (omega (arith, a.search))
 
-    counted-miss : hit ≡ false → Made bs ms s Q e found found true
+    pub counted-miss : hit ≡ false → Made bs ms s Q e found found true
     unfolding Made
     counted-miss f st r a h = step-miss st r ms s Q (words bs) a h e he found hit (counted_is st r ms s Q (words bs) a h e he (home st r a n) found (not-largest st r a) ∙ sym t) f
 
-    counted_stop : (search_in Q ≡ 1 → ⊥) → hit ≡ true → Made bs ms s Q e found (e + 1) false
+    pub counted_stop : (search_in Q ≡ 1 → ⊥) → hit ≡ true → Made bs ms s Q e found (e + 1) false
     unfolding Made
     counted_stop o f st r a h =
         step-hit st r ms s Q (words bs) a h e he found hit false (counted_is st r ms s Q (words bs) a h e he (home st r a n) found (not-largest st r a) ∙ sym t) f

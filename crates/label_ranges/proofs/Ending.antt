@@ -47,7 +47,7 @@ module _ (l : map.State) (val : map.Valid l) (v : map.Value) where
   abbrev label_at : ℕ → ℕ
   label_at p = map.label l.rows (get_or (sorted map.cmp (map.value l.rows) (length l.rows)) p 0)
 
-  known-ends : (p x up : ℕ) → Ok p ≡ map.place l.rows v → x ≡ map.label l.rows (get_or (sorted map.cmp (map.value l.rows) (length l.rows)) p 0)
+  pub known-ends : (p x up : ℕ) → Ok p ≡ map.place l.rows v → x ≡ map.label l.rows (get_or (sorted map.cmp (map.value l.rows) (length l.rows)) p 0)
       → up ≡ x + 1 → Ends l v up x
   unfolding above
   known-ends p x up q ex eu = record {
@@ -57,7 +57,7 @@ module _ (l : map.State) (val : map.Valid l) (v : map.Value) where
         (label_at p) ∙ rw (← ex) refl;
   }
 
-  new-ends : (p x : ℕ) → Err p ≡ map.place l.rows v → p < length l.rows
+  pub new-ends : (p x : ℕ) → Err p ≡ map.place l.rows v → p < length l.rows
       → x ≡ map.label l.rows (get_or (sorted map.cmp (map.value l.rows) (length l.rows)) p 0) → Ends l v x x
   new-ends p x q s ex = record { up_is = λ i h. up i h; down_is = λ i h. down i h }
     where
@@ -75,7 +75,7 @@ module _ (l : map.State) (val : map.Valid l) (v : map.Value) where
           let w = map.value l.rows i in
           elim (dec_le x a) [ yes y ↦ less-not v w (c.1.1 (omega arith)) ∙ sym (le-ltb a x y) | no y ↦ less-flips w v (c.0.1 (omega arith)) ∙ sym (lt-ltb a x (omega arith)) ]
 
-  last-ends : (p : ℕ) → Err p ≡ map.place l.rows v → p ≡ length l.rows → Ends l v 4294967296 4294967296
+  pub last-ends : (p : ℕ) → Err p ≡ map.place l.rows v → p ≡ length l.rows → Ends l v 4294967296 4294967296
   last-ends p q e =
       let z : Err (length l.rows) ≡ map.place l.rows v = ap Err (sym e) ∙ q in
       record {

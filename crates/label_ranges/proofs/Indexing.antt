@@ -115,7 +115,7 @@ module _ (l : map.State) (val : map.Valid l) where
     behind : (i : ℕ) → i < length l.rows → p ≤ place i → x ≤ (map.value l.rows i).index
     behind i h k = omega (arith, P.from (place i) k (within i h), ap (λ (j : ℕ). (map.value l.rows j).index) (stands i h))
 
-    from-label : (r : ℕ) → p < length l.rows → r ≡ map.label l.rows (get_or (sorted map.cmp (map.value l.rows) (length l.rows)) p 0) → From l x r
+    pub from-label : (r : ℕ) → p < length l.rows → r ≡ map.label l.rows (get_or (sorted map.cmp (map.value l.rows) (length l.rows)) p 0) → From l x r
     unfolding row_of_rank
     from-label r s e = record { is = λ i h. go i h }
       where
@@ -139,7 +139,7 @@ module _ (l : map.State) (val : map.Valid l) where
               | no k ↦ rw (le-ltb (f i).index x (behind i h (omega arith))) (sym (le-leb r (map.label l.rows i) (least i h (omega arith))))
             ]
 
-    from-none : length l.rows ≤ p → From l x 4294967296
+    pub from-none : length l.rows ≤ p → From l x 4294967296
     from-none s = record {
       is = λ i h.
           rw (lt-ltb (f i).index x (before i h (omega (arith, within i h))))

@@ -31,7 +31,7 @@ module _ (bs : List ℕ) (st : State) (I : Is st bs) where
     rows = λ k e h. of.row_small bs st I (code-ratio st.kind k) e h;
   }
 
-  all_listed : lms (words bs) (shape_of st) (inorder st.tree) ≡ listing st
+  pub all_listed : lms (words bs) (shape_of st) (inorder st.tree) ≡ listing st
   all_listed =
       at-ext (lm_in (words bs) (shape_of st)) (λ e. (entry_at st.entries e).lm) (inorder st.tree)
       (λ i h. (of.entry-is bs st I _ (once-below (inorder st.tree) (length st.entries) I.valid.once _ (get_in (inorder st.tree) i h))).lm-is)

@@ -15,14 +15,18 @@ use Rattle.monomial_ordering.specs.Order.{total, revlex, grevlex, order}
 use Rattle.monomial.proofs.Powers.{pow-ids, canonical-unique}
 use Rattle.monomial_ordering.proofs.Orders.{Trichotomy, less, equal, greater, trichotomy, revlex-suc}
 
-revlex-total : (n : ℕ) → IsTotalOrder (revlex n)
+pub revlex-total : (n : ℕ) → IsTotalOrder (revlex n)
 unfolding revlex
 revlex-total zero = record { antisymm = λ p q. refl; trans = λ p q r e. absurd (let z : ◌≡◌ {A = ℕ} 0 1 = cc in omega arith); congr = λ p q r e. refl }
 revlex-total (suc n) = then_total (revlex-total n) (on_total (λ (p : ℕ → ℕ). p n) (back_total nat_cmp_total))
 
+pub grevlex-total : (n : ℕ) → IsTotalOrder (grevlex n)
+unfolding grevlex
+grevlex-total n = then_total (on_total (total n) nat_cmp_total) (revlex-total n)
+
 pub order-total : (k : ℕ) → IsTotalOrder (order k)
-unfolding order grevlex
-order-total k = on_total (pow k) (then_total (on_total (total 4096) nat_cmp_total) (revlex-total 4096))
+unfolding order
+order-total k = on_total (pow k) (grevlex-total 4096)
 
 both_equal : (c d : Ordering) → ordering_then c d ≡ Equal → (c ≡ Equal) × (d ≡ Equal)
 both_equal Less d e = absurd (let z : ◌≡◌ {A = ℕ} 0 1 = cc in omega arith)
