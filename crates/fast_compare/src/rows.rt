@@ -49,6 +49,6 @@ pub fn rises(map: &[u8], variables: usize, a: usize, s: Total, b: usize, t: Tota
 {
     let i = words::payload(words::get(map, b));
     let x = 4 * (b + 1);
-    compare_at(map, a, s, i, &map[x..], t).is_lt()
-        && words::get(map, a + (variables + 2)) < words::get(map, b + (variables + 2))
+    let below = compare_at(map, a, s, i, &map[x..], t).is_lt();
+    below && words::get(map, a + (variables + 2)) < words::get(map, b + (variables + 2))
 }

@@ -2,7 +2,7 @@
 use mathlib.Core.Path.{◌≡◌, refl, sym, ap, ◌∙◌}
 use mathlib.Core.Bool.{Bool, true, false, not, cond, ◌&&◌}
 use mathlib.Core.Option.{Option, none, some}
-use mathlib.Core.Logic.{∥∥₁_elim}
+use mathlib.Core.Logic.{◌⊎◌, inl, inr, ∥∥₁_elim}
 use Rattle.std.proofs.Props.{props}
 use mathlib.Core.List.{List, [], ◌∷◌}
 use Prim.Native.Nat.{ℕ, zero, suc, ◌+◌, ◌*◌, ◌/◌, ◌%◌, ◌≤◌, ◌<◌, max}
@@ -41,7 +41,9 @@ use Rattle.index_image.proofs.EntryWords.{no-ratio}
 use Rattle.kd_image.specs.HasTree.{Holds}
 use Rattle.kd_image.proofs.Reading.{entry-fits, entry-is, kind-one, ratios, label-of-entry, holds-ready, lm-of, mask-of}
 use Rattle.index_image.proofs.Asking.{rest-starts, rest-first}
-use Rattle.query_words.specs.Asked.{shape_in, search_in, mask_in, from_in, to_in, floor_in, slot_in, mask_at_in, option_of, search_of, label_at, slot_at, lowered, Asks}
+use Rattle.query_words.specs.Asked.{shape_in, search_in, mask_in, from_in, to_in, floor_in, slot_in, mask_at_in, option_of, search_number, search_of, label_at, slot_at, lowered, Asks}
+use Rattle.query_words.specs.declared.Search.{Search}
+use Rattle.query_words.specs.declared.Search.TheVariants.{High, Low}
 use Rattle.kd_leaf.specs.Visited.{Known, ReadyEntries}
 use Rattle.kd_leaf.specs.Counted.{may_at, divisor_at, counted, least_above}
 
@@ -430,3 +432,9 @@ module _ (bs qs ms : List ℕ) (s : Shape) (e : ℕ) (E : Facts bs qs ms s) (he 
   pub divides-read : (b : Bool) → b ≡ divides (first 1 (words (take k (drop (4 * p) bs)))) (first 1 (words ms)) → b ≡ divisor_at (words bs) s (words qs) (words ms) e
   unfolding divisor_at
   divides-read b d = d ∙ rw (rest-first bs s.variables p k h some-there, first-whole E.canonical, place_is) refl
+
+-- ---- the searches for the largest label
+pub of_the_largest : (s : Search) → (s ≡ High) ⊎ (s ≡ Low) → (2 ≤ search_number s) × (search_number s ≤ 3)
+unfolding search_number
+of_the_largest s (inl h) = rw h (omega arith, omega arith)
+of_the_largest s (inr l) = rw l (omega arith, omega arith)

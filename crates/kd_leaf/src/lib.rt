@@ -164,6 +164,7 @@ impl Asked<'_> {
     }
 
     // Visits the entries.
+    #[tactic(auto, using(crate::proofs::Counting::of_the_largest))]
     fn visit(&self, acc: u64) -> u64
         requires acc_value { (best_of acc ≤ (shape_in (words self.now.query.bytes.now)).entries) × (on_of acc ≡ true) }
         ensures { Visited self.now.image.now self.now.monomial.now (shape_in (words self.now.query.bytes.now)) (words self.now.query.bytes.now) self.now.lo self.now.c (best_of acc) (best_of result) (on_of result) × (rows_of result ≡ rows_of acc) }

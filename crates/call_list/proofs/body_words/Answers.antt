@@ -11,11 +11,11 @@ use Rattle.call_list.proofs.body_words.Goals as goal
 
 pub returns-then-is_call : goal.returns-then-is_call
 returns-then-is_call c =
-    omega (arith, c.loop-i.invariant, body-stops (words c.args.list.now) c.loop-i.i _ (omega (arith, length-words c.args.list.now, c.loop-i-test.true)) c.get.ensures c.if-is_call.ensures)
+    omega (arith, c.loop-i.invariant, body-stops (words c.args.list.now) c.loop-i.i _ (omega (arith, length-words c.args.list.now, c.loop-i-test.true)) (omega (arith, c.get.ensures)) c.if-is_call.ensures)
 
 pub loop-i-preserved : goal.loop-i-preserved
 loop-i-preserved c =
-    omega (arith, c.loop-i.invariant, body-goes (words c.args.list.now) c.loop-i.i _ (omega (arith, length-words c.args.list.now, c.loop-i-test.true)) c.get.ensures c.if-is_call.ensures)
+    omega (arith, c.loop-i.invariant, body-goes (words c.args.list.now) c.loop-i.i _ (omega (arith, length-words c.args.list.now, c.loop-i-test.true)) (omega (arith, c.get.ensures)) c.if-is_call.ensures)
 
 pub returns : goal.returns
 returns c =

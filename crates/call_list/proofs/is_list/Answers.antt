@@ -9,4 +9,4 @@ returns-then-list-eq0-2 c = (λ t. list-empty c.args.list.now c.if-list-eq0-2.tr
 
 pub returns-else-list-eq0-2 : goal.returns-else-list-eq0-2
 returns-else-list-eq0-2 c =
-    rw c.is_call.ensures (list-starts c.args.list.now c.get.result (omega (arith, c.if-list-eq0.true)) (λ z. omega (arith, c.if-list-eq0-2.false, z)) c.get.ensures)
+    rw c.is_call.ensures (list-starts c.args.list.now _ (omega (arith, c.if-list-eq0.true)) (λ z. omega (arith, c.if-list-eq0-2.false, z)) (omega (arith, c.get.ensures)))

@@ -3,6 +3,9 @@ use native.Mathlib.Omega.{arith}
 use Rattle.words.proofs.Answers.{failed, passed}
 use Rattle.index_walk.proofs.Walks.{Row, Tagged, Less, One, Two, no_row, too_many, no-leaf, a-leaf, no_key, no-first, one-is, no_less, no_second, no-branch, two_is, a-branch}
 use mathlib.Core.Path.{◌≡◌, refl, sym, ◌∙◌}
+use mathlib.Core.List.{List}
+use Rattle.std.specs.declared.option.Option.{Option}
+use Rattle.index_image.specs.declared.Shape.{Shape}
 use Rattle.words.specs.Words.{words}
 use Rattle.words.proofs.Laws.{Bytes}
 use Rattle.words.proofs.Tables.{never}
@@ -85,10 +88,13 @@ one c l = one-is c.args.image.now.ready l c.in_ok-t.was
 count_same : {t : ℕ} (c : After-count_at-all t) → c.count_at-all.result ≡ c.get-c.result
 count_same c = c.count_at-all.ensures ∙ sym (rw c.node_at-at.ensures at c.get-c.ensures)
 
+from-there : (W : List ℕ) (s : Shape) (H : List ℕ) (a b lh k lo n : ℕ) (r : Option ℕ) → Walked W s H a lh k lo n r → a ≡ b → Walked W s H b lh k lo n r
+from-there W s H a b lh k lo n r w e = rw e at w
+
 -- the other side was walked
 other : {t : ℕ} (c : After-walk t) → c.put.new.s ≡ c.args.hi.now
     → Walked (words c.args.image.now.bytes.now) c.args.image.now.shape (words c.args.hi.now) c.sides-b.result.other.start c.sides-b.result.other.end (c.args.k + 1 + c.in_ok-t.t) (c.args.lo + c.count_behind-ca.result) (c.get-c.result - c.count_behind-ca.result) c.walk.result
-other c k = rw k at (rw (c.count_at-all.ensures ∙ sym (rw c.node_at-at.ensures at c.get-c.ensures)) at c.walk.ensures.walked)
+other c k = from-there _ _ _ _ _ _ _ _ _ _ (rw k at (rw (c.count_at-all.ensures ∙ sym (rw c.node_at-at.ensures at c.get-c.ensures)) at c.walk.ensures.walked)) (omega arith)
 
 two : {t : ℕ} (c : In_ok-w t) (l : Less c.args.image.now.ready (words c.args.hi.now) c.args.labels.start c.args.labels.end c.args.k c.args.lo c.args.avail c.get-c.result c.get.result c.sides-b.result c.walk-less.result)
     (o : Walked (words c.args.image.now.bytes.now) c.args.image.now.shape (words c.args.hi.now) c.sides-b.result.other.start c.sides-b.result.other.end (c.args.k + 1 + c.in_ok-t.t) (c.args.lo + c.count_behind-ca.result) (c.get-c.result - c.count_behind-ca.result) c.walk.result)

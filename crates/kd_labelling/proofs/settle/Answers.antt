@@ -1,3 +1,4 @@
+use Rattle.std.proofs.Common.{rules}
 use Rattle.words.specs.Words.{words}
 use Rattle.fast_compare.specs.Map.{State, value_of, rebuild}
 use Rattle.fast_compare.specs.Layout.{Is}
@@ -7,7 +8,7 @@ use Rattle.kd_labelling.proofs.settle.Goals as goal
 
 -- no label was free
 no-label : (c : In-Err-NoLabel) (l : State) → Is l c.args.labels.now → Retried c.args.labels.now c.get_comparer.new.map l (value_of c.args.index (words c.args.ratio.now))
-no-label c l i = retried _ _ l _ c.get_comparer.result i c.requires.good (c.get_comparer.ensures l i) cc
+no-label c l i = retried _ _ l _ c.get_comparer.result i c.requires.good (c.get_comparer.ensures l i) (search rules)
 
 pub rebuild-requires : goal.rebuild-requires
 rebuild-requires c = let s = c.requires.sound in record { state = s.state; is = (no-label (goal.at.rebuild-requires c).In-Err-NoLabel s.state s.is).is }
@@ -26,7 +27,7 @@ returns-in-Err-NoLabel c = λ l i.
     n.done c.rebuild.new.map call.new.map call.result dealt (call.ensures (rebuild l) (n.again c.rebuild.new.map dealt).0)
 
 pub returns : goal.returns
-returns c = λ l i. first_done _ _ l _ c.get_comparer.result (c.get_comparer.ensures l i) (λ e. absurd cc)
+returns c = λ l i. first_done _ _ l _ c.get_comparer.result (c.get_comparer.ensures l i) (λ e. search rules)
 
 pub returns-2 : goal.returns-2
-returns-2 c = λ l i. first_done _ _ l _ c.get_comparer.result (c.get_comparer.ensures l i) (λ e. absurd cc)
+returns-2 c = λ l i. first_done _ _ l _ c.get_comparer.result (c.get_comparer.ensures l i) (λ e. search rules)

@@ -8,7 +8,8 @@ use Rattle.monomial_ordering.proofs.Orders.{compare-equal}
 use Rattle.words.specs.Words.{words}
 use Rattle.monomial_ordering.specs.Order.{order}
 use Rattle.monomial.specs.Monomial.{first}
-use Rattle.fast_compare.specs.Map.{value_of}
+use Rattle.std.proofs.Common.{rules}
+use Rattle.fast_compare.specs.Map.{value_of, cmp}
 use Rattle.fast_compare.specs.Layout.{value_at}
 use Rattle.fast_compare.proofs.Scans.{row_fits, total-lent, ratio-starts, ratio-first, cmp-index, cmp-ratio, value-index, value-ratio}
 use Rattle.fast_compare.proofs.rows.compare_at.Goals as goal
@@ -36,8 +37,9 @@ returns-in-Equal c = λ m s. let W = words c.args.map.now in
     let a = c.args.at in
     let q = value_of c.args.index (first 2 (words c.args.ratio.now)) in
     let i : c.payload-i.result ≡ c.args.index = ranked c.payload-i.result c.args.index Equal (sym c.in-Equal.is ∙ c.cmp.ensures) in
-    c.ord_by_totals.ensures ∙ rw (ratio-first c.args.map.now m (a + 1) s)
-    (ap (λ r. order 2 r q.ratio) (sym (value-ratio W m a)) ∙ cmp-ratio (value_at W m a) q (omega (arith, value-index W m a, c.get.ensures, c.payload-i.ensures)))
+    let o : c.ord_by_totals.result ≡ cmp (value_at W m a) q = c.ord_by_totals.ensures ∙ rw (ratio-first c.args.map.now m (a + 1) s)
+    (ap (λ r. order 2 r q.ratio) (sym (value-ratio W m a)) ∙ cmp-ratio (value_at W m a) q (omega (arith, value-index W m a, c.get.ensures, c.payload-i.ensures))) in
+    search rules
 
 pub returns-in_default : goal.returns-in_default
 returns-in_default c = λ m s. let v = value_at (words c.args.map.now) m c.args.at in

@@ -4,7 +4,8 @@ use Prim.Native.Nat.{ℕ, ◌+◌, ◌-◌, ◌*◌}
 use lib.ListN.{length, get_or, take, drop}
 use borrow.Author.Tests.{ltb-true, lt-ltb}
 use Rattle.words.specs.Kinds.{payload}
-use Rattle.std.specs.Ordering.{is_lt}
+use Rattle.std.specs.declared.cmp.Ordering.TheVariants.{Less}
+use Rattle.std.proofs.Common.{rules}
 use Rattle.words.specs.Words.{words}
 use Rattle.words.proofs.Tables.{never}
 use Rattle.monomial.specs.Monomial.{first}
@@ -34,17 +35,17 @@ compare_at-requires-clause-starts c = ratio-starts c.args.map.now c.args.variabl
 pub compare_at-requires-clause-total_of : goal.compare_at-requires-clause-total_of
 compare_at-requires-clause-total_of c = (total-lent c.args.map.now c.args.b c.args.t).0 c.requires.total_at_2
 
-pub returns-then-is_lt : goal.returns-then-is_lt
-returns-then-is_lt c = (
+pub returns-then-below : goal.returns-then-below
+returns-then-below c = (
   λ z. record {
-    values = sym (compared (goal.at.returns-then-is_lt c).After-compare_at) ∙ is-less c.compare_at.result (sym c.is_lt.ensures ∙ c.if-is_lt.true);
-    labels = omega (arith, ltb-true c.get-then-is_lt.result c.get-then-is_lt-2.result z, c.get-then-is_lt.ensures, c.get-then-is_lt-2.ensures);
+    values = sym (compared (goal.at.returns-then-below c).After-compare_at) ∙ is-less c.compare_at.result (search rules);
+    labels = omega (arith, ltb-true c.get-then-below.result c.get-then-below-2.result z, c.get-then-below.ensures, c.get-then-below-2.ensures);
   },
-  λ h. lt-ltb c.get-then-is_lt.result c.get-then-is_lt-2.result (omega (arith, h.labels, c.get-then-is_lt.ensures, c.get-then-is_lt-2.ensures)),
+  λ h. lt-ltb c.get-then-below.result c.get-then-below-2.result (omega (arith, h.labels, c.get-then-below.ensures, c.get-then-below-2.ensures)),
 )
 
-pub returns-else-is_lt : goal.returns-else-is_lt
-returns-else-is_lt c = (
-  λ z. never (sym c.if-is_lt.false ∙ z),
-  λ h. c.is_lt.ensures ∙ ap is_lt (compared (goal.at.returns-else-is_lt c).After-compare_at ∙ h.values),
+pub returns-else-below : goal.returns-else-below
+returns-else-below c = (
+  λ z. never (sym c.if-below.false ∙ z),
+  λ h. let less : c.compare_at.result ≡ Less = compared (goal.at.returns-else-below c).After-compare_at ∙ h.values in search rules,
 )

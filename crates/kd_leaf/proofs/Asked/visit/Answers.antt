@@ -1,5 +1,3 @@
-use native.Mathlib.Omega.{arith}
-use mathlib.Core.Logic.{inl, inr}
 use mathlib.Core.Path.{ap, ◌∙◌}
 use Rattle.query_words.specs.Asked.{search_number}
 use Rattle.kd_leaf.proofs.Counting.{facts}
@@ -19,10 +17,3 @@ reducer-requires-clause-searched c = c.search.ensures ∙ ap search_number c.in-
 pub singular-requires-clause-searched : goal.singular-requires-clause-searched
 unfolding search_number
 singular-requires-clause-searched c = c.search.ensures ∙ ap search_number c.in-Singular.is
-
-pub largest-requires-clause-searched : goal.largest-requires-clause-searched
-unfolding search_number
-largest-requires-clause-searched c = elim c.in-High.is [
-  | inl h ↦ let e = c.search.ensures ∙ ap search_number h in (omega (arith, e), omega (arith, e))
-  | inr l ↦ let e = c.search.ensures ∙ ap search_number l in (omega (arith, e), omega (arith, e))
-]
